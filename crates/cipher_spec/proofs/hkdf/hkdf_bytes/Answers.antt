@@ -1,0 +1,6 @@
+-- Each output block is an HMAC.
+use Rattle.cipher_spec.proofs.HkdfLemmas.{bytes-hkdf512}
+use Rattle.cipher_spec.proofs.hkdf.hkdf_bytes.Goals as goal
+
+pub returns : goal.returns
+returns c = bytes-hkdf512

@@ -1,0 +1,6 @@
+-- HMAC pads its key with zeros.
+use Rattle.cipher_spec.proofs.HkdfLemmas.{hkdf512-no_salt}
+use Rattle.cipher_spec.proofs.hkdf.hkdf_without_salt.Goals as goal
+
+pub returns : goal.returns
+returns c = hkdf512-no_salt

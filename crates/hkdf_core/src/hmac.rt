@@ -1,0 +1,81 @@
+//! HMAC, the keyed hash of RFC 2104, with SHA-512.
+
+ghost use Rattle.std.specs.Prelude.{◌≡◌, ◌++◌, ◌≤◌, ℕ, List, length};
+ghost use Rattle.sha2.specs.Sha512.{sha512};
+ghost use Rattle.sha2.specs.Hashers.{Holds512};
+ghost use Rattle.cipher_spec.specs.Hmac.{hmac512, key_block, pad_added, zero_padded};
+
+use sha2::{Digest, Sha512};
+
+/// How many bytes a block of SHA-512 has.
+pub(crate) const BLOCK: usize = 128;
+
+/// The byte that is added to each byte of the key for the inner hash (RFC 2104, section 2).
+const INNER_PAD: u8 = 0x36;
+
+/// The byte that is added to each byte of the key for the outer hash (RFC 2104, section 2).
+const OUTER_PAD: u8 = 0x5C;
+
+/// The HMAC of a text under a key (RFC 2104, section 2). Both may have any length.
+#[tactic(auto, unfolding(cipher_spec::specs::Hmac::hmac512, cipher_spec::specs::Hmac::hmac, cipher_spec::specs::Hmac::keyed_digest))]
+pub fn hmac512(key: &[u8], text: &[u8]) -> [u8; 64]
+    ensures { result ≡ hmac512 key.now text.now }
+{
+    let block = key_block(key);
+    let mut inner = inner_hasher(&block);
+    inner.update(text);
+    outer_digest(&block, inner)
+}
+
+/// The key as one block: a key longer than a block is hashed first (RFC 2104, section 2).
+#[tactic(auto, unfolding(cipher_spec::specs::Hmac::key_block))]
+pub(crate) fn key_block(key: &[u8]) -> [u8; BLOCK]
+    ensures { result ≡ key_block sha512 BLOCK key.now }
+{
+    if key.len() > BLOCK {
+        return zero_padded(&Sha512::digest(key));
+    }
+    zero_padded(key)
+}
+
+/// A hasher that has taken the key's block with the inner pad, and waits for the text.
+pub(crate) fn inner_hasher(block: &[u8; BLOCK]) -> Sha512
+    ensures { Holds512 result (pad_added INNER_PAD block.now) }
+{
+    let mut hasher = Sha512::new();
+    hasher.update(pad_added(INNER_PAD, block));
+    hasher
+}
+
+/// The hash of the key's block with the outer pad and the digest of what the inner hasher took.
+pub(crate) fn outer_digest(block: &[u8; BLOCK], inner: Sha512) -> [u8; 64]
+    ensures { (m : List ℕ) → Holds512 inner m → result ≡ sha512 (pad_added OUTER_PAD block.now ++ sha512 m) }
+{
+    let mut hasher = Sha512::new();
+    hasher.update(pad_added(OUTER_PAD, block));
+    hasher.update(inner.finalize());
+    hasher.finalize()
+}
+
+/// The key with zeros after it, up to the length of a block (RFC 2104, section 2, step 1).
+fn zero_padded<const N: usize>(key: &[u8]) -> [u8; N]
+    requires { length key.now ≤ N }
+    ensures { result ≡ zero_padded N key.now }
+{
+    let mut block = [0; N];
+    block[..key.len()].copy_from_slice(key);
+    block
+}
+
+/// The block with each byte added, by exclusive or, to the byte `pad` (RFC 2104, section 2, steps 2
+/// and 5).
+#[tactic(auto, unfolding(cipher_spec::specs::Hmac::pad_added))]
+fn pad_added<const N: usize>(pad: u8, block: &[u8; N]) -> [u8; N]
+    ensures { result ≡ pad_added pad block.now }
+{
+    let mut added = *block;
+    for byte in added.iter_mut() {
+        *byte ^= pad;
+    }
+    added
+}

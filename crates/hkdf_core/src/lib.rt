@@ -1,0 +1,12 @@
+//! HMAC (RFC 2104) and HKDF (RFC 5869) with SHA-512.
+//!
+//! Both are functions of their arguments alone: they take no memory and have no error.
+#![tactic(auto)]
+
+mod hkdf;
+mod hmac;
+#[cfg(test)]
+mod tests;
+
+pub use hkdf::hkdf512;
+pub use hmac::hmac512;
