@@ -1,0 +1,68 @@
+//! What can be wrong with a message.
+
+use crate::texts::Text;
+
+/// What is wrong with the bytes of an encryption context.
+#[derive(Clone, Copy, PartialEq, Eq)]
+pub enum ContextFault {
+    /// The counts and lengths don't fit the number of bytes.
+    Length,
+    /// A key or a value isn't UTF-8.
+    Utf8,
+    /// A key stands twice.
+    Duplicate,
+}
+
+/// A fault of a message. Its number is the one on the printed line.
+#[derive(Drop)]
+pub enum Fault {
+    /// M1: the version byte isn't 2; that byte.
+    BadVersion(u8),
+    /// M2: the algorithm suite isn't one that is read; its id.
+    UnsupportedSuite(u16),
+    /// M3: the bytes of the encryption context spell none; what is wrong with them.
+    BadContext(ContextFault),
+    /// M4: the header holds no encrypted data key.
+    NoDataKeys,
+    /// M5: the header holds more encrypted data keys than the caller allows; their number.
+    TooManyDataKeys(u16),
+    /// M6: the content type is neither single block nor framed; that byte.
+    BadContentType(u8),
+    /// M7: the frame length doesn't fit the content type; that length.
+    BadFrameLength(u32),
+    /// M8: a part of an encrypted data key would end beyond offset 2^24; that offset.
+    HeaderTooLong(u32),
+    /// M9: a frame or the single block is longer than the caller allows; its length.
+    UnitTooLong(u64),
+    /// M10: the message ends before it is whole.
+    Truncated,
+    /// M11: the caller's context has a key that the format keeps for itself.
+    ReservedKey,
+    /// M12: the caller's context has another value than the message's; the key.
+    ContextMismatch(Text),
+    /// M13: a required key is missing; the key.
+    MissingRequired(Text),
+    /// M14: the whole context is longer than a header can hold; its length.
+    ContextTooLong(u32),
+    /// M15: no key opens one of the encrypted data keys.
+    NoKeyOpens,
+    /// M16: the data key isn't the one that the header commits to.
+    Commitment,
+    /// M17: the header's authentication tag is wrong.
+    HeaderTag,
+    /// M18: a frame has another sequence number than is due.
+    WrongSequence {
+        /// The number that is due.
+        want: u32,
+        /// The number that stands there.
+        got: u32,
+    },
+    /// M19: the final frame is longer than the frame length; its length.
+    FinalTooLong(u32),
+    /// M20: the tag of a frame or of the single block is wrong; its sequence number.
+    UnitTag(u32),
+    /// M21: the single block is longer than AES-GCM allows; its length.
+    BlockTooLong(u64),
+    /// M22: bytes follow the end of the message.
+    TrailingBytes,
+}

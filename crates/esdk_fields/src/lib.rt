@@ -1,0 +1,26 @@
+//! The small types that every format of the library is made of: texts, blobs of bytes, the cursor that reads fields, the faults that a message
+//! can have and the lines that name them. `specs/` says what reading fields in order means; the formats are written in its words.
+#![tactic(auto)]
+
+mod blobs;
+mod cursors;
+mod faults;
+mod fields;
+mod laws;
+mod refusals;
+mod report;
+mod stops;
+mod texts;
+
+pub use blobs::{Blob, put_u16, put_u32, put_u64};
+pub use cursors::Cursor;
+pub use faults::{ContextFault, Fault};
+pub use fields::{bytes_of, u8_of, u16_of, u32_of, u64_of};
+pub use laws::{fields_come_in_order, judgement_stands, numbers_are_read_back};
+pub use refusals::{Content, FieldError, Outside, Refusal};
+pub use report::{fault_text, outside_text, printed, refusal_text};
+pub use stops::{Stop, refused};
+pub use texts::Text;
+
+#[cfg(test)]
+mod tests;
