@@ -1,0 +1,86 @@
+//! The product of blocks (SP 800-38D, section 6.3) by tables of one factor.
+
+ghost use Rattle.std.specs.Prelude.{◌≡◌, ℕ};
+ghost use Rattle.cipher_spec.specs.Ghash.{half, times};
+ghost use Rattle.ghash_core.specs.Rows.{row, IsRows};
+
+/// For each group of four bits of a block, the products of its 16 values and the other factor.
+pub type Rows = [[u128; 16]; 32];
+
+/// The bits 11100001 and then 120 zeros: R of the standard.
+const REDUCTION: u128 = 0xe100_0000_0000_0000_0000_0000_0000_0000;
+
+/// The block moved one bit to the right, reduced: the step from one V to the next.
+#[inline(always)]
+fn half(v: u128) -> u128
+    ensures { result ≡ half v }
+{
+    if v & 1 == 1 {
+        (v >> 1) ^ REDUCTION
+    } else {
+        v >> 1
+    }
+}
+
+/// The products of y and each value of the first four bits of a block.
+#[inline(always)]
+fn row(y: u128) -> [u128; 16]
+    ensures { result ≡ row y }
+{
+    let a = half(y);
+    let b = half(a);
+    let c = half(b);
+    [
+        0,
+        c,
+        b,
+        b ^ c,
+        a,
+        a ^ c,
+        a ^ b,
+        a ^ b ^ c,
+        y,
+        y ^ c,
+        y ^ b,
+        y ^ b ^ c,
+        y ^ a,
+        y ^ a ^ c,
+        y ^ a ^ b,
+        y ^ a ^ b ^ c,
+    ]
+}
+
+/// The block moved four bits to the right, reduced.
+#[inline(always)]
+fn sixteenth(v: u128) -> u128
+    ensures { result ≡ half (half (half (half v))) }
+{
+    half(half(half(half(v))))
+}
+
+/// All rows of h.
+pub fn rows(h: u128) -> Rows
+    ensures { IsRows result h }
+{
+    let mut rows = [[0; 16]; 32];
+    let mut v = h;
+    'each: for j in 0..32 {
+        rows[j] = row(v);
+        v = sixteenth(v);
+    }
+    rows
+}
+
+/// The product of x and the block h whose rows these are.
+#[inline(always)]
+pub fn times(x: u128, rows: &Rows) -> u128
+    ensures { (h : ℕ) → IsRows rows.now h → result ≡ times x h }
+{
+    let bytes = x.to_be_bytes();
+    let mut sum = 0;
+    'each: for i in 0..16 {
+        let byte = bytes[i];
+        sum = sum ^ rows[2 * i][(byte >> 4) as usize] ^ rows[2 * i + 1][(byte & 15) as usize];
+    }
+    sum
+}
