@@ -1,0 +1,4 @@
+pub mod Absorbing
+pub mod Comparing
+pub mod Counting
+pub mod Opening

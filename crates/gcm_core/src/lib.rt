@@ -1,0 +1,15 @@
+//! Authenticated encryption of a text where it lies: AES-256 in Galois/Counter Mode (NIST SP 800-38D), with
+//! initialization vectors of 12 bytes and tags of 16 bytes.
+//!
+//! Nothing here takes memory or copies the text. The associated data is given as two slices, which count as one text,
+//! so that a caller need not join them. One key must never seal two texts under the same initialization vector.
+#![tactic(auto)]
+
+mod authentication;
+mod counter_mode;
+mod same;
+mod seal;
+#[cfg(test)]
+mod tests;
+
+pub use seal::{open_in_place, seal_in_place};

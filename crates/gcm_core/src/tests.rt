@@ -1,0 +1,110 @@
+//! What sealing gives, against published vectors and OpenSSL's answers, and that a wrong tag opens nothing.
+
+use super::*;
+use aes_core::Key256;
+use hex::FromHex;
+use sha2::{Digest, Sha256};
+use std::test::Fail;
+
+mod vectors;
+
+/// The bytes from a seed that the expected digests were made with: the upper eight bits of each state of a linear
+/// congruential generator.
+fn fill(bytes: &mut [u8], seed: u64) {
+    let mut state = seed;
+    for byte in bytes.iter_mut() {
+        state = state
+            .wrapping_mul(6364136223846793005)
+            .wrapping_add(1442695040888963407);
+        *byte = (state >> 56) as u8;
+    }
+}
+
+/// The key and the initialization vector that the expected digests were made with.
+fn patterned_key() -> (Key256, [u8; 12]) {
+    let mut key = [0; 32];
+    fill(&mut key, 7);
+    let mut iv = [0; 12];
+    fill(&mut iv, 8);
+    (Key256::new(&key), iv)
+}
+
+#[test]
+fn seals_and_opens_the_published_vectors(rt: HostRuntime) -> Result<(), Fail> {
+    for vector in vectors::VECTORS.iter() {
+        let key = Key256::new(&<[u8; 32] as FromHex>::from_hex(vector.key)?);
+        let iv = <[u8; 12] as FromHex>::from_hex(vector.iv)?;
+        let right = <[u8; 16] as FromHex>::from_hex(vector.tag)?;
+        let data = hex::decode(rt.alloc(), vector.data)?;
+        let plain = hex::decode(rt.alloc(), vector.text)?;
+        let cipher = hex::decode(rt.alloc(), vector.cipher)?;
+        let mut text = hex::decode(rt.alloc(), vector.text)?;
+        assert!(rt; data.len() <= 256 && text.len() <= 256);
+        let (first, second) = data.as_slice().split_at(data.len() / 3);
+        let tag = seal_in_place(&key, &iv, first, second, text.as_mut_slice());
+        assert_eq!(rt; tag, right);
+        assert_eq!(rt; text.as_slice(), cipher.as_slice());
+        assert!(rt; text.len() <= 256);
+        assert!(rt; open_in_place(&key, &iv, first, second, text.as_mut_slice(), &tag));
+        assert_eq!(rt; text.as_slice(), plain.as_slice());
+    }
+    Ok(())
+}
+
+#[test]
+fn seals_each_length_up_to_two_hundred_bytes(rt: HostRuntime) -> Result<(), Fail> {
+    let (key, iv) = patterned_key();
+    let mut data = [0; 37];
+    fill(&mut data, 9);
+    let mut digest = Sha256::new();
+    for n in 0..201 {
+        let mut text = [0; 200];
+        fill(&mut text, 10);
+        let tag = seal_in_place(&key, &iv, &data[..n % 37], &[], &mut text[..n]);
+        digest.update(&text[..n]);
+        digest.update(&tag);
+    }
+    let want = <[u8; 32] as FromHex>::from_hex(
+        "9eaf0dafb70ce5b4bd725f1472a45312bf93ec2b915718c67bf9c57eabb70a31",
+    )?;
+    assert_eq!(rt; digest.finalize(), want);
+    Ok(())
+}
+
+#[test]
+fn seals_a_hundred_thousand_bytes(rt: HostRuntime) -> Result<(), Fail> {
+    let (key, iv) = patterned_key();
+    let mut text = vec![in rt.alloc(); 0u8; 100_000]?;
+    fill(text.as_mut_slice(), 11);
+    assert_eq!(rt; text.len(), 100_000);
+    let tag = seal_in_place(&key, &iv, &[], &[], text.as_mut_slice());
+    let mut digest = Sha256::new();
+    digest.update(text.as_slice());
+    digest.update(&tag);
+    let want = <[u8; 32] as FromHex>::from_hex(
+        "84d7160ef4fbdce7be88d8038acf8ed61ba3a678c4f5af0472195b64ce4cba7c",
+    )?;
+    assert_eq!(rt; digest.finalize(), want);
+    Ok(())
+}
+
+#[test]
+fn a_tag_with_any_bit_flipped_opens_nothing(rt: HostRuntime) {
+    let (key, iv) = patterned_key();
+    let mut plain = [0; 33];
+    fill(&mut plain, 12);
+    let mut text = plain;
+    let tag = seal_in_place(&key, &iv, b"first", b"second", &mut text);
+    let cipher = text;
+    for bit in 0..128usize {
+        let mut wrong = tag;
+        wrong[bit / 8] ^= 1 << (bit % 8);
+        assert!(rt;
+            !open_in_place(&key, &iv, b"first", b"second", &mut text, &wrong),
+            "bit {bit}"
+        );
+        assert_eq!(rt; text, cipher, "bit {bit}");
+    }
+    assert!(rt; open_in_place(&key, &iv, b"first", b"second", &mut text, &tag));
+    assert_eq!(rt; text, plain);
+}
