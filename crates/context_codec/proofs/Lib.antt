@@ -1,0 +1,14 @@
+pub mod Lookups
+pub mod Sizes
+pub mod Keys
+pub mod Growth
+pub mod Distinct
+pub mod Judging
+pub mod Utf8Pairs
+pub mod Paths
+pub mod Readers
+pub mod FoundContexts
+pub mod Written
+pub mod OneContext
+pub mod Verdicts
+pub mod Sorting

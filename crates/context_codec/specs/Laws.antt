@@ -1,0 +1,51 @@
+-- What the laws of this crate say of contexts and the bytes that spell them.
+use Rattle.std.specs.Prelude.{◌≡◌, ◌↔◌, ℕ, ◌≤◌, List, length, Some, None}
+use Rattle.esdk_fields.specs.declared.faults.ContextFault.TheVariants.{Length, Utf8, Duplicate}
+use Rattle.context_codec.specs.Context.{KeyValue, ctx_text, IsContext}
+use Rattle.context_codec.specs.Split.{split, context_fault, SpellsContext}
+use Rattle.context_codec.specs.Spelling.{AreBytes, IsSpelling, AreTexts, AreDistinct, IsSpelledContext}
+
+-- bytes that a length field of two bytes can stand before
+pub record IsField (bytes : List ℕ) : Type 0 where
+  pub fits : AreBytes bytes
+  pub short : length bytes ≤ 65535
+
+-- The reader splits the bytes into these pairs exactly where the bytes are their spelling, in any order of the keys.
+abbrev pub SplitsSpellings : Type 0
+SplitsSpellings = (bytes : List ℕ) → IsField bytes → (pairs : List KeyValue) → (split bytes ≡ Some pairs) ↔ IsSpelling bytes pairs
+
+-- A context is read exactly where the bytes are a spelling of its pairs, in some order.
+abbrev pub ReadsSpelledContexts : Type 0
+ReadsSpelledContexts = (bytes : List ℕ) → IsField bytes → (context : List KeyValue) → SpellsContext bytes context ↔ IsSpelledContext bytes context
+
+-- Where nothing is wrong with the bytes they spell a context, and only there.
+abbrev pub SpellsSomeContext : Type 0
+SpellsSomeContext = (bytes : List ℕ) → (context_fault bytes ≡ None) ↔ ((context : List KeyValue) × SpellsContext bytes context)
+
+-- The same bytes spell no two contexts.
+abbrev pub SpellsOneContext : Type 0
+SpellsOneContext = (bytes : List ℕ) (c d : List KeyValue) → SpellsContext bytes c → SpellsContext bytes d → c ≡ d
+
+-- Nothing is wrong exactly where the bytes spell texts with distinct keys.
+abbrev pub TakesTexts : Type 0
+TakesTexts = (bytes : List ℕ) → IsField bytes
+    → (context_fault bytes ≡ None) ↔ ((pairs : List KeyValue) × IsSpelling bytes pairs × AreTexts pairs × AreDistinct pairs)
+
+-- Length: the bytes are the spelling of no pairs at all.
+abbrev pub RefusesOtherBytes : Type 0
+RefusesOtherBytes = (bytes : List ℕ) → IsField bytes
+    → (context_fault bytes ≡ Some Length) ↔ ((pairs : List KeyValue) → ¬ (IsSpelling bytes pairs))
+
+-- Utf8: they spell pairs, and some key or value is not UTF-8.
+abbrev pub RefusesOtherTexts : Type 0
+RefusesOtherTexts = (bytes : List ℕ) → IsField bytes
+    → (context_fault bytes ≡ Some Utf8) ↔ ((pairs : List KeyValue) × IsSpelling bytes pairs × (¬ (AreTexts pairs)))
+
+-- Duplicate: they spell texts, and some key stands twice.
+abbrev pub RefusesDuplicates : Type 0
+RefusesDuplicates = (bytes : List ℕ) → IsField bytes
+    → (context_fault bytes ≡ Some Duplicate) ↔ ((pairs : List KeyValue) × IsSpelling bytes pairs × AreTexts pairs × (¬ (AreDistinct pairs)))
+
+-- The text of a context spells it.
+abbrev pub ReadsBack : Type 0
+ReadsBack = (context : List KeyValue) → IsContext context → SpellsContext (ctx_text context) context

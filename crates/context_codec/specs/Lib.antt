@@ -1,0 +1,9 @@
+pub mod Context
+pub mod Split
+pub mod Spelling
+pub mod Placing
+pub mod Fitting
+pub mod Insert
+pub mod Found
+pub mod Read
+pub mod Laws

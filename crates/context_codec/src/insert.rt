@@ -1,0 +1,109 @@
+//! One more pair in a context.
+
+ghost use Rattle.std.specs.Prelude.{◌≡◌, true, ◌==◌, if◌then◌else◌, length, None, MatchOption, OnOk, OnErr, IfErr};
+ghost use Rattle.std.specs.List.{list_any};
+ghost use Rattle.std.specs.BTreeMap.{insert_entry};
+ghost use Rattle.std.specs.Ordering.{nat_cmp};
+ghost use Rattle.std.specs.Cmp.Lexicographic.{slice_cmp};
+ghost use Rattle.context_codec.specs.Context.{IsAscending, ctx_text, has_key};
+ghost use Rattle.context_codec.specs.Placing.{IsPlace};
+ghost use Rattle.context_codec.specs.Insert.{grown, refusal_of, RefusesAs};
+
+use crate::context::Context;
+use crate::pair::Pair;
+use esdk_fields::{Refusal, Text};
+use std::alloc::{AllocError, AllocFailed, Global};
+use std::cmp::Ordering;
+
+/// Why a pair was not inserted.
+#[derive(Drop)]
+pub enum PairError {
+    /// The pair is refused.
+    Refusal(Refusal),
+    /// Memory ran out.
+    Memory,
+}
+
+impl From<AllocError> for PairError {
+    ghost use Rattle.std.specs.Prelude.{◌≡◌};
+    ghost use Rattle.context_codec.specs.declared.insert.PairError.TheVariants.{Memory};
+
+    ghost from_gives = { λ _ e. e ≡ Memory };
+
+    fn from(_: AllocError) -> PairError {
+        PairError::Memory
+    }
+}
+
+impl<T: Drop> From<AllocFailed<T>> for PairError {
+    ghost use Rattle.std.specs.Prelude.{◌≡◌};
+    ghost use Rattle.context_codec.specs.declared.insert.PairError.TheVariants.{Memory};
+
+    ghost from_gives = { λ _ e. e ≡ Memory };
+
+    fn from(_: AllocFailed<T>) -> PairError {
+        PairError::Memory
+    }
+}
+
+impl Context {
+    /// Inserts a pair at its place in the order of the keys.
+    ///
+    /// Q3 `DuplicateKey` where the key is there already; else Q2 `ContextTooLong` with the length that the text would have, where that is over
+    /// 65,535 bytes; `Memory` where memory runs out. After an error the context stands as before.
+    pub fn insert(&mut self, alloc: Global, key: &str, value: &str) -> Result<(), PairError>
+        ensures ok { OnOk result (self.new ≡ insert_entry (slice_cmp nat_cmp) self.old key.now value.now) }
+        ensures taken { OnOk result (refusal_of self.old (key.now, value.now) ≡ None) }
+        ensures cause { IfErr result (λ e. RefusesAs e (refusal_of self.old (key.now, value.now))) }
+        ensures err { OnErr result (self.new ≡ self.old) }
+    {
+        let Some(at) = place_of(&self.pairs, key) else {
+            return Err(PairError::Refusal(Refusal::DuplicateKey(Text::new(alloc, key)?)));
+        };
+        let grown = grown_len(&self.pairs, self.text_len, key, value);
+        if grown > MAX_TEXT {
+            return Err(PairError::Refusal(Refusal::ContextTooLong(grown)));
+        }
+        let pair = Pair::new(Text::new(alloc, key)?, Text::new(alloc, value)?);
+        self.pairs.insert(at, pair)?;
+        self.text_len = grown as u32;
+        Ok(())
+    }
+}
+
+/// The longest text that a length field of two bytes can stand before.
+const MAX_TEXT: u128 = 65535;
+
+/// Where a pair with this key belongs. None where the key is there already.
+fn place_of(pairs: &[Pair], key: &str) -> Option<usize>
+    requires { IsAscending pairs.now }
+    ensures { MatchOption result (list_any (has_key key.now) pairs.now ≡ true) (IsPlace key.now pairs.now) }
+{
+    for (at, pair) in pairs.iter().enumerate() {
+        match key.cmp(pair.key()) {
+            Ordering::Less => return Some(at),
+            Ordering::Equal => return None,
+            Ordering::Greater => {}
+        }
+    }
+    Some(pairs.len())
+}
+
+/// How long the text is with one more pair. The empty context has no count of its pairs yet.
+fn grown_len(pairs: &[Pair], text_len: u32, key: &str, value: &str) -> u128
+    requires { text_len ≡ length (ctx_text pairs.now) }
+    ensures { result ≡ grown pairs.now (key.now, value.now) }
+{
+    counted_len(text_len) + 4 + key.len() as u128 + value.len() as u128
+}
+
+/// The length of a text, with the two bytes of the count where it is empty.
+fn counted_len(text_len: u32) -> u128
+    ensures { result ≡ (if text_len == 0 then 2 else text_len) }
+{
+    if text_len == 0 {
+        2
+    } else {
+        u128::from(text_len)
+    }
+}

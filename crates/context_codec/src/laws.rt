@@ -1,0 +1,48 @@
+//! The laws of contexts and the bytes that spell them, each a function with an empty body whose contract is the law.
+
+ghost use Rattle.context_codec.specs.Laws.{SplitsSpellings, ReadsSpelledContexts, SpellsSomeContext, SpellsOneContext, TakesTexts, RefusesOtherBytes, RefusesOtherTexts, RefusesDuplicates, ReadsBack};
+
+/// The reader splits bytes into pairs exactly where the bytes are the spelling of these pairs: the count and the pairs one after another.
+pub fn spellings_are_split()
+    ensures { SplitsSpellings }
+{}
+
+/// Bytes spell a context, as the reader says, exactly where they are a spelling of its pairs in some order, texts with distinct keys.
+pub fn spelled_contexts_are_read()
+    ensures { ReadsSpelledContexts }
+{}
+
+/// Bytes with which nothing is wrong spell a context, and no other bytes do.
+pub fn taken_bytes_spell_a_context()
+    ensures { SpellsSomeContext }
+{}
+
+/// Two contexts that the same bytes spell are equal.
+pub fn one_context_is_spelled()
+    ensures { SpellsOneContext }
+{}
+
+/// Nothing is wrong exactly where the bytes are a spelling of texts with distinct keys.
+pub fn spelled_texts_are_taken()
+    ensures { TakesTexts }
+{}
+
+/// M3 `Length` comes exactly where the bytes are the spelling of no pairs.
+pub fn other_bytes_are_refused()
+    ensures { RefusesOtherBytes }
+{}
+
+/// M3 `Utf8` comes exactly where they are the spelling of pairs of which some key or value isn't UTF-8.
+pub fn other_texts_are_refused()
+    ensures { RefusesOtherTexts }
+{}
+
+/// M3 `Duplicate` comes exactly where they are the spelling of texts of which some key stands twice.
+pub fn duplicate_keys_are_refused()
+    ensures { RefusesDuplicates }
+{}
+
+/// The text of a context spells it.
+pub fn written_contexts_are_read()
+    ensures { ReadsBack }
+{}
