@@ -1,0 +1,5 @@
+pub mod Entry
+pub mod EntryReader
+pub mod Parts
+pub mod RawInfo
+pub mod Laws
