@@ -1,0 +1,118 @@
+//! A source in memory.
+ghost use Rattle.std.specs.Prelude.{◌≡◌, ◌≤◌, ◌<◌, [], IfOk, Some, is_err, length, min, take};
+ghost use Rattle.std.specs.Io.{ReadsAtMost};
+ghost use Rattle.std.specs.Io.KnownBytes.{ReadConsumes};
+ghost use Rattle.esdk_base.specs.CallPlan.{fails_next};
+ghost use Rattle.esdk_base.specs.Counts.{CountsGiven, HasCause};
+ghost use Rattle.esdk_base.specs.MemSource.{after_read, read_count};
+
+use crate::call_plan::CallPlan;
+use crate::{Failed, Source};
+use esdk_fields::Blob;
+use std::marker::Model;
+
+/// A source that gives the bytes of a `Blob`, at most so many for each read.
+#[derive(Drop)]
+pub struct MemSource {
+    bytes: Blob,
+    at: usize,
+    most: usize,
+    given: u64,
+    plan: CallPlan,
+}
+
+impl Model for MemSource {
+    ghost use Rattle.std.specs.Prelude.{ℕ, drop, ◌≤◌, length};
+    ghost use Rattle.esdk_base.specs.MemSource.{MemSourceState};
+
+    ghost Value = { MemSourceState };
+
+    ghost view = { λ s. record { left = drop s.at s.bytes; most = s.most; given = s.given; plan = s.plan } };
+
+    ghost invariant = { λ s. (s.at ≤ length s.bytes) × (1 ≤ s.most) };
+}
+
+impl MemSource {
+    /// A source of these bytes. A read gives at most `most` bytes, and the reads whose numbers
+    /// `failing` lists, counted from 1, fail; no other does.
+    pub fn new(bytes: Blob, most: usize, failing: Vec<u64>) -> MemSource
+        requires { 1 ≤ most }
+        ensures { result ≡ record {
+          left = bytes;
+          most = most;
+          given = 0;
+          plan = record { failing = failing.items; calls = 0; faults = 0 };
+        } }
+    {
+        MemSource {
+            bytes,
+            at: 0,
+            most,
+            given: 0,
+            plan: CallPlan::new(failing),
+        }
+    }
+}
+
+/// Copies the front of what is left into the front of `out`, at most `most` bytes, and answers how many.
+fn give_front(left: &[u8], most: usize, out: &mut [u8]) -> usize
+    requires { 1 ≤ most }
+    ensures count { result ≡ min (min most (length out.old)) (length left.now) }
+    ensures bound { result ≤ length out.new }
+    ensures len { result ≡ length (take result out.new) }
+    ensures front { take result out.new ≡ take result left.now }
+    ensures end { result ≡ 0 → 0 < length out.new → left.now ≡ [] }
+{
+    let count = most.min(out.len()).min(left.len());
+    out[..count].copy_from_slice(&left[..count]);
+    count
+}
+
+impl Source for MemSource {
+    ghost left = { λ s. Some s.left };
+
+    ghost given = { λ s. s.given };
+
+    ghost faults = { λ s. s.plan.faults };
+
+    fn read(&mut self, out: &mut [u8]) -> Result<usize, Failed>
+        ensures bound { ReadsAtMost result out.new }
+        ensures bytes { ReadConsumes (Some self.old.left) (Some self.new.left) result out.new }
+        ensures given { CountsGiven self.old.given self.new.given result }
+        ensures cause { HasCause self.old.plan.faults self.new.plan.faults result }
+        ensures failed { is_err result ≡ fails_next self.old.plan }
+        ensures count { IfOk result (λ n. n ≡ read_count (length out.old) self.old) }
+        ensures source { self.new ≡ after_read (length out.old) self.old }
+    {
+        let Ok(()) = self.plan.begin(false) else {
+            return Err(Failed);
+        };
+        let count = give_front(&self.bytes.bytes()[self.at..], self.most, out);
+        self.at += count;
+        self.given = self.given.saturating_add(count as u64);
+        Ok(count)
+    }
+}
+
+#[cfg(test)]
+mod tests {
+    use super::*;
+    use std::test::Fail;
+
+    #[test]
+    fn gives_its_bytes_in_turn_but_for_planned_failures(rt: HostRuntime) -> Result<(), Fail> {
+        let alloc = rt.alloc();
+        let mut bytes = Blob::new(alloc);
+        bytes.push_all(&[1, 2, 3, 4])?;
+        let mut source = MemSource::new(bytes, 2, [2u64].to_vec(alloc)?);
+        let mut out = [0; 3];
+        assert_eq!(rt; source.read(&mut out), Ok(2));
+        assert_eq!(rt; out, [1, 2, 0]);
+        assert_eq!(rt; source.read(&mut out), Err(Failed));
+        assert_eq!(rt; source.read(&mut out[..1]), Ok(1));
+        assert_eq!(rt; source.read(&mut out), Ok(1));
+        assert_eq!(rt; out, [4, 2, 0]);
+        assert_eq!(rt; source.read(&mut out), Ok(0));
+        Ok(())
+    }
+}

@@ -1,0 +1,103 @@
+//! Any reader of std as a source.
+ghost use Rattle.std.specs.Prelude.{◌≡◌, None};
+ghost use Rattle.std.specs.Io.{ReadsAtMost};
+ghost use Rattle.std.specs.Io.KnownBytes.{ReadConsumes};
+ghost use Rattle.esdk_base.specs.Counts.{CountsGiven, HasCause};
+
+use crate::{Failed, Source};
+use std::io::Read;
+use std::marker::Model;
+
+/// A source over a reader of std, as standard input. It tells no content.
+#[derive(Drop)]
+pub struct StdSource<R> {
+    reader: R,
+    given: u64,
+    faults: u64,
+}
+
+impl<R> Model for StdSource<R> {
+    ghost use Rattle.esdk_base.specs.StdSource.{StdSourceState};
+
+    ghost Value = { StdSourceState R };
+
+    ghost view = { λ s. record { reader = s.reader; given = s.given; faults = s.faults } };
+}
+
+impl<R: Read> StdSource<R> {
+    /// A source of what the reader gives from here on. It has given nothing and not failed.
+    pub fn new(reader: R) -> StdSource<R>
+        ensures { result ≡ record { reader = reader; given = 0; faults = 0 } }
+    {
+        StdSource {
+            reader,
+            given: 0,
+            faults: 0,
+        }
+    }
+}
+
+impl<R: Read> Source for StdSource<R> {
+    ghost left = { λ _. None };
+
+    ghost given = { λ s. s.given };
+
+    ghost faults = { λ s. s.faults };
+
+    fn read(&mut self, out: &mut [u8]) -> Result<usize, Failed>
+        ensures bound { ReadsAtMost result out.new }
+        ensures bytes { ReadConsumes None None result out.new }
+        ensures given { CountsGiven self.old.given self.new.given result }
+        ensures cause { HasCause self.old.faults self.new.faults result }
+
+        // The bytes are the reader's, where the reader tells them.
+        ensures reader { ReadConsumes (R.remaining self.old.reader) (R.remaining self.new.reader) result out.new }
+    {
+        let Ok(count) = self.reader.read(out) else {
+            self.faults = self.faults.saturating_add(1);
+            return Err(Failed);
+        };
+        self.given = self.given.saturating_add(count as u64);
+        Ok(count)
+    }
+}
+
+#[cfg(test)]
+mod tests {
+    use super::*;
+    use std::io;
+    use std::io::ErrorKind;
+
+    /// A reader that gives one byte, and then fails.
+    #[derive(Drop)]
+    struct Breaking(bool);
+
+    impl Read for Breaking {
+        fn read(&mut self, buf: &mut [u8]) -> io::Result<usize> {
+            if self.0 || buf.is_empty() {
+                return Err(io::Error::from(ErrorKind::Other));
+            }
+            self.0 = true;
+            buf[0] = 7;
+            Ok(1)
+        }
+    }
+
+    #[test]
+    fn reads_pass_through_and_faults_are_counted(rt: HostRuntime) {
+        let mut out = [0; 4];
+        let bytes = [1u8, 2, 3, 4, 5];
+        let mut source = StdSource::new(bytes.as_slice());
+        assert_eq!(rt; source.read(&mut out), Ok(4));
+        assert_eq!(rt; out, [1, 2, 3, 4]);
+        assert_eq!(rt; source.read(&mut out), Ok(1));
+        assert_eq!(rt; source.read(&mut out), Ok(0));
+        assert_eq!(rt; (source.given, source.faults), (5, 0));
+
+        let mut source = StdSource::new(Breaking(false));
+        assert_eq!(rt; source.read(&mut out), Ok(1));
+        assert_eq!(rt; source.read(&mut out), Err(Failed));
+        assert_eq!(rt; source.read(&mut out), Err(Failed));
+        assert_eq!(rt; (source.given, source.faults), (1, 2));
+    }
+}
