@@ -1,0 +1,15 @@
+pub mod Contents
+pub mod Followed
+pub mod Fronts
+pub mod Offences
+pub mod Offending
+pub mod Order
+pub mod Readings
+pub mod Refused
+pub mod Rows
+pub mod Sessions
+pub mod Spelled
+pub mod Steps
+pub mod Uniqueness
+pub mod Whole
+pub mod Written

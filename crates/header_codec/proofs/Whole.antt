@@ -1,0 +1,53 @@
+-- Where a header's body ends, and what is kept of it.
+use Rattle.std.proofs.Common.{◌≡◌, ℕ, ◌≤◌, List, length, take, refl, ap, sym, ◌∙◌, arith}
+use Rattle.std.proofs.lemmas.List.{length-take}
+use Rattle.esdk_fields.specs.Place.{Place, start}
+use Rattle.esdk_fields.specs.Reading.{Read, bytes}
+use Rattle.esdk_fields.proofs.Sequential.{IsSequential-bytes}
+use Rattle.esdk_fields.proofs.Fronts.{read_within, onward_from}
+use Rattle.esdk_fields.proofs.Inverse.{field_is_read}
+use Rattle.header_codec.specs.declared.settings.Settings.{Settings}
+use Rattle.context_codec.specs.Context.{KeyValue}
+use Rattle.context_codec.specs.Split.{SpellsContext}
+use Rattle.edk_codec.specs.Entry.{Entry}
+use Rattle.header_codec.specs.Header.{HeaderValue}
+use Rattle.header_codec.specs.Table.{Head, header, made_of, BeginsWith}
+use Rattle.header_codec.proofs.Steps.{header_is_read}
+use Rattle.header_codec.proofs.Order.{IsSequential-header}
+
+length_of_field : (n : ℕ) (p : Place) (x : List ℕ) (next : Place) → bytes n p ≡ Read x next → length x ≡ n
+length_of_field n p x next e =
+    let f = field_is_read (λ b. b) n p x next e in
+    ap length (sym f.value) ∙ omega (arith, f.long, length-take n p.left)
+
+pub length-tag : (settings : Settings) (p : Place) (parts : Head) (end : Place) → header settings p ≡ Read parts end → length parts.tag ≡ 16
+length-tag settings p parts end e =
+    let h = header_is_read settings p parts end e in
+    length_of_field 16 h.body_end parts.tag end h.tag
+
+pub size_within : (settings : Settings) (b : List ℕ) (parts : Head) (end : Place) → header settings (start b) ≡ Read parts end → parts.size ≤ length b
+size_within settings b parts end e =
+    let h = header_is_read settings (start b) parts end e in
+    omega (arith, h.size, onward_from (bytes 16) h.body_end parts.tag end (IsSequential-bytes 16) h.tag, read_within (header settings) b parts end (IsSequential-header settings) e)
+
+abbrev value : HeaderValue → HeaderValue
+value h = h
+
+-- a header made of what was read
+pub begins_with : (settings : Settings) (b : List ℕ) (parts : Head) (next : Place) (stored : List KeyValue) (end : ℕ) (id : List ℕ) (entries : List Entry) (commitment raw tag : List ℕ)
+    → header settings (start b) ≡ Read parts next → SpellsContext parts.context stored → end ≡ next.at
+    → id ≡ parts.id → entries ≡ parts.entries → commitment ≡ parts.commitment → raw ≡ take parts.size b → tag ≡ parts.tag
+    → (left : List ℕ) × BeginsWith settings b (record { suite = 0x0478; message_id = id; stored = stored; entries = entries; content = parts.content; commitment = commitment; raw = raw; tag = tag }) (record { at = end; left = left })
+begins_with settings b parts next stored end id entries commitment raw tag read spells at_end is-id is-entries is-commitment is-raw is-tag = (
+  next.left,
+  record {
+    parts = parts;
+    read = read ∙ ap (λ (a : ℕ). Read parts (record { at = a; left = next.left })) (sym at_end);
+    stored = spells;
+    is = made id entries commitment raw tag is-id is-entries is-commitment is-raw is-tag;
+  },
+)
+  where
+    made : (i : List ℕ) (e : List Entry) (c r t : List ℕ) → i ≡ parts.id → e ≡ parts.entries → c ≡ parts.commitment → r ≡ take parts.size b → t ≡ parts.tag
+        → value (record { suite = 0x0478; message_id = i; stored = stored; entries = e; content = parts.content; commitment = c; raw = r; tag = t }) ≡ made_of b parts stored
+    made i e c r t pi pe pc pr pt = rw (pi, pe, pc, pr, pt) refl

@@ -1,0 +1,7 @@
+use Rattle.std.proofs.Common.{refl}
+use Rattle.header_codec.specs.Table.{opening, header}
+use Rattle.header_codec.proofs.session.HeaderReader.new.Goals as goal
+
+pub returns : goal.returns
+unfolding header opening
+returns c = record { settings = refl; stopped = refl; taken = λ _ _. c.new.ensures.items; found = refl }

@@ -1,0 +1,135 @@
+-- Reading a header: the table of its fields, line by line, and what is judged at the last byte of each.
+-- Standard: AWS Encryption SDK, message header, "Structure" of version 2.0; the faults M1 to M9 are this library's.
+use Rattle.std.specs.Prelude.{◌≡◌, ℕ, ◌+◌, List, take, Bool, false, not, ◌&&◌, ◌||◌, ◌==◌, nat_lt, if◌then◌else◌, Option, Some, None, option_map}
+use Rattle.std.specs.Int.{w8, w16, w32}
+use Rattle.esdk_fields.specs.declared.faults.Fault.{Fault}
+use Rattle.esdk_fields.specs.declared.faults.Fault.TheVariants.{BadVersion, UnsupportedSuite, BadContext, NoDataKeys, TooManyDataKeys, BadContentType, BadFrameLength, HeaderTooLong, UnitTooLong}
+use Rattle.esdk_fields.specs.declared.refusals.Content.{Content}
+use Rattle.esdk_fields.specs.declared.refusals.Content.TheVariants.{Single, Framed}
+use Rattle.esdk_fields.specs.Place.{Place, start}
+use Rattle.esdk_fields.specs.Reading.{Read, Reader, ◌>>=◌, ◌>>◌, done, bytes, number, here, refuse_if, judge, repeat, fault_of, value_of}
+use Rattle.context_codec.specs.Context.{KeyValue}
+use Rattle.context_codec.specs.Split.{context_fault, SpellsContext}
+use Rattle.edk_codec.specs.Entry.{Entry}
+use Rattle.header_codec.specs.declared.settings.Settings.{Settings}
+use Rattle.header_codec.specs.Header.{HeaderValue, latest_end}
+
+-- What is read: the context as its bytes, and the size of the body.
+pub record Head : Type 0 where
+  pub id : List ℕ
+  pub context : List ℕ
+  pub entries : List Entry
+  pub content : Content
+  pub commitment : List ℕ
+  pub size : ℕ
+  pub tag : List ℕ
+
+-- ---- tests
+
+-- over a limit, where there is one
+abbrev pub is_over : Option ℕ → ℕ → Bool
+is_over None n = false
+is_over (Some most) n = nat_lt most n
+
+abbrev pub is_content_type : ℕ → Bool
+is_content_type kind = kind == 1 || kind == 2
+
+-- 0 for a single block, at least 1 for frames
+abbrev pub is_frame_length : ℕ → ℕ → Bool
+is_frame_length kind frame = if kind == 1 then frame == 0 else not (frame == 0)
+
+-- only frames are limited here
+abbrev pub is_unit_over : Option ℕ → ℕ → ℕ → Bool
+is_unit_over max_unit kind frame = kind == 2 && is_over max_unit frame
+
+abbrev pub content_of : ℕ → ℕ → Content
+content_of kind frame = if kind == 1 then Single else Framed frame
+
+-- ---- the table
+
+unfoldable pub opening : Reader (List ℕ)
+opening = do
+  version ← number w8
+  refuse_if (not (version == 2)) (BadVersion version)
+  suite ← number w16
+  refuse_if (not (suite == 0x0478)) (UnsupportedSuite suite)
+  bytes 32
+
+unfoldable pub context_field : Reader (List ℕ)
+context_field = do
+  n ← number w16
+  context ← bytes n
+  judge (option_map BadContext (context_fault context))
+  done context
+
+-- a part of an entry: its length says where it ends
+unfoldable pub part : Reader (List ℕ)
+part = do
+  n ← number w16
+  at ← here
+  refuse_if (nat_lt latest_end (at + n)) (HeaderTooLong (at + n))
+  bytes n
+
+unfoldable pub entry : Reader Entry
+entry = do
+  provider ← part
+  info ← part
+  cipher ← part
+  done (record { provider = provider; info = info; cipher = cipher })
+
+unfoldable pub data_keys : Option ℕ → Reader (List Entry)
+data_keys max_keys = do
+  count ← number w16
+  refuse_if (count == 0) NoDataKeys
+  refuse_if (is_over max_keys count) (TooManyDataKeys count)
+  repeat entry count
+
+unfoldable pub content : Option ℕ → Reader Content
+content max_unit = do
+  kind ← number w8
+  refuse_if (not (is_content_type kind)) (BadContentType kind)
+  frame ← number w32
+  refuse_if (not (is_frame_length kind frame)) (BadFrameLength frame)
+  refuse_if (is_unit_over max_unit kind frame) (UnitTooLong frame)
+  done (content_of kind frame)
+
+unfoldable pub header : Settings → Reader Head
+header settings = do
+  id ← opening
+  context ← context_field
+  entries ← data_keys settings.max_keys
+  kind ← content settings.max_unit
+  commitment ← bytes 32
+  size ← here
+  tag ← bytes 16
+  done (record { id = id; context = context; entries = entries; content = kind; commitment = commitment; size = size; tag = tag })
+
+-- ---- what the bytes say
+
+-- the fault of the bytes, once its field is there
+abbrev pub header_fault : Settings → List ℕ → Option Fault
+header_fault settings bytes = fault_of (header settings (start bytes))
+
+-- the header that the bytes begin with, once it is whole
+abbrev pub head : Settings → List ℕ → Option Head
+head settings bytes = value_of (header settings (start bytes))
+
+-- the header of these parts, its stored pairs being these
+abbrev pub made_of : List ℕ → Head → List KeyValue → HeaderValue
+made_of bytes parts stored = record {
+  suite = 0x0478;
+  message_id = parts.id;
+  stored = stored;
+  entries = parts.entries;
+  content = parts.content;
+  commitment = parts.commitment;
+  raw = take parts.size bytes;
+  tag = parts.tag;
+}
+
+-- The bytes begin with this header and its tag, which end there.
+pub record BeginsWith (settings : Settings) (bytes : List ℕ) (h : HeaderValue) (end : Place) : Type 0 where
+  pub parts : Head
+  pub read : header settings (start bytes) ≡ Read parts end
+  pub stored : SpellsContext parts.context h.stored
+  pub is : h ≡ made_of bytes parts h.stored

@@ -1,0 +1,25 @@
+//! The header of a message: it is read in pieces of any size, and judged field by field as each is whole.
+//! Standard: AWS Encryption SDK, message header, "Structure" of version 2.0.
+//!
+//! `specs/Table.antt` is the table of the fields with the faults M1 to M9, `specs/Header.antt` says without a reader which bytes a header has.
+#![tactic(auto)]
+
+mod found;
+mod header;
+mod laws;
+mod parts;
+mod session;
+mod settings;
+mod table;
+
+pub use edk_codec::DataKeyEntry;
+pub use header::Header;
+pub use laws::{
+    headers_are_judged_in_order, one_header_is_read, some_header_is_read, spelled_headers_are_read,
+    the_first_offence_is_the_fault,
+};
+pub use session::{HeaderReader, HeaderStep};
+pub use settings::Settings;
+
+#[cfg(test)]
+mod tests;

@@ -1,0 +1,93 @@
+//! Reading a header that comes in pieces.
+
+ghost use Rattle.std.specs.Option.{option_copied};
+ghost use Rattle.header_codec.specs.Session.{Session, opened, Answers, stepped, ShowsHeader};
+ghost use Rattle.header_codec.specs.Stands.{Stands};
+
+use crate::found::header_in;
+use crate::header::Header;
+use crate::settings::Settings;
+use esdk_fields::{FieldError, Stop};
+use std::alloc::Global;
+
+/// What a step did: the bytes of the piece that it used, and whether the header and its tag are whole.
+#[derive(Clone, Copy)]
+pub struct HeaderStep {
+    /// How many bytes of the piece were used.
+    pub used: usize,
+    /// Whether the header and its tag are whole.
+    pub ready: bool,
+}
+
+/// Reads one header from pieces of bytes.
+#[derive(Drop)]
+pub struct HeaderReader {
+    settings: Settings,
+    taken: Vec<u8>,
+    stopped: bool,
+    found: Option<Header>,
+}
+
+impl HeaderReader {
+    /// A reader that has taken nothing.
+    pub fn new(alloc: Global, settings: Settings) -> HeaderReader
+        ensures { Stands result (opened settings) }
+    {
+        HeaderReader {
+            settings,
+            taken: Vec::new(alloc),
+            stopped: false,
+            found: None,
+        }
+    }
+
+    /// Takes bytes up to the end of the piece, or of the header's tag, and says how many, and whether the header and its tag are whole.
+    ///
+    /// A fault M1 to M9 comes with the last byte of the field that has it. After any error, want of memory too, every later step answers
+    /// `Stopped`, and it comes only then. After the header is whole a step uses nothing.
+    pub fn step(&mut self, alloc: Global, piece: &[u8]) -> Result<HeaderStep, FieldError>
+        ensures answer { (v : Session) → Stands self.old v → Answers v piece.now result }
+        ensures stands { (v : Session) → Stands self.old v → Stands self.new (stepped v piece.now result) }
+    {
+        if self.stopped {
+            return Err(FieldError::Stopped);
+        }
+        if self.found.is_some() {
+            return Ok(HeaderStep {
+                used: 0,
+                ready: true,
+            });
+        }
+        self.stopped = true;
+        let had = self.taken.len();
+        self.taken.extend_from_slice(piece)?;
+        match header_in(alloc, self.settings, &self.taken) {
+            Ok(found) => {
+                self.stopped = false;
+                self.found = Some(found.header);
+                self.taken = Vec::new(alloc);
+                // What was taken before held no whole header, so this one ends behind it.
+                Ok(HeaderStep {
+                    used: found.end.saturating_sub(had),
+                    ready: true,
+                })
+            }
+            Err(Stop::Wanting) => {
+                self.stopped = false;
+                Ok(HeaderStep {
+                    used: piece.len(),
+                    ready: false,
+                })
+            }
+            Err(Stop::Fault(fault, _)) => Err(FieldError::Fault(fault)),
+            Err(Stop::Memory) => Err(FieldError::Memory),
+        }
+    }
+
+    /// The header, once it and its tag are whole. None exactly until then.
+    pub fn header(&self) -> Option<&Header>
+        ensures { (v : Session) → Stands self.now v → ShowsHeader v (option_copied result) }
+    {
+        self.found.as_ref()
+    }
+}
