@@ -1,0 +1,4 @@
+pub mod Feeding
+pub mod Gained
+pub mod Lines
+pub mod Shown

@@ -1,0 +1,35 @@
+//! Why a run ends without its result.
+ghost use Rattle.std.specs.Prelude.{◌≡◌};
+ghost use Rattle.esdk_tool.specs.declared.failure.Failure.TheVariants.{Memory};
+
+use esdk_fields::{Fault, Outside};
+use std::alloc::{AllocError, AllocFailed};
+
+/// Why a run ends without its result.
+#[derive(Drop)]
+pub enum Failure {
+    /// The words aren't those of a command that is built.
+    NotBuilt,
+    /// The input has this fault.
+    Fault(Fault),
+    /// The input or the output failed, or the input is too long.
+    Outside(Outside),
+    /// Memory ran out.
+    Memory,
+}
+
+impl From<AllocError> for Failure {
+    ghost from_gives = { λ _ failure. failure ≡ Memory };
+
+    fn from(_: AllocError) -> Failure {
+        Failure::Memory
+    }
+}
+
+impl<T: Drop> From<AllocFailed<T>> for Failure {
+    ghost from_gives = { λ _ failure. failure ≡ Memory };
+
+    fn from(_: AllocFailed<T>) -> Failure {
+        Failure::Memory
+    }
+}

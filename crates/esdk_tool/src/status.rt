@@ -1,0 +1,21 @@
+//! The exit status of a run.
+
+/// How a run ended, as the program's exit status.
+#[derive(Debug, Clone, Copy, PartialEq, Eq)]
+pub struct Status {
+    /// The number that the program ends with.
+    pub code: u8,
+}
+
+impl Status {
+    /// All was done.
+    pub const DONE: Status = Status { code: 0 };
+    /// The message has a fault.
+    pub const FAULT: Status = Status { code: 1 };
+    /// The words aren't a command that is built.
+    pub const WORDS: Status = Status { code: 2 };
+    /// The input or the output failed, or the input is too long.
+    pub const OUTSIDE: Status = Status { code: 4 };
+    /// Memory ran out.
+    pub const MEMORY: Status = Status { code: 5 };
+}
