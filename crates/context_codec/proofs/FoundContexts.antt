@@ -3,7 +3,7 @@ use Rattle.std.proofs.Common.{◌≡◌, ℕ, ◌≤◌, true, false, cond, eqb,
 use Rattle.std.specs.List.Sorted.{IsPermutation}
 use Rattle.std.proofs.lemmas.List.Sums.{AllPass-from_list_all, list_all-from_AllPass}
 use Rattle.std.proofs.lemmas.List.Sorted.{All-permutation, sum_by-IsPermutation, length_permutation}
-use Rattle.esdk_fields.proofs.Inverse.{IsBytes}
+use Rattle.esdk_fields.specs.Bytes.{AreBytes}
 use Rattle.context_codec.specs.Context.{KeyValue, is_text_pair, are_texts, IsAscending, pair_text, pairs_text, ctx_text, IsContext}
 use Rattle.context_codec.specs.Split.{split}
 use Rattle.context_codec.specs.Spelling.{IsSpelling}
@@ -23,7 +23,7 @@ length-found : (bytes : List ℕ) (ps : List KeyValue) (q : KeyValue) (qs : List
 length-found bytes ps q qs (inl is) same = length-pairs_text-permutation ps (q ∷ qs) same ∙ ap length (sym is)
 length-found bytes ps q qs (inr none) same = absurd (omega (arith, length_permutation ps (q ∷ qs) same, ap length none.1))
 
-pub found_context : (bytes : List ℕ) (ps qs : List KeyValue) (n : ℕ) → IsBytes bytes → length bytes ≤ 65535 → split bytes ≡ Some ps → are_texts ps ≡ true → IsPermutation ps qs → IsAscending qs
+pub found_context : (bytes : List ℕ) (ps qs : List KeyValue) (n : ℕ) → AreBytes bytes → length bytes ≤ 65535 → split bytes ≡ Some ps → are_texts ps ≡ true → IsPermutation ps qs → IsAscending qs
     → n ≡ cond (eqb (length qs) 0) 0 (length bytes) → IsContext qs × (n ≡ length (ctx_text qs))
 found_context bytes ps [] n fits short e texts same up is = (record { ascending = up; texts = refl; short = omega arith }, is)
 found_context bytes ps (q ∷ qs) n fits short e texts same up is =

@@ -7,14 +7,12 @@ use Rattle.std.proofs.lemmas.List.{length-append}
 use Rattle.std.proofs.lemmas.List.Concat.{length-flat_map}
 use Rattle.std.proofs.lemmas.List.Sums.{sum_by-insert, sum_by-cons, get_or-le-sum_by}
 use Rattle.esdk_fields.specs.Numbers.{to_big_endian}
+use Rattle.esdk_fields.specs.Sized.{sized}
 use Rattle.esdk_fields.proofs.Again.{length-to_big_endian16}
-use Rattle.context_codec.specs.Context.{KeyValue, sized, pair_text, pairs_text, ctx_text}
+use Rattle.esdk_fields.proofs.Sized.{length-sized}
+use Rattle.context_codec.specs.Context.{KeyValue, pair_text, pairs_text, ctx_text}
 use Rattle.context_codec.specs.Fitting.{AreSized}
 use Rattle.context_codec.specs.Insert.{grown}
-
-pub length-sized : (text : List ℕ) → length (sized text) ≡ 2 + length text
-unfolding sized
-length-sized text = omega (arith, length-append (to_big_endian w16 (length text)) text, length-to_big_endian16 (length text))
 
 pub length-pair_text : (p : KeyValue) → length (pair_text p) ≡ 4 + length p.0 + length p.1
 unfolding pair_text

@@ -1,16 +1,14 @@
 -- Which fault the bytes have, in the words of their spelling.
 use Rattle.std.proofs.Common.{◌≡◌, ◌↔◌, inl, inr, ℕ, ◌+◌, ◌≤◌, true, false, List, length, get_or, Option, Some, None, refl, sym, ap, ◌∙◌, arith}
 use Rattle.std.specs.Str.{IsUtf8, is_utf8}
-use Rattle.std.proofs.lemmas.Bool.{cases_Bool, cases_lt, false_from_ne_true, false≢true, and_parts, and_from}
+use Rattle.std.proofs.lemmas.Bool.{cases_Bool, false_from_ne_true, false≢true, and_parts, and_from}
 use Rattle.std.proofs.lemmas.Str.{IsUtf8-from_is_utf8, is_utf8-from_IsUtf8}
-use Rattle.std.proofs.lemmas.List.{get_or_past}
 use Rattle.std.proofs.lemmas.List.Sums.{AllPass-from_list_all, list_all-from_AllPass}
 use Rattle.std.proofs.lemmas.List.Sorted.{IsPermutation-sym}
 use Rattle.esdk_fields.specs.declared.faults.ContextFault.TheVariants.{Length, Utf8, Duplicate}
-use Rattle.esdk_fields.proofs.Inverse.{IsBytes}
 use Rattle.context_codec.specs.Context.{KeyValue, is_text_pair, are_texts}
 use Rattle.context_codec.specs.Split.{split, keys_once, context_fault, SpellsContext}
-use Rattle.context_codec.specs.Spelling.{AreBytes, IsSpelling, AreTexts, AreDistinct, IsSpelledContext}
+use Rattle.context_codec.specs.Spelling.{IsSpelling, AreTexts, AreDistinct, IsSpelledContext}
 use Rattle.context_codec.specs.Laws.{IsField}
 use Rattle.context_codec.proofs.Sizes.{pairs_len, length-pairs_text, length-le-pairs_len, sized_from_len}
 use Rattle.context_codec.proofs.Keys.{ascends_from}
@@ -47,13 +45,6 @@ verdict bytes = verdict_by bytes (split bytes) refl
 
 -- ---- tests and facts
 
-pub bytes_from : (bytes : List ℕ) → AreBytes bytes → IsBytes bytes
-bytes_from bytes fits i =
-    elim (cases_lt i (length bytes)) [
-      | inl lt ↦ fits i 0 lt
-      | inr le ↦ rw (get_or_past bytes i 0 le) (omega arith)
-    ]
-
 text_pair_from : (p : KeyValue) → is_text_pair p ≡ true → IsUtf8 p.0 × IsUtf8 p.1
 text_pair_from p e = let parts = and_parts (is_utf8 p.0) (is_utf8 p.1) e in (IsUtf8-from_is_utf8 p.0 parts.0, IsUtf8-from_is_utf8 p.1 parts.1)
 
@@ -84,7 +75,7 @@ not_once_test pairs h = false_from_ne_true (keys_once pairs) (λ e. h (distinct_
 -- ---- spellings
 
 pub spelled_from : (bytes : List ℕ) → IsField bytes → (pairs : List KeyValue) → split bytes ≡ Some pairs → IsSpelling bytes pairs
-spelled_from bytes field pairs e = split_spelled bytes pairs (bytes_from bytes field.fits) e
+spelled_from bytes field pairs e = split_spelled bytes pairs field.fits e
 
 pub split_from : (bytes : List ℕ) → IsField bytes → (pairs : List KeyValue) → IsSpelling bytes pairs → split bytes ≡ Some pairs
 split_from bytes field pairs (inl is) =

@@ -1,28 +1,18 @@
 -- What is written is read back.
 use Rattle.std.proofs.Common.{◌≡◌, ℕ, ◌+◌, ◌<◌, ◌≤◌, List, [], ◌∷◌, ◌++◌, length, Some, refl, sym, ap, ◌∙◌, append_assoc, arith}
 use Rattle.std.specs.List.{flat_map, AllByRecursion}
-use Rattle.std.specs.Int.{w16}
 use Rattle.std.proofs.lemmas.List.{length-append, append-nil}
 use Rattle.std.proofs.lemmas.List.Elements.{recursion_from_All}
 use Rattle.std.proofs.lemmas.List.Sorted.{IsPermutation-refl}
 use Rattle.esdk_fields.specs.Place.{start}
-use Rattle.esdk_fields.specs.Numbers.{to_big_endian}
-use Rattle.esdk_fields.specs.Reading.{Read, then_read, ◌>>=◌, done, bytes, number, repeat}
-use Rattle.esdk_fields.proofs.Again.{number16_again, bytes_again, length-to_big_endian16, ReadsBack, repeat_again}
-use Rattle.context_codec.specs.Context.{KeyValue, sized, pair_text, pairs_text, ctx_text, IsContext}
+use Rattle.esdk_fields.specs.Reading.{Read, then_read, ◌>>=◌, done, repeat}
+use Rattle.esdk_fields.specs.Sized.{sized, sized_bytes}
+use Rattle.esdk_fields.proofs.Again.{number16_again, ReadsBack, repeat_again}
+use Rattle.esdk_fields.proofs.Sized.{sized_again}
+use Rattle.context_codec.specs.Context.{KeyValue, pair_text, pairs_text, ctx_text, IsContext}
 use Rattle.context_codec.specs.Fitting.{IsSized, AreSized}
-use Rattle.context_codec.specs.Split.{text, pair, counted, whole, split, SpellsContext}
+use Rattle.context_codec.specs.Split.{pair, counted, whole, split, SpellsContext}
 use Rattle.context_codec.proofs.Sizes.{length-pairs_text, sized_from_short, few_from_short}
-
-text_again : (t rest : List ℕ) (at : ℕ) → length t ≤ 65535 → text (record { at = at; left = sized t ++ rest }) ≡ Read t (record { at = at + length (sized t); left = rest })
-unfolding text sized
-text_again t rest at short =
-    let regrouped : (to_big_endian w16 (length t) ++ t) ++ rest ≡ to_big_endian w16 (length t) ++ (t ++ rest) = append_assoc (to_big_endian w16 (length t)) t rest in
-    let len : (at + 2) + length t ≡ at + length (to_big_endian w16 (length t) ++ t) = omega (arith, length-append (to_big_endian w16 (length t)) t, length-to_big_endian16 (length t)) in
-    ap (λ (b : List ℕ). then_read (number w16 (record { at = at; left = b })) bytes) regrouped
-    ∙ ap (λ r. then_read r bytes) (number16_again (length t) (t ++ rest) at (omega arith))
-    ∙ bytes_again t rest (length t) (at + 2) refl
-    ∙ ap (λ (k : ℕ). Read t (record { at = k; left = rest })) len
 
 pair_again : (p : KeyValue) → IsSized p → ReadsBack pair pair_text p
 unfolding pair pair_text
@@ -30,9 +20,9 @@ pair_again p fits = record {
   again = λ rest at.
       let regrouped : (sized p.0 ++ sized p.1) ++ rest ≡ sized p.0 ++ (sized p.1 ++ rest) = append_assoc (sized p.0) (sized p.1) rest in
       let len : (at + length (sized p.0)) + length (sized p.1) ≡ at + length (sized p.0 ++ sized p.1) = omega (arith, length-append (sized p.0) (sized p.1)) in
-      ap (λ (b : List ℕ). then_read (text (record { at = at; left = b })) (λ key. text >>= λ value. done (key, value))) regrouped
-      ∙ ap (λ r. then_read r (λ key. text >>= λ value. done (key, value))) (text_again p.0 (sized p.1 ++ rest) at fits.key)
-      ∙ ap (λ r. then_read r (λ value. done (p.0, value))) (text_again p.1 rest (at + length (sized p.0)) fits.value)
+      ap (λ (b : List ℕ). then_read (sized_bytes (record { at = at; left = b })) (λ key. sized_bytes >>= λ value. done (key, value))) regrouped
+      ∙ ap (λ r. then_read r (λ key. sized_bytes >>= λ value. done (key, value))) (sized_again p.0 (sized p.1 ++ rest) at fits.key)
+      ∙ ap (λ r. then_read r (λ value. done (p.0, value))) (sized_again p.1 rest (at + length (sized p.0)) fits.value)
       ∙ ap (λ (k : ℕ). Read p (record { at = k; left = rest })) len;
 }
 

@@ -8,6 +8,7 @@ use Rattle.std.specs.List.{AllAdjacentBelow, flat_map, list_all}
 use Rattle.std.specs.Str.{is_utf8, bytes_eq}
 use Rattle.std.specs.Int.{w16}
 use Rattle.esdk_fields.specs.Numbers.{to_big_endian}
+use Rattle.esdk_fields.specs.Sized.{sized}
 
 -- a key and its value, as bytes
 abbrev pub KeyValue : Type 0
@@ -30,10 +31,6 @@ KeyLess p q = slice_cmp nat_cmp p.0 q.0 ≡ Less
 -- the keys ascend, so that none stands twice
 abbrev pub IsAscending : List KeyValue → Type 0
 IsAscending pairs = AllAdjacentBelow KeyLess pairs (length pairs)
-
--- two bytes of length, and the text
-unfoldable pub sized : List ℕ → List ℕ
-sized text = to_big_endian w16 (length text) ++ text
 
 -- key length, key, value length, value
 unfoldable pub pair_text : KeyValue → List ℕ

@@ -1,9 +1,10 @@
 -- What the laws of this crate say of contexts and the bytes that spell them.
 use Rattle.std.specs.Prelude.{◌≡◌, ◌↔◌, ℕ, ◌≤◌, List, length, Some, None}
 use Rattle.esdk_fields.specs.declared.faults.ContextFault.TheVariants.{Length, Utf8, Duplicate}
+use Rattle.esdk_fields.specs.Bytes.{AreBytes}
 use Rattle.context_codec.specs.Context.{KeyValue, ctx_text, IsContext}
 use Rattle.context_codec.specs.Split.{split, context_fault, SpellsContext}
-use Rattle.context_codec.specs.Spelling.{AreBytes, IsSpelling, AreTexts, AreDistinct, IsSpelledContext}
+use Rattle.context_codec.specs.Spelling.{IsSpelling, AreTexts, AreDistinct, IsSpelledContext}
 
 -- bytes that a length field of two bytes can stand before
 pub record IsField (bytes : List ℕ) : Type 0 where

@@ -1,13 +1,9 @@
 -- The same acceptance without a reader: which bytes spell which pairs.
 -- AWS Encryption SDK Specification, "Message Header", AAD, Key Value Pairs.
-use Rattle.std.specs.Prelude.{◌≡◌, ◌≢◌, ◌⊎◌, ℕ, ◌<◌, List, [], All, AllPairs}
+use Rattle.std.specs.Prelude.{◌≡◌, ◌≢◌, ◌⊎◌, ℕ, List, [], All, AllPairs}
 use Rattle.std.specs.List.Sorted.{IsPermutation}
 use Rattle.std.specs.Str.{IsUtf8}
 use Rattle.context_codec.specs.Context.{KeyValue, pairs_text, IsAscending}
-
--- each element is a byte
-abbrev pub AreBytes : List ℕ → Type 0
-AreBytes bytes = All (λ b. b < 256) bytes
 
 -- The bytes are the count and the pairs one after another, in this order. No pairs are also spelled by no bytes.
 abbrev pub IsSpelling : List ℕ → List KeyValue → Type 0

@@ -6,19 +6,14 @@ use Rattle.std.specs.Int.{w16}
 use Rattle.esdk_fields.specs.declared.faults.ContextFault.{ContextFault}
 use Rattle.esdk_fields.specs.declared.faults.ContextFault.TheVariants.{Length, Utf8, Duplicate}
 use Rattle.esdk_fields.specs.Place.{start}
-use Rattle.esdk_fields.specs.Reading.{Reading, Read, Refused, Wanting, Reader, ◌>>=◌, done, number, bytes, repeat}
+use Rattle.esdk_fields.specs.Reading.{Reading, Read, Refused, Wanting, Reader, ◌>>=◌, done, number, repeat}
+use Rattle.esdk_fields.specs.Sized.{sized_bytes}
 use Rattle.context_codec.specs.Context.{KeyValue, are_texts, has_key, IsAscending}
-
--- two bytes of length, and that many bytes
-unfoldable pub text : Reader (List ℕ)
-text = do
-  n ← number w16
-  bytes n
 
 unfoldable pub pair : Reader KeyValue
 pair = do
-  key ← text
-  value ← text
+  key ← sized_bytes
+  value ← sized_bytes
   done (key, value)
 
 -- two bytes of count, and that many pairs

@@ -3,11 +3,11 @@
 ghost use Rattle.std.specs.Prelude.{IfOk};
 ghost use Rattle.esdk_fields.specs.Reading.{repeat};
 ghost use Rattle.esdk_fields.specs.Gives.{Gives};
-ghost use Rattle.context_codec.specs.Split.{text, pair, counted, split};
+ghost use Rattle.context_codec.specs.Split.{pair, counted, split};
 ghost use Rattle.context_codec.specs.Found.{FindsPairs};
 
 use crate::raw::RawPair;
-use esdk_fields::{Cursor, Stop, bytes_of, u16_of};
+use esdk_fields::{Cursor, Stop, sized_of, u16_of};
 use std::alloc::{AllocError, Global};
 
 /// The pairs that the bytes spell, in the order in which they stand there. None where the bytes spell no pairs.
@@ -60,16 +60,7 @@ fn pairs_of<'a>(
 fn pair_of<'a>(cursor: &mut Cursor<'a>) -> Result<RawPair<'a>, Stop>
     ensures { Gives (λ p. p) result cursor.new (pair cursor.old) }
 {
-    let key = text_of(cursor)?;
-    let value = text_of(cursor)?;
+    let key = sized_of(cursor)?;
+    let value = sized_of(cursor)?;
     Ok(RawPair::new(key, value))
-}
-
-/// Reads two bytes of length and that many bytes.
-#[tactic(auto, unfolding(crate::specs::Split::text))]
-fn text_of<'a>(cursor: &mut Cursor<'a>) -> Result<&'a [u8], Stop>
-    ensures { Gives (λ t. t.now) result cursor.new (text cursor.old) }
-{
-    let len = usize::from(u16_of(cursor)?);
-    bytes_of(cursor, len)
 }

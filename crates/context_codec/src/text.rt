@@ -1,13 +1,13 @@
 //! The text of a context.
 
-ghost use Rattle.std.specs.Prelude.{◌≡◌, ◌++◌, ◌≤◌, [], length, OnOk, IfOk};
+ghost use Rattle.std.specs.Prelude.{◌≡◌, ◌++◌, OnOk, IfOk};
 ghost use Rattle.std.specs.List.{flat_map};
-ghost use Rattle.context_codec.specs.Context.{ctx_text, sized, pair_text};
+ghost use Rattle.context_codec.specs.Context.{ctx_text, pair_text};
 ghost use Rattle.context_codec.specs.Fitting.{IsSized, AreSized};
 
 use crate::context::Context;
 use crate::pair::Pair;
-use esdk_fields::{Blob, put_u16};
+use esdk_fields::{Blob, put_sized, put_u16};
 use std::alloc::{AllocError, Global};
 
 impl Context {
@@ -44,16 +44,6 @@ fn put_pair(out: &mut Blob, pair: &Pair) -> Result<(), AllocError>
     requires { IsSized pair.now }
     ensures { OnOk result (out.new ≡ out.old ++ pair_text pair.now) }
 {
-    put_sized(out, pair.key())?;
-    put_sized(out, pair.value())
-}
-
-/// Appends two bytes of length, and the text.
-#[tactic(auto, unfolding(crate::specs::Context::sized), using(std::proofs::Common::append_assoc))]
-fn put_sized(out: &mut Blob, text: &str) -> Result<(), AllocError>
-    requires { length text.now ≤ 65535 }
-    ensures { OnOk result (out.new ≡ out.old ++ sized text.now) }
-{
-    put_u16(out, text.len() as u16)?;
-    out.push_all(text.as_bytes())
+    put_sized(out, pair.key().as_bytes())?;
+    put_sized(out, pair.value().as_bytes())
 }

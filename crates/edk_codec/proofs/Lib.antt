@@ -1,3 +1,2 @@
 pub mod Infos
-pub mod Sized
-pub mod Taken
+pub mod Entry

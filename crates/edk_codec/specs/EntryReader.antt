@@ -1,15 +1,9 @@
 -- Reading an encrypted data key, field by field. Standard: AWS Encryption SDK, message header, "Encrypted Data Key Entries".
-use Rattle.std.specs.Prelude.{◌≡◌, ℕ, List, Option, Some, None, Result, Ok, Err}
-use Rattle.std.specs.Int.{w16}
+use Rattle.std.specs.Prelude.{◌≡◌, Option, Some, None, Result, Ok, Err}
 use Rattle.esdk_fields.specs.Place.{Place}
-use Rattle.esdk_fields.specs.Reading.{Reading, Read, Wanting, Reader, ◌>>=◌, done, number, bytes}
+use Rattle.esdk_fields.specs.Reading.{Reading, Read, Wanting, Reader, ◌>>=◌, done}
+use Rattle.esdk_fields.specs.Sized.{sized_bytes}
 use Rattle.edk_codec.specs.Entry.{Entry}
-
--- two bytes of length, and that many bytes
-unfoldable pub sized_bytes : Reader (List ℕ)
-sized_bytes = do
-  n ← number w16
-  bytes n
 
 unfoldable pub entry : Reader Entry
 entry = do

@@ -1,5 +1,6 @@
 -- The text of an entry and the reader are two readings of one format.
-use Rattle.std.specs.Prelude.{◌≡◌, ℕ, ◌<◌, List, ◌++◌, length, All}
+use Rattle.std.specs.Prelude.{◌≡◌, ℕ, List, ◌++◌, length}
+use Rattle.esdk_fields.specs.Bytes.{AreBytes}
 use Rattle.esdk_fields.specs.Place.{Place, start}
 use Rattle.esdk_fields.specs.Reading.{Read, Refused}
 use Rattle.esdk_fields.specs.declared.faults.Fault.{Fault}
@@ -17,7 +18,7 @@ pub record BeginsWithEntry (bytes : List ℕ) (e : Entry) (end : Place) : Type 0
   pub behind : end.at ≡ length (edk_text e)
 
 abbrev pub ReadIsWritten : Type 0
-ReadIsWritten = (bytes : List ℕ) (e : Entry) (end : Place) → All (λ b. b < 256) bytes → entry (start bytes) ≡ Read e end → BeginsWithEntry bytes e end
+ReadIsWritten = (bytes : List ℕ) (e : Entry) (end : Place) → AreBytes bytes → entry (start bytes) ≡ Read e end → BeginsWithEntry bytes e end
 
 -- no bytes of an entry are refused: more are wanted, or it is read
 abbrev pub NoneRefused : Type 0

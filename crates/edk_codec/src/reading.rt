@@ -1,12 +1,12 @@
 //! Reading an entry from a cursor.
 
-ghost use Rattle.std.specs.Prelude.{◌≡◌, ◌≤◌, length, IfSome};
+ghost use Rattle.std.specs.Prelude.{IfSome};
 ghost use Rattle.edk_codec.specs.Entry.{IsEntry};
-ghost use Rattle.edk_codec.specs.EntryReader.{sized_bytes, entry, ReadsPart, ReadsEntry};
+ghost use Rattle.edk_codec.specs.EntryReader.{entry, ReadsPart, ReadsEntry};
 ghost use Rattle.edk_codec.specs.Parts.{parts_view};
 
 use crate::entries::DataKeyEntry;
-use esdk_fields::Cursor;
+use esdk_fields::{Cursor, sized_of};
 use std::alloc::{AllocError, Global};
 
 /// The three parts of an entry, where they stand in the bytes.
@@ -17,25 +17,15 @@ struct Parts<'a> {
     cipher: &'a [u8],
 }
 
-/// Reads two bytes of length, and that many bytes. None exactly where fewer are left.
-#[tactic(auto, unfolding(crate::specs::EntryReader::sized_bytes))]
-fn sized_of<'a>(cursor: &mut Cursor<'a>) -> Option<&'a [u8]>
-    ensures reads { ReadsPart (λ part. part.now) result cursor.new (sized_bytes cursor.old) }
-    ensures short { IfSome result (λ part. length part.now ≤ 65535) }
-{
-    let len = cursor.u16()?;
-    cursor.take(usize::from(len))
-}
-
 /// Reads the three parts of an entry. None exactly where they aren't whole.
 #[tactic(auto, unfolding(crate::specs::EntryReader::entry))]
 fn parts_of<'a>(cursor: &mut Cursor<'a>) -> Option<Parts<'a>>
     ensures reads { ReadsPart parts_view result cursor.new (entry cursor.old) }
     ensures short { IfSome result (λ parts. IsEntry (parts_view parts)) }
 {
-    let provider = sized_of(cursor)?;
-    let info = sized_of(cursor)?;
-    let cipher = sized_of(cursor)?;
+    let provider = sized_of(cursor).ok()?;
+    let info = sized_of(cursor).ok()?;
+    let cipher = sized_of(cursor).ok()?;
     Some(Parts {
         provider,
         info,

@@ -1,21 +1,11 @@
 //! The text of an entry.
 
-ghost use Rattle.std.specs.Prelude.{◌≡◌, ◌≤◌, ◌++◌, length, OnOk, OnErr};
-ghost use Rattle.edk_codec.specs.Entry.{sized, edk_text};
+ghost use Rattle.std.specs.Prelude.{◌≡◌, ◌++◌, OnOk, OnErr};
+ghost use Rattle.edk_codec.specs.Entry.{edk_text};
 
 use crate::entries::DataKeyEntry;
-use esdk_fields::{Blob, put_u16};
+use esdk_fields::{Blob, put_sized};
 use std::alloc::{AllocError, Global};
-
-/// Appends two bytes of length, and the bytes.
-#[tactic(auto, unfolding(crate::specs::Entry::sized), using(std::proofs::Common::append_assoc))]
-fn put_sized(out: &mut Blob, bytes: &[u8]) -> Result<(), AllocError>
-    requires { length bytes.now ≤ 65535 }
-    ensures { OnOk result (out.new ≡ out.old ++ sized bytes.now) }
-{
-    put_u16(out, bytes.len() as u16)?;
-    out.push_all(bytes)
-}
 
 /// Appends the entry's text. Where memory runs out, the bytes stay as they were.
 #[tactic(auto, unfolding(crate::specs::Entry::edk_text), using(std::proofs::Common::append_assoc))]

@@ -1,12 +1,14 @@
 -- What stood there, where a reader read a value, refused or wanted more.
-use Rattle.std.proofs.Common.{◌≡◌, ℕ, ◌<◌, ◌≤◌, Bool, true, false, cond, ltb, List, length, take, get_or, Option, Some, None, refl, inl, inr, ◌⊎◌}
+use Rattle.std.proofs.Common.{◌≡◌, ℕ, ◌≤◌, Bool, true, false, cond, ltb, List, length, take, Option, Some, None, refl, inl, inr, ◌⊎◌}
 use Rattle.std.specs.Int.{w16, w32, w64}
 use Rattle.std.proofs.lemmas.Bool.{ltb-false}
 use Rattle.std.proofs.lemmas.Nat.{be_bytes_2, be_bytes_4, be_bytes_8}
 use Rattle.esdk_fields.specs.declared.faults.Fault.{Fault}
+use Rattle.esdk_fields.specs.Bytes.{AreBytes}
 use Rattle.esdk_fields.specs.Place.{Place, past}
 use Rattle.esdk_fields.specs.Numbers.{from_big_endian, to_big_endian}
 use Rattle.esdk_fields.specs.Reading.{Reading, Read, Refused, Wanting, Reader, then_read, field, refuse_if, judge}
+use Rattle.esdk_fields.proofs.Bytes.{byte_at}
 
 pub read_same : {A : Type 0} (x y : A) (p q : Place) → Read x p ≡ Read y q → (x ≡ y) × (p ≡ q)
 read_same x y p q e = (cc, cc)
@@ -79,18 +81,14 @@ judge_is_read None p x next e = (refl, cc)
 
 -- ---- numbers
 
--- each is a byte
-abbrev pub IsBytes : List ℕ → Type 0
-IsBytes bytes = (i : ℕ) → get_or bytes i 0 < 256
-
-pub to-from_big_endian16 : (bytes : List ℕ) → length bytes ≡ 2 → IsBytes bytes → to_big_endian w16 (from_big_endian w16 bytes) ≡ bytes
+pub to-from_big_endian16 : (bytes : List ℕ) → length bytes ≡ 2 → AreBytes bytes → to_big_endian w16 (from_big_endian w16 bytes) ≡ bytes
 unfolding from_big_endian to_big_endian
-to-from_big_endian16 bytes len fits = be_bytes_2 bytes _ len fits refl
+to-from_big_endian16 bytes len fits = be_bytes_2 bytes _ len (byte_at bytes fits) refl
 
-pub to-from_big_endian32 : (bytes : List ℕ) → length bytes ≡ 4 → IsBytes bytes → to_big_endian w32 (from_big_endian w32 bytes) ≡ bytes
+pub to-from_big_endian32 : (bytes : List ℕ) → length bytes ≡ 4 → AreBytes bytes → to_big_endian w32 (from_big_endian w32 bytes) ≡ bytes
 unfolding from_big_endian to_big_endian
-to-from_big_endian32 bytes len fits = be_bytes_4 bytes _ len fits refl
+to-from_big_endian32 bytes len fits = be_bytes_4 bytes _ len (byte_at bytes fits) refl
 
-pub to-from_big_endian64 : (bytes : List ℕ) → length bytes ≡ 8 → IsBytes bytes → to_big_endian w64 (from_big_endian w64 bytes) ≡ bytes
+pub to-from_big_endian64 : (bytes : List ℕ) → length bytes ≡ 8 → AreBytes bytes → to_big_endian w64 (from_big_endian w64 bytes) ≡ bytes
 unfolding from_big_endian to_big_endian
-to-from_big_endian64 bytes len fits = be_bytes_8 bytes _ len fits refl
+to-from_big_endian64 bytes len fits = be_bytes_8 bytes _ len (byte_at bytes fits) refl

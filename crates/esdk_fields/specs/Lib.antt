@@ -1,7 +1,9 @@
+pub mod Bytes
 pub mod Place
 pub mod Numbers
 pub mod Taking
 pub mod Reading
+pub mod Sized
 pub mod Gives
 pub mod Sequential
 pub mod Report

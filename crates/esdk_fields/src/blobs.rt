@@ -1,8 +1,9 @@
-//! Bytes that grow at the end, and the big-endian numbers that are put there.
+//! Bytes that grow at the end, and what is put there: big-endian numbers, and bytes behind their length.
 
-ghost use Rattle.std.specs.Prelude.{◌≡◌, ◌++◌, [], OnOk, OnErr};
+ghost use Rattle.std.specs.Prelude.{◌≡◌, ◌≤◌, ◌++◌, [], length, OnOk, OnErr};
 ghost use Rattle.std.specs.Int.{w16, w32, w64};
 ghost use Rattle.esdk_fields.specs.Numbers.{to_big_endian};
+ghost use Rattle.esdk_fields.specs.Sized.{sized};
 
 use std::alloc::{AllocError, Global};
 use std::marker::Model;
@@ -75,4 +76,20 @@ pub fn put_u64(out: &mut Blob, n: u64) -> Result<(), AllocError>
 {
     let eight = n.to_be_bytes();
     out.push_all(&eight)
+}
+
+/// Appends two bytes of length, and the bytes. Where memory runs out, the bytes before stay as they were.
+#[tactic(auto, unfolding(crate::specs::Sized::sized), using(std::proofs::Common::append_assoc))]
+pub fn put_sized(out: &mut Blob, bytes: &[u8]) -> Result<(), AllocError>
+    requires { length bytes.now ≤ 65535 }
+    ensures ok { OnOk result (out.new ≡ out.old ++ sized bytes.now) }
+    ensures err { OnErr result (out.new ≡ out.old) }
+{
+    let len = out.inner.len();
+    put_u16(out, bytes.len() as u16)?;
+    let put = out.push_all(bytes);
+    if put.is_err() {
+        out.inner.truncate(len);
+    }
+    put
 }

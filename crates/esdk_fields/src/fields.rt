@@ -1,7 +1,10 @@
 //! The fields that every format is made of, read from a cursor.
 
+ghost use Rattle.std.specs.Prelude.{◌≡◌, ◌≤◌, length, IfOk, IfErr};
 ghost use Rattle.std.specs.Int.{w8, w16, w32, w64};
+ghost use Rattle.esdk_fields.specs.declared.stops.Stop.TheVariants as stops;
 ghost use Rattle.esdk_fields.specs.Reading.{bytes, number};
+ghost use Rattle.esdk_fields.specs.Sized.{sized_bytes};
 ghost use Rattle.esdk_fields.specs.Gives.{Gives, TakesNoMemory};
 
 use crate::cursors::Cursor;
@@ -45,4 +48,15 @@ pub fn bytes_of<'a>(cursor: &mut Cursor<'a>, n: usize) -> Result<&'a [u8], Stop>
     ensures no_memory { TakesNoMemory result }
 {
     cursor.take(n).ok_or(Stop::Wanting)
+}
+
+/// Reads two bytes of length, and that many bytes. `Wanting` exactly where fewer are left.
+#[tactic(auto, unfolding(crate::specs::Sized::sized_bytes))]
+pub fn sized_of<'a>(cursor: &mut Cursor<'a>) -> Result<&'a [u8], Stop>
+    ensures reads { Gives (λ field. field.now) result cursor.new (sized_bytes cursor.old) }
+    ensures short { IfOk result (λ field. length field.now ≤ 65535) }
+    ensures wanting { IfErr result (λ stop. stop ≡ stops.Wanting) }
+{
+    let len = cursor.u16().ok_or(Stop::Wanting)?;
+    cursor.take(usize::from(len)).ok_or(Stop::Wanting)
 }

@@ -3,6 +3,7 @@
 #![tactic(auto)]
 
 mod blobs;
+mod contents;
 mod cursors;
 mod faults;
 mod fields;
@@ -12,12 +13,13 @@ mod report;
 mod stops;
 mod texts;
 
-pub use blobs::{Blob, put_u16, put_u32, put_u64};
+pub use blobs::{Blob, put_sized, put_u16, put_u32, put_u64};
+pub use contents::Content;
 pub use cursors::Cursor;
 pub use faults::{ContextFault, Fault};
-pub use fields::{bytes_of, u8_of, u16_of, u32_of, u64_of};
+pub use fields::{bytes_of, sized_of, u8_of, u16_of, u32_of, u64_of};
 pub use laws::{fields_come_in_order, judgement_stands, numbers_are_read_back};
-pub use refusals::{Content, FieldError, Outside, Refusal};
+pub use refusals::{FieldError, Outside, Refusal};
 pub use report::{fault_text, outside_text, printed, refusal_text};
 pub use stops::{Stop, refused};
 pub use texts::Text;

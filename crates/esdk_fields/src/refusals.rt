@@ -1,4 +1,4 @@
-//! Why a request, a read or a run is refused, and how content is cut.
+//! Why a request, a read or a run is refused.
 
 ghost use Rattle.std.specs.Prelude.{◌≡◌};
 
@@ -79,13 +79,4 @@ impl<T: Drop> From<AllocFailed<T>> for FieldError {
     fn from(_: AllocFailed<T>) -> FieldError {
         FieldError::Memory
     }
-}
-
-/// How the content of a message is cut. Standard: AWS Encryption SDK Specification, message header, content type and frame length.
-#[derive(Clone, Copy, PartialEq, Eq)]
-pub enum Content {
-    /// One block of any length.
-    Single,
-    /// Frames of this many bytes, at least 1.
-    Framed(u32),
 }

@@ -46,6 +46,18 @@ fn fields_are_read_or_wanted(rt: HostRuntime) {
 }
 
 #[test]
+fn bytes_stand_behind_their_length(rt: HostRuntime) -> Result<(), AllocError> {
+    let mut out = Blob::new(rt.alloc());
+    put_sized(&mut out, b"abc")?;
+    let text: [u8; 5] = [0, 3, b'a', b'b', b'c'];
+    assert_eq!(rt; out.bytes(), text.as_slice());
+    let mut cursor = Cursor::new(&text);
+    assert!(rt; matches!(sized_of(&mut cursor), Ok([b'a', b'b', b'c'])));
+    assert!(rt; matches!(sized_of(&mut cursor), Err(Stop::Wanting)));
+    Ok(())
+}
+
+#[test]
 fn texts_are_ordered_by_their_bytes(rt: HostRuntime) -> Result<(), AllocError> {
     let long = Text::new(rt.alloc(), "aa")?;
     let short = Text::new(rt.alloc(), "b")?;

@@ -5,8 +5,8 @@ use Rattle.hex.specs.Hex.{encode_lower}
 use Rattle.serde_json.specs.Data.{object, string, Members, no_members, member}
 use Rattle.serde_json.specs.Written.{compact_text}
 use Rattle.esdk_fields.specs.Numbers.{to_big_endian}
-use Rattle.esdk_fields.specs.declared.refusals.Content.{Content}
-use Rattle.esdk_fields.specs.declared.refusals.Content.TheVariants.{Single, Framed}
+use Rattle.esdk_fields.specs.declared.contents.Content.{Content}
+use Rattle.esdk_fields.specs.declared.contents.Content.TheVariants.{Single, Framed}
 use Rattle.context_codec.specs.Context.{KeyValue}
 use Rattle.edk_codec.specs.Entry.{Entry}
 use Rattle.header_codec.specs.Header.{HeaderValue, frame_length}

@@ -2,8 +2,8 @@
 use Rattle.std.proofs.Common.{◌≡◌, ◌≢◌, ℕ, ◌<◌, ◌≤◌, ◌^◌, Bool, true, false, not, ◌&&◌, ◌||◌, cond, eqb, Option, Some, None, refl, arith}
 use Rattle.std.specs.Prelude.{IfSome, IsSomeAnd}
 use Rattle.std.proofs.lemmas.Bool.{eqb-true, eqb-false, ltb-true, ltb-false, le-ltb, lt-ltb, ne_eqb}
-use Rattle.esdk_fields.specs.declared.refusals.Content.{Content}
-use Rattle.esdk_fields.specs.declared.refusals.Content.TheVariants.{Single, Framed}
+use Rattle.esdk_fields.specs.declared.contents.Content.{Content}
+use Rattle.esdk_fields.specs.declared.contents.Content.TheVariants.{Single, Framed}
 use Rattle.header_codec.specs.Header.{content_type, frame_length, IsContent}
 use Rattle.header_codec.specs.Table.{is_over, is_content_type, is_frame_length, is_unit_over, content_of}
 

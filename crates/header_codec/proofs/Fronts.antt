@@ -6,13 +6,15 @@ use Rattle.std.specs.List.{flat_map, AllByRecursion}
 use Rattle.std.proofs.lemmas.Bool.{eqb-true, ltb-false}
 use Rattle.std.proofs.lemmas.List.Concat.{flat_map-cons}
 use Rattle.esdk_fields.specs.declared.faults.Fault.TheVariants.{BadVersion, UnsupportedSuite, BadContext, HeaderTooLong}
+use Rattle.esdk_fields.specs.Bytes.{AreBytes}
 use Rattle.esdk_fields.specs.Place.{Place}
 use Rattle.esdk_fields.specs.Numbers.{to_big_endian}
 use Rattle.esdk_fields.specs.Reading.{Read, ◌>>=◌, ◌>>◌, done, bytes, number, judge, repeat}
-use Rattle.esdk_fields.proofs.Inverse.{IsBytes, read_same, then_is_read}
+use Rattle.esdk_fields.specs.Sized.{sized}
+use Rattle.esdk_fields.proofs.Inverse.{read_same, then_is_read}
+use Rattle.esdk_fields.proofs.Taken.{IsTaken, IsTaken-then, bytes_taken, number8_taken, number16_taken}
 use Rattle.context_codec.specs.Split.{context_fault}
-use Rattle.edk_codec.specs.Entry.{Entry, IsEntry, sized, edk_text}
-use Rattle.edk_codec.proofs.Taken.{IsTaken, IsTaken-then, bytes_taken, number8_taken, number16_taken}
+use Rattle.edk_codec.specs.Entry.{Entry, IsEntry, edk_text}
 use Rattle.header_codec.specs.Header.{latest_end, opening_text}
 use Rattle.header_codec.specs.Table.{opening, context_field, part, entry}
 use Rattle.header_codec.proofs.Steps.{after_version, after_suite, after_context_length, after_part_length, after_provider, after_info}
@@ -22,7 +24,7 @@ pub not_false : (b : Bool) → not b ≡ false → b ≡ true
 not_false true e = refl
 not_false false e = absurd cc
 
-pub opening_taken : (p : Place) (id : List ℕ) (q : Place) → IsBytes p.left → opening p ≡ Read id q → IsTaken p (opening_text id) q × (length id ≡ 32)
+pub opening_taken : (p : Place) (id : List ℕ) (q : Place) → AreBytes p.left → opening p ≡ Read id q → IsTaken p (opening_text id) q × (length id ≡ 32)
 unfolding opening opening_text
 opening_taken p id q fits e =
     let a = then_is_read (number w8 p) after_version id q e in
@@ -42,7 +44,7 @@ pub option_map_none : {A B : Type 0} (f : A → B) (o : Option A) → option_map
 option_map_none f (Some x) e = absurd cc
 option_map_none f None e = refl
 
-pub context_taken : (p : Place) (context : List ℕ) (q : Place) → IsBytes p.left → context_field p ≡ Read context q → IsTaken p (sized context) q × (length context ≤ 65535) × (context_fault context ≡ None)
+pub context_taken : (p : Place) (context : List ℕ) (q : Place) → AreBytes p.left → context_field p ≡ Read context q → IsTaken p (sized context) q × (length context ≤ 65535) × (context_fault context ≡ None)
 unfolding context_field sized
 context_taken p context q fits e =
     let a = then_is_read (number w16 p) after_context_length context q e in
@@ -57,7 +59,7 @@ context_taken p context q fits e =
     subst (λ (r : Place). IsTaken p (to_big_endian w16 (length context) ++ context) r × (length context ≤ 65535) × (context_fault context ≡ None)) same.1
     (subst (λ (x : List ℕ). IsTaken p (to_big_endian w16 (length x) ++ x) b.next × (length x ≤ 65535) × (context_fault x ≡ None)) same.0 found)
 
-pub part_taken : (p : Place) (x : List ℕ) (q : Place) → IsBytes p.left → part p ≡ Read x q → IsTaken p (sized x) q × (length x ≤ 65535) × (q.at ≤ latest_end)
+pub part_taken : (p : Place) (x : List ℕ) (q : Place) → AreBytes p.left → part p ≡ Read x q → IsTaken p (sized x) q × (length x ≤ 65535) × (q.at ≤ latest_end)
 unfolding part sized
 part_taken p x q fits e =
     let a = then_is_read (number w16 p) after_part_length x q e in
@@ -67,7 +69,7 @@ part_taken p x q fits e =
     let inside : a.next.at + a.value ≤ latest_end = ltb-false latest_end (a.next.at + a.value) b.0 in
     (rw t.1 (IsTaken-then p (to_big_endian w16 a.value) a.next x q n.0 t.0), omega (arith, n.1, t.1), omega (arith, t.0.end, t.1))
 
-pub entry_taken : (p : Place) (e : Entry) (q : Place) → IsBytes p.left → entry p ≡ Read e q → IsTaken p (edk_text e) q × IsEntry e × (q.at ≤ latest_end)
+pub entry_taken : (p : Place) (e : Entry) (q : Place) → AreBytes p.left → entry p ≡ Read e q → IsTaken p (edk_text e) q × IsEntry e × (q.at ≤ latest_end)
 unfolding entry edk_text
 entry_taken p e q fits r =
     let a = then_is_read (part p) after_provider e q r in
@@ -91,7 +93,7 @@ pub record EntriesTaken (p : Place) (es : List Entry) (q : Place) (count : ℕ) 
   pub entries : AllByRecursion IsEntry es
   pub within : p.at ≤ latest_end → q.at ≤ latest_end
 
-pub entries_taken : (count : ℕ) (p : Place) (es : List Entry) (q : Place) → IsBytes p.left → repeat entry count p ≡ Read es q → EntriesTaken p es q count
+pub entries_taken : (count : ℕ) (p : Place) (es : List Entry) (q : Place) → AreBytes p.left → repeat entry count p ≡ Read es q → EntriesTaken p es q count
 unfolding repeat
 entries_taken zero p es q fits e =
     let same = read_same [] es p q e in

@@ -8,14 +8,17 @@ use Rattle.std.proofs.lemmas.List.{length-append}
 use Rattle.std.proofs.lemmas.List.Elements.{All-from_recursion}
 use Rattle.esdk_fields.specs.declared.faults.Fault.{Fault}
 use Rattle.esdk_fields.specs.declared.faults.Fault.TheVariants.{NoDataKeys, TooManyDataKeys, BadContentType, BadFrameLength, HeaderTooLong, UnitTooLong}
-use Rattle.esdk_fields.specs.declared.refusals.Content.{Content}
+use Rattle.esdk_fields.specs.declared.contents.Content.{Content}
+use Rattle.esdk_fields.specs.Bytes.{AreBytes}
 use Rattle.esdk_fields.specs.Place.{Place, start}
 use Rattle.esdk_fields.specs.Numbers.{from_big_endian, to_big_endian}
 use Rattle.esdk_fields.specs.Reading.{Read, Refused, ◌>>=◌, ◌>>◌, done, bytes, number, refuse_if, repeat}
+use Rattle.esdk_fields.specs.Sized.{sized}
 use Rattle.esdk_fields.proofs.Again.{length-to_big_endian16}
-use Rattle.esdk_fields.proofs.Inverse.{IsBytes, then_is_refused, field_not_refused}
-use Rattle.edk_codec.specs.Entry.{Entry, IsEntry, sized}
-use Rattle.edk_codec.proofs.Taken.{IsTaken, IsTaken-then, number8_taken, number16_taken, number32_taken}
+use Rattle.esdk_fields.proofs.Inverse.{then_is_refused, field_not_refused}
+use Rattle.esdk_fields.proofs.Sized.{length-sized}
+use Rattle.esdk_fields.proofs.Taken.{IsTaken, IsTaken-then, number8_taken, number16_taken, number32_taken}
+use Rattle.edk_codec.specs.Entry.{Entry, IsEntry}
 use Rattle.header_codec.specs.declared.settings.Settings.{Settings}
 use Rattle.header_codec.specs.Header.{latest_end, opening_text, edks_text}
 use Rattle.header_codec.specs.Table.{Head, is_over, is_content_type, is_frame_length, is_unit_over, content_of, opening, context_field, entry, data_keys, content, header}
@@ -25,7 +28,7 @@ use Rattle.header_codec.proofs.Steps.{after_count, after_kind, after_frame, afte
 use Rattle.header_codec.proofs.Readings.{guard_refused}
 use Rattle.header_codec.proofs.Fronts.{not_false, opening_taken, context_taken}
 use Rattle.header_codec.proofs.Contents.{within_limit, over_limit}
-use Rattle.header_codec.proofs.Spelled.{keys_taken, length-sized, length-opening_text}
+use Rattle.header_codec.proofs.Spelled.{keys_taken, length-opening_text}
 use Rattle.header_codec.proofs.Refused.{offends_at, not_true, opening_offends, context_offends, LateParts, entries_late}
 
 pub length-opened_text : (id context : List ℕ) → length (opened_text id context) ≡ 5 + length id + length context
@@ -160,7 +163,7 @@ tail_not_refused id context entries kind p fault at e =
     not_refused : (x : Head) (q : Place) (f : Fault) (n : ℕ) → Read x q ≡ Refused f n → ⊥
     not_refused x q f n e = cc
 
-pub has_offence : (settings : Settings) (b : List ℕ) (fault : Fault) (at : ℕ) → IsBytes b → header settings (start b) ≡ Refused fault at → HasOffence settings b fault at
+pub has_offence : (settings : Settings) (b : List ℕ) (fault : Fault) (at : ℕ) → AreBytes b → header settings (start b) ≡ Refused fault at → HasOffence settings b fault at
 unfolding header opened_text keys_text
 has_offence settings b fault at fits e =
     elim (then_is_refused (opening (start b)) (after_opening settings) fault at e) [

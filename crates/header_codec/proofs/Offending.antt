@@ -11,9 +11,10 @@ use Rattle.esdk_fields.specs.declared.faults.Fault.{Fault}
 use Rattle.esdk_fields.specs.declared.faults.Fault.TheVariants.{BadVersion, UnsupportedSuite, BadContext, NoDataKeys, TooManyDataKeys, HeaderTooLong}
 use Rattle.esdk_fields.specs.Numbers.{to_big_endian}
 use Rattle.esdk_fields.specs.Reading.{Refused, Reader, ◌>>=◌, ◌>>◌, done, bytes, number, refuse_if, judge, repeat}
+use Rattle.esdk_fields.specs.Sized.{sized}
 use Rattle.esdk_fields.proofs.Again.{length-to_big_endian16}
 use Rattle.context_codec.specs.Split.{context_fault}
-use Rattle.edk_codec.specs.Entry.{Entry, IsEntry, sized, edk_text}
+use Rattle.edk_codec.specs.Entry.{Entry, IsEntry, edk_text}
 use Rattle.header_codec.specs.declared.settings.Settings.{Settings}
 use Rattle.header_codec.specs.Header.{latest_end, opening_text}
 use Rattle.header_codec.specs.Table.{is_over, opening, context_field, part, entry, data_keys, header}

@@ -9,14 +9,16 @@ use Rattle.std.proofs.lemmas.List.Concat.{flat_map-cons}
 use Rattle.esdk_fields.specs.declared.faults.ContextFault.{ContextFault}
 use Rattle.esdk_fields.specs.declared.faults.Fault.{Fault}
 use Rattle.esdk_fields.specs.declared.faults.Fault.TheVariants.{BadVersion, UnsupportedSuite, BadContext, HeaderTooLong}
+use Rattle.esdk_fields.specs.Bytes.{AreBytes}
 use Rattle.esdk_fields.specs.Place.{Place, start}
 use Rattle.esdk_fields.specs.Numbers.{from_big_endian, to_big_endian}
 use Rattle.esdk_fields.specs.Reading.{Read, Refused, ◌>>=◌, ◌>>◌, done, bytes, number, judge, repeat}
+use Rattle.esdk_fields.specs.Sized.{sized}
 use Rattle.esdk_fields.proofs.Again.{length-to_big_endian16}
-use Rattle.esdk_fields.proofs.Inverse.{IsBytes, read_same, then_is_read, then_is_refused, field_not_refused}
+use Rattle.esdk_fields.proofs.Inverse.{read_same, then_is_read, then_is_refused, field_not_refused}
+use Rattle.esdk_fields.proofs.Taken.{IsTaken, IsTaken-then, bytes_taken, number8_taken, number16_taken}
 use Rattle.context_codec.specs.Split.{context_fault}
-use Rattle.edk_codec.specs.Entry.{Entry, sized}
-use Rattle.edk_codec.proofs.Taken.{IsTaken, IsTaken-then, bytes_taken, number8_taken, number16_taken}
+use Rattle.edk_codec.specs.Entry.{Entry}
 use Rattle.header_codec.specs.declared.settings.Settings.{Settings}
 use Rattle.header_codec.specs.Header.{latest_end, opening_text}
 use Rattle.header_codec.specs.Table.{opening, context_field, part, entry}
@@ -36,7 +38,7 @@ not_true false e = refl
 
 -- ---- version and suite
 
-pub opening_offends : (settings : Settings) (b : List ℕ) (fault : Fault) (at : ℕ) → IsBytes b → opening (start b) ≡ Refused fault at → HasOffence settings b fault at
+pub opening_offends : (settings : Settings) (b : List ℕ) (fault : Fault) (at : ℕ) → AreBytes b → opening (start b) ≡ Refused fault at → HasOffence settings b fault at
 unfolding opening
 opening_offends settings b fault at fits e =
     elim (then_is_refused (number w8 (start b)) after_version fault at e) [
@@ -144,7 +146,7 @@ late_more bound more p fault at h late = record {
   fault_is = late.fault_is;
 }
 
-part_late : (p : Place) (fault : Fault) (at : ℕ) → IsBytes p.left → p.at ≤ latest_end → part p ≡ Refused fault at → LateParts 1 p fault at
+part_late : (p : Place) (fault : Fault) (at : ℕ) → AreBytes p.left → p.at ≤ latest_end → part p ≡ Refused fault at → LateParts 1 p fault at
 unfolding part
 part_late p fault at fits low e =
     elim (then_is_refused (number w16 p) after_part_length fault at e) [
@@ -176,7 +178,7 @@ part_late p fault at fits low e =
     nothing : List ℕ
     nothing = []
 
-entry_late : (p : Place) (fault : Fault) (at : ℕ) → IsBytes p.left → p.at ≤ latest_end → entry p ≡ Refused fault at → LateParts 3 p fault at
+entry_late : (p : Place) (fault : Fault) (at : ℕ) → AreBytes p.left → p.at ≤ latest_end → entry p ≡ Refused fault at → LateParts 3 p fault at
 unfolding entry
 entry_late p fault at fits low e =
     elim (then_is_refused (part p) after_provider fault at e) [
@@ -198,7 +200,7 @@ entry_late p fault at fits low e =
     not_refused x q f n e = cc
 
 -- more parts after a whole entry
-late_after_entry : (bound : ℕ) (p : Place) (e : Entry) (q : Place) (fault : Fault) (at : ℕ) → IsBytes p.left → entry p ≡ Read e q → LateParts bound q fault at → LateParts (suc (suc (suc bound))) p fault at
+late_after_entry : (bound : ℕ) (p : Place) (e : Entry) (q : Place) (fault : Fault) (at : ℕ) → AreBytes p.left → entry p ≡ Read e q → LateParts bound q fault at → LateParts (suc (suc (suc bound))) p fault at
 unfolding entry
 late_after_entry bound p e q fault at fits r late =
     let a = then_is_read (part p) after_provider e q r in
@@ -213,7 +215,7 @@ late_after_entry bound p e q fault at fits r late =
     (late_after (suc bound) a.next b.value b.next fault at second.0 second.1
     (late_after bound b.next c.value c.next fault at third.0 third.1 there))
 
-pub entries_late : (count : ℕ) (p : Place) (fault : Fault) (at : ℕ) → IsBytes p.left → p.at ≤ latest_end → repeat entry count p ≡ Refused fault at → LateParts (3 * count) p fault at
+pub entries_late : (count : ℕ) (p : Place) (fault : Fault) (at : ℕ) → AreBytes p.left → p.at ≤ latest_end → repeat entry count p ≡ Refused fault at → LateParts (3 * count) p fault at
 unfolding repeat
 entries_late zero p fault at fits low e = absurd (not_refused [] p fault at e)
   where

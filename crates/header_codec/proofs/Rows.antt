@@ -11,7 +11,8 @@ use Rattle.esdk_fields.specs.declared.faults.Fault.TheVariants.{NoDataKeys, TooM
 use Rattle.esdk_fields.specs.Place.{start}
 use Rattle.esdk_fields.specs.Numbers.{to_big_endian}
 use Rattle.esdk_fields.specs.Reading.{Refused, ◌>>=◌, ◌>>◌, done, number, refuse_if, repeat}
-use Rattle.edk_codec.specs.Entry.{Entry, IsEntry, sized}
+use Rattle.esdk_fields.specs.Sized.{sized}
+use Rattle.edk_codec.specs.Entry.{Entry, IsEntry}
 use Rattle.header_codec.specs.declared.settings.Settings.{Settings}
 use Rattle.header_codec.specs.Header.{latest_end, opening_text, edks_text}
 use Rattle.header_codec.specs.Table.{is_over, is_content_type, is_frame_length, is_unit_over, content_of, opening, context_field, entry, data_keys, content, header}

@@ -7,16 +7,19 @@ use Rattle.std.proofs.lemmas.Bool.{eqb-false}
 use Rattle.std.proofs.lemmas.List.{length-append, take_at}
 use Rattle.std.proofs.lemmas.List.Elements.{All-from_recursion}
 use Rattle.esdk_fields.specs.declared.faults.Fault.TheVariants.{NoDataKeys, TooManyDataKeys, BadContentType, BadFrameLength, UnitTooLong}
-use Rattle.esdk_fields.specs.declared.refusals.Content.{Content}
+use Rattle.esdk_fields.specs.declared.contents.Content.{Content}
+use Rattle.esdk_fields.specs.Bytes.{AreBytes}
 use Rattle.esdk_fields.specs.Place.{Place, start}
 use Rattle.esdk_fields.specs.Numbers.{to_big_endian}
 use Rattle.esdk_fields.specs.Reading.{Read, ◌>>=◌, ◌>>◌, done, number, refuse_if, repeat}
+use Rattle.esdk_fields.specs.Sized.{sized}
 use Rattle.esdk_fields.proofs.Again.{length-to_big_endian8, length-to_big_endian16, length-to_big_endian32}
-use Rattle.esdk_fields.proofs.Inverse.{IsBytes, read_same, then_is_read}
+use Rattle.esdk_fields.proofs.Inverse.{read_same, then_is_read}
+use Rattle.esdk_fields.proofs.Sized.{length-sized}
+use Rattle.esdk_fields.proofs.Taken.{IsTaken, IsTaken-then, bytes_taken, number8_taken, number16_taken, number32_taken}
 use Rattle.context_codec.specs.Context.{KeyValue}
 use Rattle.context_codec.specs.Split.{SpellsContext}
-use Rattle.edk_codec.specs.Entry.{Entry, IsEntry, sized, edk_text}
-use Rattle.edk_codec.proofs.Taken.{IsTaken, IsTaken-then, bytes_taken, number8_taken, number16_taken, number32_taken}
+use Rattle.edk_codec.specs.Entry.{Entry, IsEntry, edk_text}
 use Rattle.header_codec.specs.declared.settings.Settings.{Settings}
 use Rattle.header_codec.specs.Header.{HeaderValue, latest_end, content_type, frame_length, IsContent, opening_text, edks_text, content_text, header_text}
 use Rattle.header_codec.specs.Table.{Head, is_over, is_content_type, is_frame_length, is_unit_over, content_of, entry, data_keys, content, header, made_of, BeginsWith}
@@ -36,7 +39,7 @@ pub record KeysTaken (max_keys : Option ℕ) (p : Place) (es : List Entry) (q : 
   pub entries : AllByRecursion IsEntry es
   pub within : q.at ≤ latest_end
 
-pub keys_taken : (max_keys : Option ℕ) (p : Place) (es : List Entry) (q : Place) → IsBytes p.left → p.at + 2 ≤ latest_end → data_keys max_keys p ≡ Read es q → KeysTaken max_keys p es q
+pub keys_taken : (max_keys : Option ℕ) (p : Place) (es : List Entry) (q : Place) → AreBytes p.left → p.at + 2 ≤ latest_end → data_keys max_keys p ≡ Read es q → KeysTaken max_keys p es q
 unfolding data_keys edks_text
 keys_taken max_keys p es q fits low e =
     let a = then_is_read (number w16 p) (after_count max_keys) es q e in
@@ -62,7 +65,7 @@ pub record ContentTaken (max_unit : Option ℕ) (p : Place) (c : Content) (q : P
   pub content : IsContent c
   pub limit : IfSome max_unit (λ most. frame_length c ≤ most)
 
-pub content_taken : (max_unit : Option ℕ) (p : Place) (c : Content) (q : Place) → IsBytes p.left → content max_unit p ≡ Read c q → ContentTaken max_unit p c q
+pub content_taken : (max_unit : Option ℕ) (p : Place) (c : Content) (q : Place) → AreBytes p.left → content max_unit p ≡ Read c q → ContentTaken max_unit p c q
 unfolding content content_text
 content_taken max_unit p c q fits e =
     let a = then_is_read (number w8 p) (after_kind max_unit) c q e in
@@ -93,11 +96,7 @@ unfolding content_text
 length-content_text c =
     omega (arith, length-append (to_big_endian w8 (content_type c)) (to_big_endian w32 (frame_length c)), length-to_big_endian8 (content_type c), length-to_big_endian32 (frame_length c))
 
-pub length-sized : (text : List ℕ) → length (sized text) ≡ 2 + length text
-unfolding sized
-length-sized text = omega (arith, length-append (to_big_endian w16 (length text)) text, length-to_big_endian16 (length text))
-
-pub spelled_made : (settings : Settings) (b : List ℕ) (parts : Head) (end : Place) (stored : List KeyValue) → IsBytes b → header settings (start b) ≡ Read parts end → SpellsContext parts.context stored
+pub spelled_made : (settings : Settings) (b : List ℕ) (parts : Head) (end : Place) (stored : List KeyValue) → AreBytes b → header settings (start b) ≡ Read parts end → SpellsContext parts.context stored
     → IsSpelled settings b (made_of b parts stored) end
 unfolding header_text
 spelled_made settings b parts end stored fits e spells =
@@ -142,6 +141,6 @@ spelled_made settings b parts end stored fits e spells =
       behind = omega (arith, tag.0.end, tag.1, five.end, ap length raw);
     }
 
-pub is_spelled : (settings : Settings) (b : List ℕ) (h : HeaderValue) (end : Place) → IsBytes b → BeginsWith settings b h end → IsSpelled settings b h end
+pub is_spelled : (settings : Settings) (b : List ℕ) (h : HeaderValue) (end : Place) → AreBytes b → BeginsWith settings b h end → IsSpelled settings b h end
 is_spelled settings b h end fits begins =
     subst (λ (x : HeaderValue). IsSpelled settings b x end) (sym begins.is) (spelled_made settings b begins.parts end h.stored fits begins.read begins.stored)

@@ -3,7 +3,7 @@ use Rattle.std.proofs.Common.{refl, subst}
 use Rattle.std.specs.Prelude.{◌≡◌, ℕ, ◌+◌, List, not, ◌==◌, nat_lt, Option, option_map}
 use Rattle.std.specs.Int.{w16, w32}
 use Rattle.esdk_fields.specs.declared.faults.Fault.TheVariants.{BadVersion, UnsupportedSuite, BadContext, NoDataKeys, TooManyDataKeys, BadContentType, BadFrameLength, HeaderTooLong, UnitTooLong}
-use Rattle.esdk_fields.specs.declared.refusals.Content.{Content}
+use Rattle.esdk_fields.specs.declared.contents.Content.{Content}
 use Rattle.esdk_fields.specs.Place.{Place}
 use Rattle.esdk_fields.specs.Reading.{Read, Reader, ◌>>=◌, ◌>>◌, done, bytes, number, here, refuse_if, judge, repeat}
 use Rattle.esdk_fields.proofs.Inverse.{read_same, then_is_read}

@@ -9,14 +9,15 @@ use Rattle.std.proofs.lemmas.List.Concat.{flat_map-cons}
 use Rattle.std.proofs.lemmas.List.Elements.{recursion_from_All}
 use Rattle.esdk_fields.specs.declared.faults.Fault.{Fault}
 use Rattle.esdk_fields.specs.declared.faults.Fault.TheVariants.{BadVersion, UnsupportedSuite, BadContext, NoDataKeys, TooManyDataKeys, BadContentType, BadFrameLength, HeaderTooLong, UnitTooLong}
-use Rattle.esdk_fields.specs.declared.refusals.Content.{Content}
+use Rattle.esdk_fields.specs.declared.contents.Content.{Content}
 use Rattle.esdk_fields.specs.Place.{Place, start}
 use Rattle.esdk_fields.specs.Numbers.{to_big_endian}
 use Rattle.esdk_fields.specs.Reading.{Read, Reader, ◌>>=◌, ◌>>◌, done, bytes, number, refuse_if, judge, repeat}
+use Rattle.esdk_fields.specs.Sized.{sized}
 use Rattle.esdk_fields.proofs.Again.{bytes_again, number8_again, number16_again, number32_again, length-to_big_endian8, length-to_big_endian16, length-to_big_endian32}
 use Rattle.context_codec.specs.Split.{context_fault}
 use Rattle.context_codec.proofs.Verdicts.{spells_fault_none}
-use Rattle.edk_codec.specs.Entry.{Entry, IsEntry, sized, edk_text}
+use Rattle.edk_codec.specs.Entry.{Entry, IsEntry, edk_text}
 use Rattle.header_codec.specs.declared.settings.Settings.{Settings}
 use Rattle.header_codec.specs.Header.{HeaderValue, latest_end, content_type, frame_length, IsContent, opening_text, edks_text, content_text, header_text}
 use Rattle.header_codec.specs.Table.{Head, is_over, is_content_type, is_frame_length, is_unit_over, content_of, opening, context_field, part, entry, data_keys, content, header, made_of, BeginsWith}

@@ -2,12 +2,13 @@
 use Rattle.std.specs.Prelude.{◌≡◌, ℕ, ◌+◌, ◌<◌, ◌≤◌, ◌^◌, List, ◌++◌, length, All, IfSome}
 use Rattle.std.specs.Int.{w8, w16, w32}
 use Rattle.std.specs.List.{flat_map}
-use Rattle.esdk_fields.specs.declared.refusals.Content.{Content}
-use Rattle.esdk_fields.specs.declared.refusals.Content.TheVariants.{Single, Framed}
+use Rattle.esdk_fields.specs.declared.contents.Content.{Content}
+use Rattle.esdk_fields.specs.declared.contents.Content.TheVariants.{Single, Framed}
 use Rattle.esdk_fields.specs.Numbers.{to_big_endian}
+use Rattle.esdk_fields.specs.Sized.{sized}
 use Rattle.context_codec.specs.Context.{KeyValue}
 use Rattle.context_codec.specs.Split.{SpellsContext}
-use Rattle.edk_codec.specs.Entry.{Entry, IsEntry, sized, edk_text}
+use Rattle.edk_codec.specs.Entry.{Entry, IsEntry, edk_text}
 use Rattle.header_codec.specs.declared.settings.Settings.{Settings}
 
 -- the fields of a header, its body as it stands in the message, and its authentication tag

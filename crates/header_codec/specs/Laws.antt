@@ -1,6 +1,7 @@
 -- What the laws of this crate say of the table, and of the headers that it reads.
-use Rattle.std.specs.Prelude.{◌≡◌, ◌↔◌, ℕ, ◌+◌, ◌<◌, List, ◌++◌, length, All}
+use Rattle.std.specs.Prelude.{◌≡◌, ◌↔◌, ℕ, ◌+◌, List, ◌++◌, length}
 use Rattle.esdk_fields.specs.declared.faults.Fault.{Fault}
+use Rattle.esdk_fields.specs.Bytes.{AreBytes}
 use Rattle.esdk_fields.specs.Laws.{JudgesInOrder}
 use Rattle.esdk_fields.specs.Place.{Place, start}
 use Rattle.esdk_fields.specs.Reading.{Read, Refused}
@@ -23,7 +24,7 @@ pub record IsSpelled (settings : Settings) (bytes : List ℕ) (h : HeaderValue) 
 
 -- The table reads a header exactly where the bytes begin with a spelling of it.
 abbrev pub ReadsSpelledHeaders : Type 0
-ReadsSpelledHeaders = (settings : Settings) (bytes : List ℕ) (h : HeaderValue) (end : Place) → All (λ b. b < 256) bytes
+ReadsSpelledHeaders = (settings : Settings) (bytes : List ℕ) (h : HeaderValue) (end : Place) → AreBytes bytes
     → BeginsWith settings bytes h end ↔ IsSpelled settings bytes h end
 
 -- The same bytes begin with no two headers.
@@ -38,5 +39,5 @@ ReadsSomeHeader = (settings : Settings) (bytes : List ℕ) (parts : Head) (end :
 -- A header is refused exactly where the fields at the front of the bytes have an offence, and with that fault. All fields before the one that has it
 -- are whole and have none, so this is the offence at the least offset where a field ends that has one; and where two rows speak of one field, the upper one.
 abbrev pub RefusesTheFirstOffence : Type 0
-RefusesTheFirstOffence = (settings : Settings) (bytes : List ℕ) (fault : Fault) (at : ℕ) → All (λ b. b < 256) bytes
+RefusesTheFirstOffence = (settings : Settings) (bytes : List ℕ) (fault : Fault) (at : ℕ) → AreBytes bytes
     → (header settings (start bytes) ≡ Refused fault at) ↔ HasOffence settings bytes fault at

@@ -7,8 +7,9 @@ use Rattle.esdk_fields.specs.declared.faults.ContextFault.{ContextFault}
 use Rattle.esdk_fields.specs.declared.faults.Fault.{Fault}
 use Rattle.esdk_fields.specs.declared.faults.Fault.TheVariants.{BadVersion, UnsupportedSuite, BadContext, NoDataKeys, TooManyDataKeys, BadContentType, BadFrameLength, HeaderTooLong, UnitTooLong}
 use Rattle.esdk_fields.specs.Numbers.{to_big_endian}
+use Rattle.esdk_fields.specs.Sized.{sized}
 use Rattle.context_codec.specs.Split.{context_fault}
-use Rattle.edk_codec.specs.Entry.{Entry, IsEntry, sized}
+use Rattle.edk_codec.specs.Entry.{Entry, IsEntry}
 use Rattle.header_codec.specs.declared.settings.Settings.{Settings}
 use Rattle.header_codec.specs.Header.{latest_end, opening_text, edks_text}
 

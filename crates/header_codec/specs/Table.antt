@@ -4,8 +4,8 @@ use Rattle.std.specs.Prelude.{◌≡◌, ℕ, ◌+◌, List, take, Bool, false, 
 use Rattle.std.specs.Int.{w8, w16, w32}
 use Rattle.esdk_fields.specs.declared.faults.Fault.{Fault}
 use Rattle.esdk_fields.specs.declared.faults.Fault.TheVariants.{BadVersion, UnsupportedSuite, BadContext, NoDataKeys, TooManyDataKeys, BadContentType, BadFrameLength, HeaderTooLong, UnitTooLong}
-use Rattle.esdk_fields.specs.declared.refusals.Content.{Content}
-use Rattle.esdk_fields.specs.declared.refusals.Content.TheVariants.{Single, Framed}
+use Rattle.esdk_fields.specs.declared.contents.Content.{Content}
+use Rattle.esdk_fields.specs.declared.contents.Content.TheVariants.{Single, Framed}
 use Rattle.esdk_fields.specs.Place.{Place, start}
 use Rattle.esdk_fields.specs.Reading.{Read, Reader, ◌>>=◌, ◌>>◌, done, bytes, number, here, refuse_if, judge, repeat, fault_of, value_of}
 use Rattle.context_codec.specs.Context.{KeyValue}

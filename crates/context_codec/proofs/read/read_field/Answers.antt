@@ -1,6 +1,8 @@
-use Rattle.std.proofs.Common.{◌≡◌, true, false, cond, eqb, List, length, subst, sym, ◌∙◌, ap, arith}
+use Rattle.std.proofs.Common.{◌≡◌, ◌<◌, true, false, cond, eqb, List, length, subst, sym, ◌∙◌, ap, arith}
 use Rattle.std.specs.List.Sorted.{IsPermutation}
+use Rattle.std.proofs.lemmas.List.Elements.{All-from_get_or}
 use Rattle.esdk_fields.specs.declared.faults.ContextFault.TheVariants.{Length, Utf8, Duplicate}
+use Rattle.esdk_fields.specs.Bytes.{AreBytes}
 use Rattle.context_codec.specs.Context.{KeyValue, are_texts, IsAscending}
 use Rattle.context_codec.specs.Split.{split}
 use Rattle.context_codec.specs.Found.{HasTie}
@@ -38,7 +40,8 @@ invariant_of-result c =
     let up : IsAscending c.sort.new.pairs.items = subst IsAscending c.deref-2.ensures.value c.if-not-keys_ascend.ensures in
     let len : c.text_len_of-text_len.result ≡ cond (eqb (length c.sort.new.pairs.items) 0) 0 (length c.args.bytes.now) =
     c.text_len_of-text_len.ensures ∙ ap (λ (ps : List KeyValue). cond (eqb (length ps) 0) 0 (length c.args.bytes.now)) c.deref-3.ensures.value in
-    found_context c.args.bytes.now c.in-Some.raw.items c.sort.new.pairs.items c.text_len_of-text_len.result (λ i. omega (arith, c.type_inv.bytes i)) c.requires spelled texts same up len
+    let fits : AreBytes c.args.bytes.now = All-from_get_or (λ b. b < 256) c.args.bytes.now 0 (λ i lt. omega (arith, c.type_inv.bytes i)) in
+    found_context c.args.bytes.now c.in-Some.raw.items c.sort.new.pairs.items c.text_len_of-text_len.result fits c.requires spelled texts same up len
 
 pub returns-clause-sound : goal.returns-clause-sound
 returns-clause-sound c =

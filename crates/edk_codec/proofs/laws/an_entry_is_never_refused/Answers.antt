@@ -1,4 +1,4 @@
-use Rattle.edk_codec.proofs.Sized.{entry_not_refused}
+use Rattle.edk_codec.proofs.Entry.{entry_not_refused}
 use Rattle.edk_codec.proofs.laws.an_entry_is_never_refused.Goals as goal
 
 pub returns : goal.returns

@@ -1,7 +1,7 @@
 use Rattle.std.proofs.Common.{ℕ, length, ap, ◌∙◌, zero-add}
 use Rattle.esdk_fields.specs.Reading.{Read}
 use Rattle.edk_codec.specs.Entry.{edk_text}
-use Rattle.edk_codec.proofs.Sized.{entry_again}
+use Rattle.edk_codec.proofs.Entry.{entry_again}
 use Rattle.edk_codec.proofs.laws.written_entry_is_read.Goals as goal
 
 pub returns : goal.returns

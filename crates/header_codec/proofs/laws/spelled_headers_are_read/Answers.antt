@@ -1,7 +1,6 @@
-use Rattle.edk_codec.proofs.Taken.{IsBytes-from_All}
 use Rattle.header_codec.proofs.Spelled.{is_spelled}
 use Rattle.header_codec.proofs.Written.{begins}
 use Rattle.header_codec.proofs.laws.spelled_headers_are_read.Goals as goal
 
 pub returns : goal.returns
-returns c = λ settings bytes h end fits. (is_spelled settings bytes h end (IsBytes-from_All bytes fits), begins settings bytes h end)
+returns c = λ settings bytes h end fits. (is_spelled settings bytes h end fits, begins settings bytes h end)
