@@ -1,17 +1,25 @@
 //! A key of AES-256, ready for use.
 
-ghost use Rattle.std.specs.Prelude.{◌≡◌, ℕ, List};
+ghost use Rattle.std.specs.Prelude.{◌≡◌, ℕ, List, map};
 ghost use Rattle.cipher_spec.specs.Aes.{aes, round_keys};
+ghost use Rattle.plane_core.specs.Places.{lane_bit, word_bit};
+ghost use Rattle.aes_core.specs.PlaneKeys.{HasKeys};
 
 use crate::cipher::cipher;
 use crate::key_schedule::round_keys;
+use crate::{eight, four};
+use plane_core::planes::Planes;
 use std::marker::Model;
+use std::simd::prelude::*;
 
-/// A key of AES-256 (FIPS 197): its 32 bytes, and the round keys that were made from them.
+/// A key of AES-256 (FIPS 197): its 32 bytes, the round keys that were made from them, and those in
+/// planes, for eight blocks and for four.
 #[derive(Drop)]
 pub struct Key256 {
     bytes: [u8; 32],
     schedule: [[u8; 16]; 15],
+    eights: [Planes<u8x16>; 15],
+    fours: [Planes<u64>; 15],
 }
 
 // Callers see the key as its 32 bytes.
@@ -20,7 +28,7 @@ impl Model for Key256 {
 
     ghost view = { λ k. k.bytes };
 
-    ghost invariant = { λ k. k.schedule ≡ round_keys k.bytes };
+    ghost invariant = { λ k. (k.schedule ≡ round_keys k.bytes) × HasKeys lane_bit 8 k.eights k.schedule × HasKeys word_bit 4 k.fours k.schedule };
 }
 
 impl Key256 {
@@ -28,9 +36,12 @@ impl Key256 {
     pub fn new(key: &[u8; 32]) -> Key256
         ensures { result ≡ key.now }
     {
+        let schedule = round_keys(key);
         Key256 {
             bytes: *key,
-            schedule: round_keys(key),
+            schedule,
+            eights: eight::plane_keys(&schedule),
+            fours: four::plane_keys(&schedule),
         }
     }
 
@@ -39,5 +50,19 @@ impl Key256 {
         ensures { result ≡ aes self.now x }
     {
         cipher(&self.schedule, x)
+    }
+
+    /// Four blocks, each enciphered under the key.
+    pub fn blocks4(&self, x: [[u8; 16]; 4]) -> [[u8; 16]; 4]
+        ensures { result ≡ map (aes self.now) x }
+    {
+        four::cipher(&self.fours, &x)
+    }
+
+    /// Eight blocks, each enciphered under the key.
+    pub fn blocks8(&self, x: [[u8; 16]; 8]) -> [[u8; 16]; 8]
+        ensures { result ≡ map (aes self.now) x }
+    {
+        eight::cipher(&self.eights, &x)
     }
 }

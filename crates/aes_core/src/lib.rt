@@ -5,6 +5,9 @@
 
 mod cipher;
 mod column;
+mod constant;
+mod eight;
+mod four;
 mod key;
 mod key_schedule;
 mod sbox;

@@ -4,4 +4,4 @@ use Rattle.aes_core.proofs.key.Key256.block.Goals as goal
 
 pub returns : goal.returns
 unfolding aes
-returns c = rw (c.cipher.ensures, c.self.invariant, c.self.view_is) refl
+returns c = rw (c.cipher.ensures, c.self.invariant.0, c.self.view_is) refl

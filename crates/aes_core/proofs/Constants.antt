@@ -1,0 +1,79 @@
+-- The constant of the S-box passes through a round, and so may be added with the round key.
+use Rattle.std.proofs.Common.{◌≡◌, ℕ, ◌+◌, ◌*◌, ◌/◌, ◌%◌, ◌<◌, List, map, get_or, bit_xor, sym, ap, ◌∙◌, arith}
+use Rattle.std.specs.Int.Bits.{xor_assoc, xor_zero_r}
+use Rattle.std.specs.List.{range_with_len}
+use Rattle.std.proofs.lemmas.Nat.{xor_comm}
+use Rattle.cipher_spec.specs.Field.{field_product}
+use Rattle.cipher_spec.specs.Aes.{sub_byte, add_round_key, mix_columns, shift_rows, round, last_round}
+use Rattle.cipher_spec.proofs.Computed.{same_below}
+use Rattle.plane_core.specs.declared.planes.Planes.{Planes}
+use Rattle.plane_core.specs.Bits.{byte_of, block, mixed_byte}
+use Rattle.plane_core.specs.Places.{shifted, below}
+use Rattle.plane_core.proofs.States.{same_state}
+use Rattle.aes_core.specs.PlaneKeys.{with_constant}
+
+-- ---- one byte
+
+swap_inner : (a b c d : ℕ) → bit_xor (bit_xor a b) (bit_xor c d) ≡ bit_xor (bit_xor a c) (bit_xor b d)
+swap_inner a b c d =
+    xor_assoc a b (bit_xor c d) ∙ ap (bit_xor a) (sym (xor_assoc b c d) ∙ ap (λ n. bit_xor n d) (xor_comm b c) ∙ xor_assoc c b d)
+    ∙ sym (xor_assoc a c (bit_xor b d))
+
+two_times : (a : ℕ) → a < 256 → field_product 2 (bit_xor a 0x63) ≡ bit_xor (field_product 2 a) 0xC6
+unfolding field_product
+two_times a h = same_below (λ a. field_product 2 (bit_xor a 0x63)) (λ a. bit_xor (field_product 2 a) 0xC6) 256 tt a h
+
+three_times : (a : ℕ) → a < 256 → field_product 3 (bit_xor a 0x63) ≡ bit_xor (field_product 3 a) 0xA5
+unfolding field_product
+three_times a h = same_below (λ a. field_product 3 (bit_xor a 0x63)) (λ a. bit_xor (field_product 3 a) 0xA5) 256 tt a h
+
+twice_added : (a k : ℕ) → bit_xor (bit_xor a 0x63) (bit_xor k 0x63) ≡ bit_xor a k
+twice_added a k = swap_inner a 0x63 k 0x63 ∙ xor_zero_r (bit_xor a k)
+
+-- MixColumns of bytes with the constant is that of the bytes, with the constant
+mixed_apart : (a b c d : ℕ) → a < 256 → b < 256
+    → mixed_byte (bit_xor a 0x63) (bit_xor b 0x63) (bit_xor c 0x63) (bit_xor d 0x63) ≡ bit_xor (mixed_byte a b c d) 0x63
+mixed_apart a b c d h l =
+    let x = field_product 2 a in
+    let y = field_product 3 b in
+    rw (two_times a h, three_times b l, swap_inner x 0xC6 y 0xA5, swap_inner (bit_xor x y) 0x63 c 0x63, xor_zero_r (bit_xor (bit_xor x y) c))
+    (sym (xor_assoc (bit_xor (bit_xor x y) c) d 0x63))
+
+sub_byte_below : (a : ℕ) → sub_byte a < 256
+unfolding sub_byte
+sub_byte_below a = omega arith
+
+-- ---- whole states
+
+-- a round on planes whose S-box left out the constant, with a key that has it
+pub plane_round : {P : Type 0} → (bit : P → ℕ → ℕ → ℕ) (s y z key : Planes P) (b : ℕ) (k : List ℕ)
+    → ((j b : ℕ) → byte_of bit y j b ≡ bit_xor (sub_byte (byte_of bit s j b)) 0x63)
+    → block bit z b ≡ add_round_key (mix_columns (shift_rows (block bit y b))) (block bit key b)
+    → block bit key b ≡ with_constant k → block bit z b ≡ round (block bit s b) k
+unfolding block round
+plane_round bit s y z key b k subbed rounded keyed =
+    let at = λ (j : ℕ). sub_byte (byte_of bit s j b) in
+    let plus = λ (j : ℕ). bit_xor (at j) 0x63 in
+    let mix = λ (f : ℕ → ℕ) (j : ℕ). mixed_byte (f (shifted j)) (f (shifted (below 1 j))) (f (shifted (below 2 j))) (f (shifted (below 3 j))) in
+    let subs : block bit y b ≡ map plus (range_with_len 0 16) =
+    same_state (λ j. byte_of bit y (j % 4 + 4 * (j / 4)) b) plus (λ j h. let i : j % 4 + 4 * (j / 4) ≡ j = omega arith in rw i (subbed j b)) in
+    rounded ∙ ap (λ t. add_round_key (mix_columns (shift_rows t)) (block bit key b)) subs
+    ∙ ap (add_round_key (mix_columns (shift_rows (map plus (range_with_len 0 16))))) keyed
+    ∙ same_state (λ j. bit_xor (mix plus j) (bit_xor (get_or k j 0) 0x63)) (λ j. bit_xor (mix at j) (get_or k j 0)) (λ j h.
+    rw (mixed_apart (at (shifted j)) (at (shifted (below 1 j))) (at (shifted (below 2 j))) (at (shifted (below 3 j))) (sub_byte_below _) (sub_byte_below _))
+    (twice_added (mix at j) (get_or k j 0)))
+
+pub plane_last_round : {P : Type 0} → (bit : P → ℕ → ℕ → ℕ) (s y z key : Planes P) (b : ℕ) (k : List ℕ)
+    → ((j b : ℕ) → byte_of bit y j b ≡ bit_xor (sub_byte (byte_of bit s j b)) 0x63)
+    → block bit z b ≡ add_round_key (shift_rows (block bit y b)) (block bit key b)
+    → block bit key b ≡ with_constant k → block bit z b ≡ last_round (block bit s b) k
+unfolding block last_round
+plane_last_round bit s y z key b k subbed rounded keyed =
+    let at = λ (j : ℕ). sub_byte (byte_of bit s j b) in
+    let plus = λ (j : ℕ). bit_xor (at j) 0x63 in
+    let subs : block bit y b ≡ map plus (range_with_len 0 16) =
+    same_state (λ j. byte_of bit y (j % 4 + 4 * (j / 4)) b) plus (λ j h. let i : j % 4 + 4 * (j / 4) ≡ j = omega arith in rw i (subbed j b)) in
+    rounded ∙ ap (λ t. add_round_key (shift_rows t) (block bit key b)) subs
+    ∙ ap (add_round_key (shift_rows (map plus (range_with_len 0 16)))) keyed
+    ∙ same_state (λ j. bit_xor (plus (shifted j)) (bit_xor (get_or k j 0) 0x63)) (λ j. bit_xor (at (shifted j)) (get_or k j 0)) (λ j h.
+    twice_added (at (shifted j)) (get_or k j 0))

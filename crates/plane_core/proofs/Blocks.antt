@@ -1,0 +1,127 @@
+-- Blocks in words and in planes: words of rows, and the same rows as columns.
+use Rattle.std.proofs.Common.{◌≡◌, ℕ, zero, suc, ◌+◌, ◌*◌, ◌/◌, ◌%◌, ◌^◌, ◌<◌, List, [], ◌∷◌, ◌++◌, length, map, get_or, refl, sym, ap, ◌∙◌, arith}
+use Rattle.std.specs.Int.{bit_at, byte_at, to_le_bytes, w64}
+use Rattle.std.specs.List.{range_with_len}
+use Rattle.std.proofs.lemmas.Nat.{shr-shr, shr_split, mod_below}
+use Rattle.std.proofs.lemmas.Nat.Bits.{bit_at_cat_low}
+use Rattle.std.proofs.lemmas.List.FromFn.{get_or-map-range_with_len, fill_by_all}
+use Rattle.plane_core.specs.declared.planes.Planes.{Planes}
+use Rattle.plane_core.specs.Bits.{number_of, byte_of, block}
+use Rattle.plane_core.specs.Grid.{row, word_at}
+use Rattle.plane_core.specs.Places.{lane_bit, word_bit, spot}
+use Rattle.plane_core.proofs.Bytes.{same_image, spread}
+use Rattle.plane_core.proofs.States.{same_state}
+use Rattle.plane_core.proofs.Words.{cell}
+
+-- ---- one by one
+
+pub each_of_eight : (P : ℕ → Type 0) → P 0 → P 1 → P 2 → P 3 → P 4 → P 5 → P 6 → P 7 → (i : ℕ) → i < 8 → P i
+each_of_eight P p0 p1 p2 p3 p4 p5 p6 p7 zero h = p0
+each_of_eight P p0 p1 p2 p3 p4 p5 p6 p7 (suc zero) h = p1
+each_of_eight P p0 p1 p2 p3 p4 p5 p6 p7 (suc (suc zero)) h = p2
+each_of_eight P p0 p1 p2 p3 p4 p5 p6 p7 (suc (suc (suc zero))) h = p3
+each_of_eight P p0 p1 p2 p3 p4 p5 p6 p7 (suc (suc (suc (suc zero)))) h = p4
+each_of_eight P p0 p1 p2 p3 p4 p5 p6 p7 (suc (suc (suc (suc (suc zero))))) h = p5
+each_of_eight P p0 p1 p2 p3 p4 p5 p6 p7 (suc (suc (suc (suc (suc (suc zero)))))) h = p6
+each_of_eight P p0 p1 p2 p3 p4 p5 p6 p7 (suc (suc (suc (suc (suc (suc (suc zero))))))) h = p7
+each_of_eight P p0 p1 p2 p3 p4 p5 p6 p7 (suc (suc (suc (suc (suc (suc (suc (suc i)))))))) h = absurd (omega arith)
+
+pub each_of_four : (P : ℕ → Type 0) → P 0 → P 1 → P 2 → P 3 → (i : ℕ) → i < 4 → P i
+each_of_four P p0 p1 p2 p3 zero h = p0
+each_of_four P p0 p1 p2 p3 (suc zero) h = p1
+each_of_four P p0 p1 p2 p3 (suc (suc zero)) h = p2
+each_of_four P p0 p1 p2 p3 (suc (suc (suc zero))) h = p3
+each_of_four P p0 p1 p2 p3 (suc (suc (suc (suc i)))) h = absurd (omega arith)
+
+pub eight_blocks : (a0 a1 a2 a3 a4 a5 a6 a7 b0 b1 b2 b3 b4 b5 b6 b7 : List ℕ) → a0 ≡ b0 → a1 ≡ b1 → a2 ≡ b2 → a3 ≡ b3 → a4 ≡ b4 → a5 ≡ b5 → a6 ≡ b6 → a7 ≡ b7
+    → (a0 ∷ a1 ∷ a2 ∷ a3 ∷ a4 ∷ a5 ∷ a6 ∷ a7 ∷ []) ≡ (b0 ∷ b1 ∷ b2 ∷ b3 ∷ b4 ∷ b5 ∷ b6 ∷ b7 ∷ [])
+eight_blocks a0 a1 a2 a3 a4 a5 a6 a7 b0 b1 b2 b3 b4 b5 b6 b7 e0 e1 e2 e3 e4 e5 e6 e7 = rw (e0, e1, e2, e3, e4, e5, e6, e7) refl
+
+-- ---- rows and columns
+
+-- each bit of the words r stands in p with its place in the byte and its word exchanged
+pub record IsTransposed {W : Type 0} (cell : W → ℕ → ℕ → ℕ) (p r : Planes W) : Type 0 where
+  cells : (q i k : ℕ) → q < 8 → i < 8 → cell (word_at p q) k i ≡ cell (word_at r i) k q
+
+row_bit : {W : Type 0} → (cell : W → ℕ → ℕ → ℕ) → (w : W) (k i : ℕ) → i < 8 → get_or (row cell w k) i 0 ≡ cell w k i
+unfolding row
+row_bit cell w k i h = get_or-map-range_with_len (cell w k) 0 8 i i 0 h (omega arith)
+
+pub by_rows : {W : Type 0} → (cell : W → ℕ → ℕ → ℕ) → (p r : Planes W)
+    → ((q k : ℕ) → q < 8 → row cell (word_at p q) k ≡ map (λ i. get_or (row cell (word_at r i) k) q 0) (range_with_len 0 8))
+    → IsTransposed cell p r
+by_rows cell p r e = record {
+  cells = λ q i k h l.
+      sym (row_bit cell (word_at p q) k i l) ∙ ap (λ x. get_or x i 0) (e q k h)
+      ∙ get_or-map-range_with_len (λ i. get_or (row cell (word_at r i) k) q 0) 0 8 i i 0 l (omega arith)
+      ∙ row_bit cell (word_at r i) k q h;
+}
+
+pub turned_round : {W : Type 0} → (cell : W → ℕ → ℕ → ℕ) → (p r : Planes W) → IsTransposed cell p r → IsTransposed cell r p
+turned_round cell p r e = record { cells = λ q i k h l. sym (e.cells i q k l h) }
+
+byte_from_bits : {P : Type 0} → (bit : P → ℕ → ℕ → ℕ) → (x : Planes P) (j b n : ℕ) → n < 256
+    → ((q : ℕ) → q < 8 → bit (word_at x q) j b ≡ bit_at n q) → byte_of bit x j b ≡ n
+unfolding byte_of
+byte_from_bits bit x j b n h e =
+    same_image number_of _ _ _ _ _ _ _ _ _ _ _ _ _ _ _ _ (e 0 (omega arith)) (e 1 (omega arith)) (e 2 (omega arith)) (e 3 (omega arith)) (e 4 (omega arith)) (e 5 (omega arith)) (e 6 (omega arith)) (e 7 (omega arith)) ∙ spread n h
+
+-- ---- eight blocks in vectors
+
+pub of_lanes : (p r : Planes (List ℕ)) → IsTransposed lane_bit p r → (b : ℕ) → b < 8 → length (word_at r b) ≡ 16
+    → ((k : ℕ) → get_or (word_at r b) k 0 < 256) → block lane_bit p b ≡ word_at r b
+unfolding block
+of_lanes p r e b h long bytes =
+    same_state (λ j. byte_of lane_bit p (j % 4 + 4 * (j / 4)) b) (λ j. get_or (word_at r b) j 0) (λ j l.
+    let i : j % 4 + 4 * (j / 4) ≡ j = omega arith in
+    rw i (byte_from_bits lane_bit p j b (get_or (word_at r b) j 0) (bytes j) (λ q s. e.cells q b j s h)))
+    ∙ sym (fill_by_all (λ j. get_or (word_at r b) j 0) (word_at r b) 16 0 long (λ k l. refl))
+
+-- ---- four blocks in words
+
+low_bit : (m i : ℕ) → i < 8 → bit_at (m % 256) i ≡ bit_at m i
+low_bit m i h = sym (bit_at_cat_low (m / 2 ^ 8) 8 (m % 256) i h) ∙ ap (λ n. bit_at n i) (shr_split m 8)
+
+bit_of_byte : (n a i : ℕ) → i < 8 → bit_at (n / 2 ^ a % 256) i ≡ bit_at n (a + i)
+bit_of_byte n a i h = low_bit (n / 2 ^ a) i h ∙ ap (λ m. m % 2) (shr-shr n a i)
+
+bits_of_byte : (n i : ℕ) → i < 8 → (k : ℕ) → k < 8 → bit_at (byte_at k n) i ≡ bit_at n (8 * k + i)
+bits_of_byte n i h = each_of_eight (λ k. bit_at (byte_at k n) i ≡ bit_at n (8 * k + i)) (let e : i ≡ 0 + i = omega arith in low_bit n i h ∙ ap (bit_at n) e)
+    (bit_of_byte n 8 i h) (bit_of_byte n 16 i h) (bit_of_byte n 24 i h) (bit_of_byte n 32 i h) (bit_of_byte n 40 i h) (bit_of_byte n 48 i h) (bit_of_byte n 56 i h)
+
+byte_is_small : (n k : ℕ) → byte_at k n < 256
+byte_is_small n zero = mod_below n 256 (omega arith)
+byte_is_small n (suc k) = mod_below (n / 256 ^ suc k) 256 (omega arith)
+
+-- the half of a block that has its byte j
+abbrev pub half : ℕ → ℕ → ℕ → ℕ
+half zero first second = first
+half (suc n) first second = second
+
+half_at : (r : Planes ℕ) (b n : ℕ) → n < 2 → word_at r (4 * n + b) ≡ half n (word_at r b) (word_at r (4 + b))
+half_at r b zero h = let e : 4 * 0 + b ≡ b = omega arith in ap (word_at r) e
+half_at r b (suc zero) h = refl
+half_at r b (suc (suc n)) h = absurd (omega arith)
+
+word_byte : (p r : Planes ℕ) → IsTransposed cell p r → (b j : ℕ) → b < 4 → j < 16
+    → byte_of word_bit p j b ≡ byte_at (j % 8) (half (j / 8) (word_at r b) (word_at r (4 + b)))
+word_byte p r e b j h l =
+    let i = 4 * (j / 8) + b in
+    let w = word_at r i in
+    byte_from_bits word_bit p j b (byte_at (j % 8) w) (byte_is_small w (j % 8)) (λ q s.
+    let here : spot j (b % 4) ≡ 8 * (j % 8 % 8) + i = omega arith in
+    let there : 8 * (j % 8 % 8) + q ≡ 8 * (j % 8) + q = omega arith in
+    ap (bit_at (word_at p q)) here ∙ e.cells q i (j % 8) s (omega arith) ∙ ap (bit_at w) there ∙ sym (bits_of_byte w q s (j % 8) (omega arith)))
+    ∙ ap (byte_at (j % 8)) (half_at r b (j / 8) (omega arith))
+
+pub of_halves : (p r : Planes ℕ) → IsTransposed cell p r → (b : ℕ) → b < 4
+    → block word_bit p b ≡ to_le_bytes w64 (word_at r b) ++ to_le_bytes w64 (word_at r (4 + b))
+unfolding block
+of_halves p r e b h =
+    same_state (λ j. byte_of word_bit p (j % 4 + 4 * (j / 4)) b) (λ j. byte_at (j % 8) (half (j / 8) (word_at r b) (word_at r (4 + b)))) (λ j l.
+    let i : j % 4 + 4 * (j / 4) ≡ j = omega arith in
+    rw i (word_byte p r e b j h l))
+
+pub halves_joined : (x lo hi y z : List ℕ) → length x ≡ 16 → lo ≡ y → hi ≡ z → map (λ j. get_or x j 0) (range_with_len 0 16) ≡ y ++ z → lo ++ hi ≡ x
+halves_joined x lo hi y z long e f h =
+    rw (e, f) (sym h ∙ sym (fill_by_all (λ j. get_or x j 0) x 16 0 long (λ k l. refl)))

@@ -1,0 +1,10 @@
+pub mod Blocks
+pub mod Bytes
+pub mod Gates
+pub mod Lanes
+pub mod Powers
+pub mod Rows
+pub mod Sbox
+pub mod States
+pub mod Wires
+pub mod Words

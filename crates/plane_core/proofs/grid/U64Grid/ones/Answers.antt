@@ -1,0 +1,8 @@
+use Rattle.plane_core.proofs.Words.{word_evens_1, word_odds_1}
+use Rattle.plane_core.proofs.grid.U64Grid.ones.Goals as goal
+
+pub returns-clause-low : goal.returns-clause-low
+returns-clause-low c k = word_evens_1 c.args.self c.args.other k c.ranges.self.fits c.ranges.other.fits
+
+pub returns-clause-high : goal.returns-clause-high
+returns-clause-high c k = word_odds_1 c.args.self c.args.other k c.ranges.self.fits c.ranges.other.fits

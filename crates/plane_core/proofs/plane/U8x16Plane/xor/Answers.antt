@@ -1,0 +1,5 @@
+use Rattle.plane_core.proofs.Gates.{lanes_xor}
+use Rattle.plane_core.proofs.plane.U8x16Plane.xor.Goals as goal
+
+pub returns : goal.returns
+returns c = lanes_xor c.args.self c.args.other c.fits-self.0 c.fits-other.0

@@ -1,0 +1,5 @@
+pub mod Affine
+pub mod Bits
+pub mod Circuit
+pub mod Grid
+pub mod Places

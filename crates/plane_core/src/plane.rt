@@ -1,0 +1,117 @@
+//! A bit plane: one bit of each byte of several blocks.
+
+ghost use Rattle.std.specs.Prelude.{◌≡◌, ℕ, ◌+◌, ◌*◌, ◌/◌, ◌%◌, ◌<◌, bit_and, bit_xor, slice_index};
+ghost use Rattle.std.specs.Int.{bit_at};
+ghost use Rattle.plane_core.specs.Bits.{bit_is_small};
+ghost use Rattle.plane_core.specs.Places.{below, lane_bit, shifted, spot, turned, word_bit};
+
+use std::simd::prelude::*;
+
+/// A bit plane: a bit for each of the 16 bytes of each of its blocks.
+pub trait Plane: Copy {
+    /// The bit of byte j of block b.
+    ghost bit: { Self → ℕ → ℕ → ℕ };
+
+    /// The sum, modulo 2, of each two bits.
+    fn xor(self, other: Self) -> Self
+        ensures { (j b : ℕ) → bit result j b ≡ bit_xor (bit self j b) (bit other j b) };
+
+    /// The product of each two bits.
+    fn and(self, other: Self) -> Self
+        ensures { (j b : ℕ) → bit result j b ≡ bit_and (bit self j b) (bit other j b) };
+
+    /// Each bit goes where ShiftRows moves its byte.
+    fn shifted(self) -> Self
+        ensures { (j b : ℕ) → j < 16 → bit result j b ≡ bit self (shifted j) b };
+
+    /// For each byte the bit of the byte below it in its column, around the column's end.
+    fn below(self) -> Self
+        ensures { (j b : ℕ) → j < 16 → bit result j b ≡ bit self (below 1 j) b };
+
+    /// For each byte the bit of the byte two rows below it.
+    fn two_below(self) -> Self
+        ensures { (j b : ℕ) → j < 16 → bit result j b ≡ bit self (below 2 j) b };
+
+    /// A bit is 0 or 1.
+    ghost is_bit: { (v : Self) (j b : ℕ) → bit v j b < 2 };
+}
+
+// Eight blocks: lane j has byte j of each block, and bit b of a lane is block b's.
+impl Plane for u8x16 {
+    ghost bit = { lane_bit };
+
+    #[inline(always)]
+    fn xor(self, other: u8x16) -> u8x16 {
+        self ^ other
+    }
+
+    #[inline(always)]
+    fn and(self, other: u8x16) -> u8x16 {
+        self & other
+    }
+
+    #[inline(always)]
+    fn shifted(self) -> u8x16 {
+        self.swizzle([0, 5, 10, 15, 4, 9, 14, 3, 8, 13, 2, 7, 12, 1, 6, 11])
+    }
+
+    #[inline(always)]
+    fn below(self) -> u8x16 {
+        self.swizzle([1, 2, 3, 0, 5, 6, 7, 4, 9, 10, 11, 8, 13, 14, 15, 12])
+    }
+
+    #[inline(always)]
+    fn two_below(self) -> u8x16 {
+        self.swizzle([2, 3, 0, 1, 6, 7, 4, 5, 10, 11, 8, 9, 14, 15, 12, 13])
+    }
+
+    ghost is_bit = { λ v j b. bit_is_small (slice_index v j) b };
+}
+
+/// A word, each bit moved n places down, around the end.
+#[inline(always)]
+fn turned(w: u64, n: u32) -> u64
+    requires some { 0 < n }
+    requires few { n < 64 }
+    ensures { result ≡ turned w n }
+{
+    (w >> n) ^ (w << (64 - n))
+}
+
+// Four blocks: byte j % 8 of the word has byte j of each block, in its lower four bits where j is below
+// 8, and else in its upper four.
+impl Plane for u64 {
+    ghost bit = { word_bit };
+
+    #[inline(always)]
+    fn xor(self, other: u64) -> u64 {
+        self ^ other
+    }
+
+    #[inline(always)]
+    fn and(self, other: u64) -> u64 {
+        self & other
+    }
+
+    #[inline(always)]
+    fn shifted(self) -> u64 {
+        (self & 0x0000_00ff_0000_00ff)
+            ^ (turned(self, 32) & 0xff00_0000_0000_ff00)
+            ^ (turned(self, 4) & 0x000f_0000_000f_0000)
+            ^ (turned(self, 60) & 0x00f0_0000_00f0_0000)
+            ^ (turned(self, 36) & 0x0000_0f00_0f00_0000)
+            ^ (turned(self, 28) & 0x0000_f000_f000_0000)
+    }
+
+    #[inline(always)]
+    fn below(self) -> u64 {
+        ((self >> 8) & 0x00ff_ffff_00ff_ffff) ^ ((self << 24) & 0xff00_0000_ff00_0000)
+    }
+
+    #[inline(always)]
+    fn two_below(self) -> u64 {
+        ((self >> 16) & 0x0000_ffff_0000_ffff) ^ ((self << 16) & 0xffff_0000_ffff_0000)
+    }
+
+    ghost is_bit = { λ w j b. bit_is_small w (spot j (b % 4)) };
+}
