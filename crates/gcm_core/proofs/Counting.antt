@@ -1,5 +1,6 @@
--- Counter blocks, and a text to which their masks are added block by block.
-use Rattle.std.proofs.Common.{◌≡◌, ℕ, suc, ◌+◌, ◌-◌, ◌*◌, ◌/◌, ◌%◌, ◌^◌, ◌<◌, ◌≤◌, List, ◌++◌, length, take, drop, get_or, bit_xor, refl, sym, ap, ◌∙◌, subst, inl, inr, arith}
+-- Counter blocks, and the bytes that they add to a text.
+use Rattle.std.proofs.Common.{◌≡◌, ℕ, zero, suc, ◌+◌, ◌-◌, ◌*◌, ◌/◌, ◌%◌, ◌^◌, ◌<◌, ◌≤◌, List, [], ◌∷◌, ◌++◌, length, take, drop, map, get_or, bit_xor, refl, sym, ap, ◌∙◌, subst, inl, inr, arith}
+use Rattle.std.specs.List.{range_with_len}
 use Rattle.std.specs.Int.{w32, from_be_bytes, to_be_bytes}
 use Rattle.std.proofs.Math.Seq.{take-append_seam, drop-append_seam}
 use Rattle.std.proofs.lemmas.Bool.{cases_lt}
@@ -17,11 +18,33 @@ inc32-count iv count long fits =
     let number : from_be_bytes w32 (drop 12 block) ≡ count = ap (from_be_bytes w32) back ∙ from_be_bytes-to_be_bytes_4 count fits in
     ap (λ l. l ++ to_be_bytes w32 ((from_be_bytes w32 (drop 12 block) + 1) % 2 ^ 32)) front ∙ ap (λ n. iv ++ to_be_bytes w32 ((n + 1) % 2 ^ 32)) number
 
--- the next counter block
-pub counter-next : (iv initial : List ℕ) (count k : ℕ) → length iv ≡ 12 → count < 2 ^ 32 → iv ++ to_be_bytes w32 count ≡ counter initial k → iv ++ to_be_bytes w32 ((count + 1) % 2 ^ 32) ≡ counter initial (k + 1)
-counter-next iv initial count k long fits is =
-    let e : suc k ≡ k + 1 = omega arith in
-    sym (inc32-count iv count long fits) ∙ ap inc32 is ∙ ap (counter initial) e
+-- the counter block that comes k later
+pub counter-later : (iv : List ℕ) (count k : ℕ) → length iv ≡ 12 → count < 2 ^ 32 → iv ++ to_be_bytes w32 ((count + k) % 2 ^ 32) ≡ counter (iv ++ to_be_bytes w32 count) k
+counter-later iv count zero long fits =
+    let e : (count + 0) % 2 ^ 32 ≡ count = omega arith in
+    ap (λ n. iv ++ to_be_bytes w32 n) e
+counter-later iv count (suc k) long fits =
+    let n = (count + k) % 2 ^ 32 in
+    let e : (n + 1) % 2 ^ 32 ≡ (count + suc k) % 2 ^ 32 = omega arith in
+    ap (λ n. iv ++ to_be_bytes w32 n) (sym e) ∙ sym (inc32-count iv n long (omega arith)) ∙ ap inc32 (counter-later iv count k long fits)
+
+-- counting goes on from any counter block
+pub counter-add : (initial : List ℕ) (m k : ℕ) → counter (counter initial m) k ≡ counter initial (m + k)
+counter-add initial m zero =
+    let e : m ≡ m + 0 = omega arith in
+    ap (counter initial) e
+counter-add initial m (suc k) =
+    let e : suc (m + k) ≡ m + suc k = omega arith in
+    ap inc32 (counter-add initial m k) ∙ ap (counter initial) e
+
+-- the counter block of the next group, where a group has n blocks
+pub counter-next : (iv initial : List ℕ) (count k n m : ℕ) → length iv ≡ 12 → count < 2 ^ 32 → iv ++ to_be_bytes w32 count ≡ counter initial k → k + n ≡ m → iv ++ to_be_bytes w32 ((count + n) % 2 ^ 32) ≡ counter initial m
+counter-next iv initial count k n m long fits is e =
+    counter-later iv count n long fits ∙ ap (λ block. counter block n) is ∙ counter-add initial k n ∙ ap (counter initial) e
+
+-- eight values of a function
+pub eight_values : (f : ℕ → List ℕ) (b0 b1 b2 b3 b4 b5 b6 b7 : List ℕ) → b0 ≡ f 0 → b1 ≡ f 1 → b2 ≡ f 2 → b3 ≡ f 3 → b4 ≡ f 4 → b5 ≡ f 5 → b6 ≡ f 6 → b7 ≡ f 7 → b0 ∷ b1 ∷ b2 ∷ b3 ∷ b4 ∷ b5 ∷ b6 ∷ b7 ∷ [] ≡ map f (range_with_len 0 8)
+eight_values f b0 b1 b2 b3 b4 b5 b6 b7 e0 e1 e2 e3 e4 e5 e6 e7 = rw (e0, e1, e2, e3, e4, e5, e6, e7) refl
 
 -- what is added to byte i of block k
 pub mask-at : (key initial : List ℕ) (k i : ℕ) → i < 16 → mask key initial (16 * k + i) ≡ get_or (aes key (counter initial k)) i 0
@@ -31,17 +54,29 @@ mask-at key initial k i h =
     let m : (16 * k + i) % 16 ≡ i = omega arith in
     rw (d, m) refl
 
--- a text enciphered up to block k, and then in n bytes of that block
-pub masked_further : (key initial old mid new m : List ℕ) (k n : ℕ) → n ≤ 16 → m ≡ aes key (counter initial k) → ((j : ℕ) → j < 16 * k → get_or mid j 0 ≡ bit_xor (get_or old j 0) (mask key initial j)) → ((j : ℕ) → 16 * k ≤ j → get_or mid j 0 ≡ get_or old j 0) → ((j : ℕ) → j < 16 * k → get_or new j 0 ≡ get_or mid j 0) → ((i : ℕ) → i < n → get_or new (16 * k + i) 0 ≡ bit_xor (get_or mid (16 * k + i) 0) (get_or m i 0)) → (j : ℕ) → j < 16 * k + n → get_or new j 0 ≡ bit_xor (get_or old j 0) (mask key initial j)
-masked_further key initial old mid new m k n few is done left before there j h =
+-- what is added to byte n past block m
+pub mask-past : (key initial : List ℕ) (m n : ℕ) → mask key (counter initial m) n ≡ mask key initial (16 * m + n)
+unfolding mask
+mask-past key initial m n =
+    let d : (16 * m + n) / 16 ≡ m + n / 16 = omega arith in
+    let e : (16 * m + n) % 16 ≡ n % 16 = omega arith in
+    rw (d, e, counter-add initial m (n / 16)) refl
+
+-- a text to which f was added up to block k, and then in n bytes of that block
+pub added_further : (f : ℕ → ℕ) (old mid new block : List ℕ) (k n : ℕ) → n ≤ 16 → ((i : ℕ) → i < 16 → get_or block i 0 ≡ f (16 * k + i)) → ((j : ℕ) → j < 16 * k → get_or mid j 0 ≡ bit_xor (get_or old j 0) (f j)) → ((j : ℕ) → 16 * k ≤ j → get_or mid j 0 ≡ get_or old j 0) → ((j : ℕ) → j < 16 * k → get_or new j 0 ≡ get_or mid j 0) → ((i : ℕ) → i < n → get_or new (16 * k + i) 0 ≡ bit_xor (get_or mid (16 * k + i) 0) (get_or block i 0)) → (j : ℕ) → j < 16 * k + n → get_or new j 0 ≡ bit_xor (get_or old j 0) (f j)
+added_further f old mid new block k n few is done left before there j h =
     elim (cases_lt j (16 * k)) [
       | inl below ↦ before j below ∙ done j below
       | inr above ↦
           let i = j - 16 * k in
           let e : 16 * k + i ≡ j = omega arith in
-          let P : ℕ → Type 0 = λ j. get_or new j 0 ≡ bit_xor (get_or old j 0) (mask key initial j) in
-          subst P e (there i (omega arith) ∙ ap (λ b. bit_xor b (get_or m i 0)) (left (16 * k + i) (omega arith)) ∙ ap (λ m. bit_xor (get_or old (16 * k + i) 0) (get_or m i 0)) is ∙ ap (bit_xor (get_or old (16 * k + i) 0)) (sym (mask-at key initial k i (omega arith))))
+          let P : ℕ → Type 0 = λ j. get_or new j 0 ≡ bit_xor (get_or old j 0) (f j) in
+          subst P e (there i (omega arith) ∙ ap (λ b. bit_xor b (get_or block i 0)) (left (16 * k + i) (omega arith)) ∙ ap (bit_xor (get_or old (16 * k + i) 0)) (is i (omega arith)))
     ]
+
+-- the bytes of an enciphered counter block
+pub mask-block : (key initial block : List ℕ) (k : ℕ) → block ≡ aes key (counter initial k) → (i : ℕ) → i < 16 → get_or block i 0 ≡ mask key initial (16 * k + i)
+mask-block key initial block k is i h = ap (λ b. get_or b i 0) is ∙ sym (mask-at key initial k i h)
 
 -- a text all of whose bytes are enciphered is what GCTR gives
 pub gctr-masked : (key initial old new : List ℕ) → length new ≡ length old → ((j : ℕ) → j < length old → get_or new j 0 ≡ bit_xor (get_or old j 0) (mask key initial j)) → new ≡ gctr key initial old

@@ -1,4 +1,6 @@
-pub mod Absorbing
+pub mod Hashing
 pub mod Comparing
 pub mod Counting
+pub mod Groups
+pub mod Masking
 pub mod Opening

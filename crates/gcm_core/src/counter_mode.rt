@@ -1,9 +1,11 @@
 //! Counter mode, GCTR of SP 800-38D, section 6.5.
 
-ghost use Rattle.std.specs.Prelude.{◌≡◌, ◌+◌, ◌<◌, ◌≤◌, ℕ, ◌++◌, length, slice_index, bit_xor};
+ghost use Rattle.std.specs.Prelude.{◌≡◌, ◌≤◌, ◌++◌, length, map};
+ghost use Rattle.std.specs.List.{range_with_len};
 ghost use Rattle.std.specs.Int.{w32, to_be_bytes};
-ghost use Rattle.cipher_spec.specs.Gcm.{gctr};
+ghost use Rattle.cipher_spec.specs.Gcm.{counter, gctr};
 
+use crate::masks::{add_mask, add_masks};
 use aes_core::Key256;
 
 /// The count of the counter block that masks the tag.
@@ -11,6 +13,12 @@ pub const TAG_COUNT: u32 = 1;
 
 /// The count of the counter block that masks the first block of a text.
 pub const TEXT_COUNT: u32 = 2;
+
+/// The bytes of eight blocks.
+const GROUP: usize = 128;
+
+/// Up to so many bytes are enciphered sooner block by block than as a part of eight blocks.
+const FEW: usize = 48;
 
 /// The counter block of an initialization vector and a count.
 #[inline(always)]
@@ -24,23 +32,25 @@ fn counter_block(iv: &[u8; 12], count: u32) -> [u8; 16]
     ]
 }
 
-/// Adds the first `n` bytes of a mask to those of the text from `at` on.
+/// Eight counter blocks, from that of the count `first` on.
 #[inline(always)]
-fn add_mask(text: &mut [u8], at: usize, n: usize, mask: &[u8; 16])
-    requires inside { at + n ≤ length text.old }
-    requires one { n ≤ 16 }
-    ensures before { (i : ℕ) → i < at → slice_index text.new i ≡ slice_index text.old i }
-    ensures there { (i : ℕ) → i < n
-        → slice_index text.new (at + i) ≡ bit_xor (slice_index text.old (at + i)) (slice_index mask.now i) }
-    ensures after { (i : ℕ) → at + n ≤ i → slice_index text.new i ≡ slice_index text.old i }
+fn counter_blocks(iv: &[u8; 12], first: u32) -> [[u8; 16]; 8]
+    ensures { result ≡ map (counter (iv.now ++ to_be_bytes w32 first)) (range_with_len 0 8) }
 {
-    'bytes: for i in 0..n {
-        text[at + i] ^= mask[i];
-    }
+    [
+        counter_block(iv, first),
+        counter_block(iv, first.wrapping_add(1)),
+        counter_block(iv, first.wrapping_add(2)),
+        counter_block(iv, first.wrapping_add(3)),
+        counter_block(iv, first.wrapping_add(4)),
+        counter_block(iv, first.wrapping_add(5)),
+        counter_block(iv, first.wrapping_add(6)),
+        counter_block(iv, first.wrapping_add(7)),
+    ]
 }
 
-/// Adds the enciphered counter blocks to the text, from that of the count `first` on.
-pub fn gctr(key: &Key256, iv: &[u8; 12], first: u32, text: &mut [u8])
+/// Adds the enciphered counter blocks to the text, block by block, from that of the count `first` on.
+pub fn gctr_by_blocks(key: &Key256, iv: &[u8; 12], first: u32, text: &mut [u8])
     ensures { text.new ≡ gctr key.now (iv.now ++ to_be_bytes w32 first) text.old }
 {
     let whole = text.len() / 16;
@@ -56,4 +66,39 @@ pub fn gctr(key: &Key256, iv: &[u8; 12], first: u32, text: &mut [u8])
     }
     let mask = key.block(counter_block(iv, count));
     add_mask(text, 16 * whole, rest, &mask);
+}
+
+/// Adds eight enciphered counter blocks to a text that reaches no further, from that of the count `first` on.
+#[inline(always)]
+fn gctr_group(key: &Key256, iv: &[u8; 12], first: u32, text: &mut [u8])
+    requires { length text.old ≤ 128 }
+    ensures { text.new ≡ gctr key.now (iv.now ++ to_be_bytes w32 first) text.old }
+{
+    let masks = key.blocks8(counter_blocks(iv, first));
+    add_masks(text, &masks);
+}
+
+/// Adds the enciphered counter blocks to the text, from that of the count `first` on.
+pub fn gctr(key: &Key256, iv: &[u8; 12], first: u32, text: &mut [u8])
+    ensures { text.new ≡ gctr key.now (iv.now ++ to_be_bytes w32 first) text.old }
+{
+    let groups = text.len() / GROUP;
+    let mut count = first;
+    'groups: for k in 0..groups {
+        gctr_group(key, iv, count, &mut text[GROUP * k..GROUP * k + GROUP]);
+        count = count.wrapping_add(8);
+    }
+    gctr_rest(key, iv, count, &mut text[GROUP * groups..]);
+}
+
+/// The same for a text of fewer than eight blocks.
+fn gctr_rest(key: &Key256, iv: &[u8; 12], first: u32, text: &mut [u8])
+    requires { length text.old ≤ 128 }
+    ensures { text.new ≡ gctr key.now (iv.now ++ to_be_bytes w32 first) text.old }
+{
+    if text.len() <= FEW {
+        gctr_by_blocks(key, iv, first, text);
+    } else {
+        gctr_group(key, iv, first, text);
+    }
 }

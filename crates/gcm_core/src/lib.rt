@@ -5,8 +5,10 @@
 //! so that a caller need not join them. One key must never seal two texts under the same initialization vector.
 #![tactic(auto)]
 
+mod absorbing;
 mod authentication;
 mod counter_mode;
+mod masks;
 mod same;
 mod seal;
 #[cfg(test)]

@@ -1,12 +1,45 @@
 //! Sealing and opening (SP 800-38D, sections 7.1 and 7.2).
 
 ghost use Rattle.std.specs.Prelude.{◌≡◌, ◌↔◌, ◌+◌, ◌-◌, ◌^◌, ◌≤◌, List, ℕ, ◌++◌, true, false, length, if◌then◌else◌, Some, None};
-ghost use Rattle.cipher_spec.specs.Gcm.{opened, sealed};
+ghost use Rattle.std.specs.Int.{w32, to_be_bytes};
+ghost use Rattle.cipher_spec.specs.Ghash.{ghash_from};
+ghost use Rattle.cipher_spec.specs.Gcm.{blocks, gctr, opened, sealed};
 
-use crate::authentication::authentication_tag;
+use crate::absorbing::{absorb, absorb_two};
+use crate::authentication::{authentication_tag, finished_tag};
 use crate::counter_mode::{TEXT_COUNT, gctr};
 use crate::same::same;
 use aes_core::Key256;
+use ghash_core::Ghash;
+
+/// A text is sealed in pieces of so many bytes, each of which is still in the first cache when it is hashed.
+const PIECE: usize = 4096;
+
+/// The blocks of a piece.
+const PIECE_BLOCKS: u32 = 256;
+
+/// Enciphers the text in place from the count `TEXT_COUNT` on, and takes the ciphertext into the hash.
+fn encipher_and_absorb(key: &Key256, iv: &[u8; 12], hash: &mut Ghash, text: &mut [u8])
+    requires { length text.old ≤ 2 ^ 36 - 32 }
+    ensures enciphered { text.new ≡ gctr key.now (iv.now ++ to_be_bytes w32 2) text.old }
+    ensures hashed { hash.new
+        ≡ record {
+          key = hash.old.key;
+          hash = ghash_from hash.old.key hash.old.hash (blocks text.new);
+        } }
+{
+    let pieces = text.len() / PIECE;
+    let mut count = TEXT_COUNT;
+    'pieces: for k in 0..pieces {
+        let piece = &mut text[PIECE * k..PIECE * k + PIECE];
+        gctr(key, iv, count, piece);
+        absorb(hash, piece);
+        count = count.wrapping_add(PIECE_BLOCKS);
+    }
+    let rest = &mut text[PIECE * pieces..];
+    gctr(key, iv, count, rest);
+    absorb(hash, rest);
+}
 
 /// Enciphers the text in place, and answers the tag over the associated data, which is `first` and then `second`, and
 /// the ciphertext (section 7.1).
@@ -21,8 +54,10 @@ pub fn seal_in_place(
     requires few { length first.now + length second.now ≤ 2 ^ 32 }
     ensures { (text.new, result) ≡ sealed key.now iv.now (first.now ++ second.now) text.old }
 {
-    gctr(key, iv, TEXT_COUNT, text);
-    authentication_tag(key, iv, first, second, text)
+    let mut hash = Ghash::new(key.block([0; 16]));
+    absorb_two(&mut hash, first, second);
+    encipher_and_absorb(key, iv, &mut hash, text);
+    finished_tag(key, iv, &mut hash, first.len() + second.len(), text.len())
 }
 
 /// Answers whether the tag is that of the associated data, `first` and then `second`, and the ciphertext in `text`

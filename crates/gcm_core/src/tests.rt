@@ -1,7 +1,13 @@
 //! What sealing gives, against published vectors and OpenSSL's answers, and that a wrong tag opens nothing.
 
+ghost use Rattle.std.specs.Prelude.{◌≤◌, length};
+
 use super::*;
+use crate::absorbing::{absorb_by_blocks, absorb_two};
+use crate::authentication::finished_tag;
+use crate::counter_mode::{TEXT_COUNT, gctr_by_blocks};
 use aes_core::Key256;
+use ghash_core::Ghash;
 use hex::FromHex;
 use sha2::{Digest, Sha256};
 use std::test::Fail;
@@ -27,6 +33,17 @@ fn patterned_key() -> (Key256, [u8; 12]) {
     let mut iv = [0; 12];
     fill(&mut iv, 8);
     (Key256::new(&key), iv)
+}
+
+/// What sealing does, one block at a time.
+fn seal_by_blocks(key: &Key256, iv: &[u8; 12], data: &[u8; 37], text: &mut [u8]) -> [u8; 16]
+    requires { length text.old ≤ 65536 }
+{
+    gctr_by_blocks(key, iv, TEXT_COUNT, text);
+    let mut hash = Ghash::new(key.block([0; 16]));
+    absorb_two(&mut hash, data, &[]);
+    absorb_by_blocks(&mut hash, text);
+    finished_tag(key, iv, &mut hash, 37, text.len())
 }
 
 #[test]
@@ -68,6 +85,45 @@ fn seals_each_length_up_to_two_hundred_bytes(rt: HostRuntime) -> Result<(), Fail
         "9eaf0dafb70ce5b4bd725f1472a45312bf93ec2b915718c67bf9c57eabb70a31",
     )?;
     assert_eq!(rt; digest.finalize(), want);
+    Ok(())
+}
+
+#[test]
+fn seals_each_length_as_single_blocks_do(rt: HostRuntime) {
+    let (key, iv) = patterned_key();
+    let mut data = [0; 37];
+    fill(&mut data, 9);
+    for n in 0..201usize {
+        let mut text = [0; 200];
+        fill(&mut text, 10);
+        let mut other = text;
+        let tag = seal_in_place(&key, &iv, &data[..11], &data[11..], &mut text[..n]);
+        let other_tag = seal_by_blocks(&key, &iv, &data, &mut other[..n]);
+        assert_eq!(rt; text, other, "{n} bytes");
+        assert_eq!(rt; tag, other_tag, "{n} bytes");
+    }
+}
+
+#[test]
+fn seals_long_texts_as_single_blocks_do(rt: HostRuntime) -> Result<(), Fail> {
+    let (key, iv) = patterned_key();
+    let mut data = [0; 37];
+    fill(&mut data, 13);
+    for n in [4095usize, 4096, 4097, 65_536] {
+        let mut text = vec![in rt.alloc(); 0u8; n]?;
+        fill(text.as_mut_slice(), 14);
+        let mut other = vec![in rt.alloc(); 0u8; n]?;
+        fill(other.as_mut_slice(), 14);
+        assert!(rt; text.len() <= 65_536 && other.len() <= 65_536);
+        let tag = seal_in_place(&key, &iv, &data, &[], text.as_mut_slice());
+        let other_tag = seal_by_blocks(&key, &iv, &data, other.as_mut_slice());
+        assert_eq!(rt; text.as_slice(), other.as_slice(), "{n} bytes");
+        assert_eq!(rt; tag, other_tag, "{n} bytes");
+        assert!(rt; text.len() <= 65_536);
+        assert!(rt; open_in_place(&key, &iv, &data, &[], text.as_mut_slice(), &tag));
+        fill(other.as_mut_slice(), 14);
+        assert_eq!(rt; text.as_slice(), other.as_slice(), "{n} bytes");
+    }
     Ok(())
 }
 

@@ -2,7 +2,7 @@
 use Rattle.std.proofs.Common.{◌≡◌, ℕ, zero, suc, ◌+◌, ◌-◌, ◌*◌, ◌/◌, ◌%◌, ◌^◌, ◌<◌, ◌≤◌, List, [], get_or, bit_xor, refl, sym, ap, ◌∙◌, arith}
 use Rattle.std.specs.Int.{w128, bit_at, byte_at, bytes_high_first, to_be_bytes}
 use Rattle.std.specs.Int.Bits.{xor_assoc, xor_zero_r}
-use Rattle.std.proofs.lemmas.Nat.{shr-shr, pow-add}
+use Rattle.std.proofs.lemmas.Nat.{shr-shr, pow-add, xor_comm}
 use Rattle.std.proofs.lemmas.List.FromFn.{get_or-map-range_with_len}
 use Rattle.std.proofs.Math.Nat.{pow-suc}
 use Rattle.cipher_spec.specs.Field.{add_if}
@@ -49,6 +49,11 @@ times_bits-nibble x y n h =
     let f : n + 4 ≡ suc (suc (suc (suc n))) = omega arith in
     let v = halves n y in
     rw (f, e3, e2, e1, e0) (four_bits (q % 16 / 8 % 2) (q % 16 / 4 % 2) (q % 16 / 2 % 2) (q % 16 % 2) (times_bits n x y) v (half v) (half (half v)) (half (half (half v))))
+
+-- two sums side by side, each with one more block, are one sum with two more
+pub xor_side_by_side : (u l a b : ℕ) → bit_xor (bit_xor u a) (bit_xor l b) ≡ bit_xor (bit_xor (bit_xor u l) a) b
+xor_side_by_side u l a b =
+    xor_assoc u a (bit_xor l b) ∙ ap (bit_xor u) (sym (xor_assoc a l b) ∙ ap (λ s. bit_xor s b) (xor_comm a l) ∙ xor_assoc l a b) ∙ sym (xor_assoc u l (bit_xor a b)) ∙ sym (xor_assoc (bit_xor u l) a b)
 
 -- 256 to a power, as a power of two
 pow_256 : (k : ℕ) → 256 ^ k ≡ 2 ^ (8 * k)

@@ -1,6 +1,6 @@
 //! The product of blocks (SP 800-38D, section 6.3) by tables of one factor.
 
-ghost use Rattle.std.specs.Prelude.{◌≡◌, ℕ};
+ghost use Rattle.std.specs.Prelude.{◌≡◌, ℕ, bit_xor};
 ghost use Rattle.cipher_spec.specs.Ghash.{half, times};
 ghost use Rattle.ghash_core.specs.Rows.{row, IsRows};
 
@@ -58,29 +58,49 @@ fn sixteenth(v: u128) -> u128
     half(half(half(half(v))))
 }
 
-/// All rows of h.
-pub fn rows(h: u128) -> Rows
-    ensures { IsRows result h }
+/// Puts the rows of h in the place of others.
+// What it fills is 8 KB, of which no copy is to be made: so the function stays one of its own.
+#[inline(never)]
+pub fn put_rows(rows: &mut Rows, h: u128)
+    ensures { IsRows rows.new h }
 {
-    let mut rows = [[0; 16]; 32];
     let mut v = h;
     'each: for j in 0..32 {
         rows[j] = row(v);
         v = sixteenth(v);
     }
-    rows
 }
 
-/// The product of x and the block h whose rows these are.
+/// A block as the sum of two, since two short sums side by side take less time than a long one.
+#[derive(Clone, Copy)]
+pub struct Sum {
+    pub upper: u128,
+    pub lower: u128,
+}
+
+impl Sum {
+    /// The block itself.
+    #[inline(always)]
+    pub fn block(self) -> u128
+        ensures { result ≡ bit_xor self.upper self.lower }
+    {
+        self.upper ^ self.lower
+    }
+}
+
+/// The product of x and the block h whose rows these are: what the upper four bits of each byte of x
+/// add to it, and what the lower four bits add.
 #[inline(always)]
-pub fn times(x: u128, rows: &Rows) -> u128
-    ensures { (h : ℕ) → IsRows rows.now h → result ≡ times x h }
+pub fn times(x: u128, rows: &Rows) -> Sum
+    ensures { (h : ℕ) → IsRows rows.now h → bit_xor result.upper result.lower ≡ times x h }
 {
     let bytes = x.to_be_bytes();
-    let mut sum = 0;
+    let mut upper = 0;
+    let mut lower = 0;
     'each: for i in 0..16 {
         let byte = bytes[i];
-        sum = sum ^ rows[2 * i][(byte >> 4) as usize] ^ rows[2 * i + 1][(byte & 15) as usize];
+        upper = upper ^ rows[2 * i][(byte >> 4) as usize];
+        lower = lower ^ rows[2 * i + 1][(byte & 15) as usize];
     }
-    sum
+    Sum { upper, lower }
 }

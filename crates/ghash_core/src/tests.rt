@@ -10,6 +10,24 @@ fn hash_of(key: u128, blocks: &[u128]) -> u128 {
     u128::from_be_bytes(hash.value())
 }
 
+/// The same, where four blocks at a time are taken as long as there are four.
+fn hash_by_fours(key: u128, blocks: &[u128]) -> u128 {
+    let mut hash = Ghash::new(key.to_be_bytes());
+    let fours = blocks.len() / 4;
+    for k in 0..fours {
+        hash.four([
+            blocks[4 * k].to_be_bytes(),
+            blocks[4 * k + 1].to_be_bytes(),
+            blocks[4 * k + 2].to_be_bytes(),
+            blocks[4 * k + 3].to_be_bytes(),
+        ]);
+    }
+    for block in &blocks[4 * fours..] {
+        hash.block(block.to_be_bytes());
+    }
+    u128::from_be_bytes(hash.value())
+}
+
 #[test]
 fn hashes_as_the_gcm_specification_does(rt: HostRuntime) {
     let short = [
@@ -31,6 +49,10 @@ fn hashes_as_the_gcm_specification_does(rt: HostRuntime) {
     ];
     assert_eq!(rt;
         hash_of(0xacbef20579b4b8ebce889bac8732dad7, &long),
+        0x8bd0c4d8aacd391e67cca447e8c38f65
+    );
+    assert_eq!(rt;
+        hash_by_fours(0xacbef20579b4b8ebce889bac8732dad7, &long),
         0x8bd0c4d8aacd391e67cca447e8c38f65
     );
 }

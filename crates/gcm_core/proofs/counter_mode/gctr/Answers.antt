@@ -1,34 +1,39 @@
-use Rattle.std.proofs.Common.{◌≡◌, ◌/◌, ◌%◌, ◌++◌, length, ap, ◌∙◌, arith}
+use Rattle.std.proofs.Common.{◌≡◌, ◌+◌, ◌-◌, ◌*◌, ◌/◌, ◌++◌, length, take, drop, ap, ◌∙◌, arith}
 use Rattle.std.specs.Int.{w32, to_be_bytes}
-use Rattle.cipher_spec.specs.Aes.{aes}
-use Rattle.cipher_spec.specs.Gcm.{counter}
-use Rattle.gcm_core.proofs.Counting.{counter-next, masked_further, gctr-masked}
+use borrow.Rule.Slice.PartMut.{put_mid}
+use Rattle.cipher_spec.specs.Gcm.{counter, gctr}
+use Rattle.gcm_core.proofs.Counting.{counter-next}
+use Rattle.gcm_core.proofs.Groups.{gctr-further, gctr-last}
 use Rattle.gcm_core.proofs.counter_mode.gctr.Goals as goal
 
-pub each-preserved : goal.each-preserved
-each-preserved c =
+pub groups-preserved : goal.groups-preserved
+groups-preserved c =
     let key = c.args.key.now in
     let iv = c.args.iv.now in
     let initial = iv ++ to_be_bytes w32 c.args.first in
     let old = c.args.text.now in
-    let k = c.each.k in
-    let mask : c.block-mask.result ≡ aes key (counter initial k) = c.block-mask.ensures ∙ ap (aes key) (c.counter_block.ensures ∙ c.each.invariant.next) in
+    let mid = c.groups.text in
+    let k = c.groups.k in
+    let a = 128 * k in
+    let n = 128 * k + 128 - 128 * k in
+    let part = take n (drop a mid) in
+    let e : a + n ≡ 128 * (k + 1) = omega arith in
     record {
-      next = counter-next iv initial c.each.count k c.told-iv (omega arith) c.each.invariant.next;
-      before = λ j h. masked_further key initial old c.each.text c.add_mask.new.text c.block-mask.result k 16 (omega arith) mask c.each.invariant.before c.each.invariant.after c.add_mask.ensures.before c.add_mask.ensures.there j (omega arith);
-      after = λ j h. c.add_mask.ensures.after j (omega arith) ∙ c.each.invariant.after j (omega arith);
+      next = counter-next iv initial c.groups.count (8 * k) 8 (8 * (k + 1)) c.told-iv (omega arith) c.groups.invariant.next (omega arith);
+      text = gctr-further key initial old mid _ a n (8 * k) (omega arith) (omega arith) c.groups.invariant.text (ap (put_mid a n mid) (c.gctr_group.ensures ∙ ap (λ block. gctr key block part) c.groups.invariant.next)) ∙ ap (λ e. gctr key initial (take e old) ++ drop e old) e;
     }
-
-pub returns-then-rest-eq0 : goal.returns-then-rest-eq0
-returns-then-rest-eq0 c =
-    gctr-masked c.args.key.now (c.args.iv.now ++ to_be_bytes w32 c.args.first) c.args.text.now c.each.text c.each.auto.text (λ j h. c.each.invariant.before j (omega arith))
 
 pub returns : goal.returns
 returns c =
     let key = c.args.key.now in
     let initial = c.args.iv.now ++ to_be_bytes w32 c.args.first in
     let old = c.args.text.now in
-    let k = length old / 16 in
-    let e : c.each.k ≡ k = omega arith in
-    let mask : c.block-mask-2.result ≡ aes key (counter initial k) = c.block-mask-2.ensures ∙ ap (aes key) (c.counter_block-2.ensures ∙ c.each.invariant.next ∙ ap (counter initial) e) in
-    gctr-masked key initial old c.add_mask-2.new.text (omega arith) (λ j h. masked_further key initial old c.each.text c.add_mask-2.new.text c.block-mask-2.result k (length old % 16) (omega arith) mask (λ j h. c.each.invariant.before j (omega arith)) (λ j h. c.each.invariant.after j (omega arith)) c.add_mask-2.ensures.before c.add_mask-2.ensures.there j (omega arith))
+    let mid = c.groups.text in
+    let k = length old / 128 in
+    let a = 128 * k in
+    let n = length mid - a in
+    let part = take n (drop a mid) in
+    let e : c.groups.k ≡ k = omega arith in
+    let text : mid ≡ gctr key initial (take a old) ++ drop a old = c.groups.invariant.text ∙ ap (λ k. gctr key initial (take (128 * k) old) ++ drop (128 * k) old) e in
+    let next : c.args.iv.now ++ to_be_bytes w32 c.groups.count ≡ counter initial (8 * k) = c.groups.invariant.next ∙ ap (λ k. counter initial (8 * k)) e in
+    gctr-last key initial old mid _ a n (8 * k) (omega arith) (omega arith) text (ap (put_mid a n mid) (c.gctr_rest.ensures ∙ ap (λ block. gctr key block part) next))
