@@ -8,3 +8,4 @@ pub mod Gives
 pub mod Sequential
 pub mod Report
 pub mod Laws
+pub mod Lending

@@ -7,6 +7,8 @@ use Rattle.esdk_fields.specs.declared.faults.Fault.{Fault}
 use Rattle.esdk_fields.specs.declared.faults.Fault.TheVariants as faults
 use Rattle.esdk_fields.specs.declared.refusals.Refusal.{Refusal}
 use Rattle.esdk_fields.specs.declared.refusals.Refusal.TheVariants as refusals
+use Rattle.esdk_fields.specs.declared.refusals.FileRefusal.{FileRefusal}
+use Rattle.esdk_fields.specs.declared.refusals.FileRefusal.TheVariants as files
 use Rattle.esdk_fields.specs.declared.refusals.Outside.{Outside}
 use Rattle.esdk_fields.specs.declared.refusals.Outside.TheVariants as outsides
 
@@ -61,6 +63,19 @@ refusal_line (refusals.TooManyDataKeys count) = codes "Q7 TooManyDataKeys" ++ nu
 refusal_line (refusals.HeaderTooLong end) = codes "Q8 HeaderTooLong" ++ number_word end
 refusal_line refusals.TooManyFrames = codes "Q9 TooManyFrames"
 refusal_line (refusals.OverDeclared declared) = codes "Q10 OverDeclared" ++ number_word declared
+
+-- the line of a refused keyring file or job file
+unfoldable pub file_line : FileRefusal → List ℕ
+file_line files.NotJson = codes "K1 NotJson"
+file_line (files.BadShape place) = codes "K2 BadShape" ++ number_word place
+file_line (files.BadKey place) = codes "K3 BadKey" ++ number_word place
+file_line files.ReservedNamespace = codes "K4 ReservedNamespace"
+file_line (files.ClashingKeys namespace name) = codes "K5 ClashingKeys" ++ text_word namespace ++ text_word name
+file_line files.TooDeep = codes "K6 TooDeep"
+file_line files.TooManyLeaves = codes "K7 TooManyLeaves"
+file_line (files.NoSuchPlug name) = codes "K8 NoSuchPlug" ++ text_word name
+file_line (files.NamesClash name) = codes "K9 NamesClash" ++ text_word name
+file_line files.FileTooLong = codes "K10 FileTooLong"
 
 -- the line of what failed outside of the library
 unfoldable pub outside_line : Outside → List ℕ

@@ -1,6 +1,9 @@
 //! What can be wrong with a message.
 
+ghost use Rattle.std.specs.Prelude.{◌≡◌, IfOk};
+
 use crate::texts::Text;
+use std::alloc::{AllocError, Global};
 
 /// What is wrong with the bytes of an encryption context.
 #[derive(Clone, Copy, PartialEq, Eq)]
@@ -65,4 +68,45 @@ pub enum Fault {
     BlockTooLong(u64),
     /// M22: bytes follow the end of the message.
     TrailingBytes,
+}
+
+impl Fault {
+    /// A second fault, equal to this one. Fails only where memory runs out.
+    pub fn copy(&self, alloc: Global) -> Result<Fault, AllocError>
+        ensures { IfOk result (λ made. made ≡ self.now) }
+    {
+        match self {
+            Fault::BadVersion(version) => Ok(Fault::BadVersion(*version)),
+            Fault::UnsupportedSuite(suite) => Ok(Fault::UnsupportedSuite(*suite)),
+            Fault::BadContext(kind) => Ok(Fault::BadContext(*kind)),
+            Fault::NoDataKeys => Ok(Fault::NoDataKeys),
+            Fault::TooManyDataKeys(count) => Ok(Fault::TooManyDataKeys(*count)),
+            Fault::BadContentType(kind) => Ok(Fault::BadContentType(*kind)),
+            Fault::BadFrameLength(frame) => Ok(Fault::BadFrameLength(*frame)),
+            Fault::HeaderTooLong(end) => Ok(Fault::HeaderTooLong(*end)),
+            Fault::UnitTooLong(unit) => Ok(Fault::UnitTooLong(*unit)),
+            Fault::Truncated => Ok(Fault::Truncated),
+            Fault::ReservedKey => Ok(Fault::ReservedKey),
+            Fault::ContextMismatch(key) => Ok(Fault::ContextMismatch(Text::new(
+                alloc,
+                key.as_str(),
+            )?)),
+            Fault::MissingRequired(key) => Ok(Fault::MissingRequired(Text::new(
+                alloc,
+                key.as_str(),
+            )?)),
+            Fault::ContextTooLong(total) => Ok(Fault::ContextTooLong(*total)),
+            Fault::NoKeyOpens => Ok(Fault::NoKeyOpens),
+            Fault::Commitment => Ok(Fault::Commitment),
+            Fault::HeaderTag => Ok(Fault::HeaderTag),
+            Fault::WrongSequence { want, got } => Ok(Fault::WrongSequence {
+                want: *want,
+                got: *got,
+            }),
+            Fault::FinalTooLong(length) => Ok(Fault::FinalTooLong(*length)),
+            Fault::UnitTag(sequence) => Ok(Fault::UnitTag(*sequence)),
+            Fault::BlockTooLong(length) => Ok(Fault::BlockTooLong(*length)),
+            Fault::TrailingBytes => Ok(Fault::TrailingBytes),
+        }
+    }
 }

@@ -19,8 +19,8 @@ pub use cursors::Cursor;
 pub use faults::{ContextFault, Fault};
 pub use fields::{bytes_of, sized_of, u8_of, u16_of, u32_of, u64_of};
 pub use laws::{fields_come_in_order, judgement_stands, numbers_are_read_back};
-pub use refusals::{FieldError, Outside, Refusal};
-pub use report::{fault_text, outside_text, printed, refusal_text};
+pub use refusals::{FieldError, FileRefusal, Outside, Refusal};
+pub use report::{fault_text, file_text, outside_text, printed, refusal_text};
 pub use stops::{Stop, refused};
 pub use texts::Text;
 

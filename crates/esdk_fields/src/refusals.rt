@@ -1,10 +1,10 @@
 //! Why a request, a read or a run is refused.
 
-ghost use Rattle.std.specs.Prelude.{◌≡◌};
+ghost use Rattle.std.specs.Prelude.{◌≡◌, IfOk};
 
 use crate::faults::Fault;
 use crate::texts::Text;
-use std::alloc::{AllocError, AllocFailed};
+use std::alloc::{AllocError, AllocFailed, Global};
 
 /// Why a request to encrypt is refused. Its number is the one on the printed line.
 #[derive(Drop)]
@@ -29,6 +29,62 @@ pub enum Refusal {
     TooManyFrames,
     /// Q10: more bytes came than were declared; the declared number.
     OverDeclared(u64),
+}
+
+/// Why a keyring file or a job file is refused. Its number is the one on the printed line. A place is a node's or a job's number from 1, and 0 for
+/// the file itself.
+#[derive(Drop)]
+pub enum FileRefusal {
+    /// K1: the bytes are no JSON.
+    NotJson,
+    /// K2: what stands there has none of the forms that it may have; its place.
+    BadShape(u32),
+    /// K3: the key there isn't one of 32 bytes, spelled as the file's form asks; its place.
+    BadKey(u32),
+    /// K4: a raw key's namespace is `aws-kms`, which is kept for others.
+    ReservedNamespace,
+    /// K5: two raw keys have this namespace and this name, and differ.
+    ClashingKeys(Text, Text),
+    /// K6: a node stands on the ninth level.
+    TooDeep,
+    /// K7: the tree has more than 64 leaves.
+    TooManyLeaves,
+    /// K8: no ring of this name, or no more of them, was handed in; the name.
+    NoSuchPlug(Text),
+    /// K9: a job is to write a file that another job writes, or that is read; its name.
+    NamesClash(Text),
+    /// K10: the file is longer than a file may be.
+    FileTooLong,
+}
+
+impl FileRefusal {
+    /// A second refusal, equal to this one. Fails only where memory runs out.
+    pub fn copy(&self, alloc: Global) -> Result<FileRefusal, AllocError>
+        ensures { IfOk result (λ made. made ≡ self.now) }
+    {
+        match self {
+            FileRefusal::NotJson => Ok(FileRefusal::NotJson),
+            FileRefusal::BadShape(place) => Ok(FileRefusal::BadShape(*place)),
+            FileRefusal::BadKey(place) => Ok(FileRefusal::BadKey(*place)),
+            FileRefusal::ReservedNamespace => Ok(FileRefusal::ReservedNamespace),
+            FileRefusal::ClashingKeys(namespace, name) => {
+                let namespace = Text::new(alloc, namespace.as_str())?;
+                let name = Text::new(alloc, name.as_str())?;
+                Ok(FileRefusal::ClashingKeys(namespace, name))
+            }
+            FileRefusal::TooDeep => Ok(FileRefusal::TooDeep),
+            FileRefusal::TooManyLeaves => Ok(FileRefusal::TooManyLeaves),
+            FileRefusal::NoSuchPlug(name) => Ok(FileRefusal::NoSuchPlug(Text::new(
+                alloc,
+                name.as_str(),
+            )?)),
+            FileRefusal::NamesClash(name) => Ok(FileRefusal::NamesClash(Text::new(
+                alloc,
+                name.as_str(),
+            )?)),
+            FileRefusal::FileTooLong => Ok(FileRefusal::FileTooLong),
+        }
+    }
 }
 
 /// What failed outside of the library. Its number is the one on the printed line.

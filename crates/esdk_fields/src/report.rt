@@ -2,11 +2,11 @@
 
 ghost use Rattle.std.specs.Prelude.{◌≡◌, ◌++◌, ◌<◌, IfOk, OnOk, OnErr};
 ghost use Rattle.std.specs.Char.{digit_char};
-ghost use Rattle.esdk_fields.specs.Report.{number_word, text_word, hex_word, fault_line, refusal_line, outside_line, printed_line};
+ghost use Rattle.esdk_fields.specs.Report.{number_word, text_word, hex_word, fault_line, refusal_line, file_line, outside_line, printed_line};
 
 use crate::blobs::Blob;
 use crate::faults::{ContextFault, Fault};
-use crate::refusals::{Outside, Refusal};
+use crate::refusals::{FileRefusal, Outside, Refusal};
 use crate::texts::Text;
 use serde_json::Value;
 use std::alloc::{AllocError, Global};
@@ -73,6 +73,30 @@ pub fn refusal_text(alloc: Global, refusal: &Refusal) -> Result<Blob, AllocError
         Refusal::HeaderTooLong(end) => with_number(alloc, "Q8 HeaderTooLong", *end),
         Refusal::TooManyFrames => alone(alloc, "Q9 TooManyFrames"),
         Refusal::OverDeclared(declared) => with_number(alloc, "Q10 OverDeclared", *declared),
+    }
+}
+
+/// The line that names why a keyring file or a job file was refused. Fails only where memory runs out.
+#[tactic(auto, unfolding(crate::specs::Report::file_line))]
+pub fn file_text(alloc: Global, refusal: &FileRefusal) -> Result<Blob, AllocError>
+    ensures { IfOk result (λ line. line ≡ file_line refusal.now) }
+{
+    match refusal {
+        FileRefusal::NotJson => alone(alloc, "K1 NotJson"),
+        FileRefusal::BadShape(place) => with_number(alloc, "K2 BadShape", u64::from(*place)),
+        FileRefusal::BadKey(place) => with_number(alloc, "K3 BadKey", u64::from(*place)),
+        FileRefusal::ReservedNamespace => alone(alloc, "K4 ReservedNamespace"),
+        FileRefusal::ClashingKeys(namespace, name) => with_two_texts(
+            alloc,
+            "K5 ClashingKeys",
+            namespace,
+            name,
+        ),
+        FileRefusal::TooDeep => alone(alloc, "K6 TooDeep"),
+        FileRefusal::TooManyLeaves => alone(alloc, "K7 TooManyLeaves"),
+        FileRefusal::NoSuchPlug(name) => with_text(alloc, "K8 NoSuchPlug", name),
+        FileRefusal::NamesClash(name) => with_text(alloc, "K9 NamesClash", name),
+        FileRefusal::FileTooLong => alone(alloc, "K10 FileTooLong"),
     }
 }
 
@@ -145,15 +169,35 @@ fn with_wide_number(alloc: Global, name: &str, n: u128) -> Result<Blob, AllocErr
     Ok(line)
 }
 
-#[tactic(auto, unfolding(crate::specs::Report::text_word))]
 fn with_text(alloc: Global, name: &str, text: &Text) -> Result<Blob, AllocError>
     ensures { IfOk result (λ line. line ≡ name.now ++ text_word text.now) }
 {
     let mut line = alone(alloc, name)?;
+    push_text(alloc, &mut line, text)?;
+    Ok(line)
+}
+
+fn with_two_texts(
+    alloc: Global,
+    name: &str,
+    first: &Text,
+    second: &Text,
+) -> Result<Blob, AllocError>
+    ensures { IfOk result (λ line. line ≡ name.now ++ text_word first.now ++ text_word second.now) }
+{
+    let mut line = alone(alloc, name)?;
+    push_text(alloc, &mut line, first)?;
+    push_text(alloc, &mut line, second)?;
+    Ok(line)
+}
+
+#[tactic(auto, unfolding(crate::specs::Report::text_word))]
+fn push_text(alloc: Global, line: &mut Blob, text: &Text) -> Result<(), AllocError>
+    ensures { OnOk result (line.new ≡ line.old ++ text_word text.now) }
+{
     line.push_all(b" ")?;
     let word = Value::try_from_str(alloc, text.as_str())?.to_string(alloc)?;
-    line.push_all(word.as_bytes())?;
-    Ok(line)
+    line.push_all(word.as_bytes())
 }
 
 #[tactic(auto, unfolding(crate::specs::Report::hex_word))]

@@ -1,3 +1,5 @@
+ghost use Rattle.std.specs.Prelude.{◌≡◌, ◌<◌, length, slice_set};
+
 use super::*;
 use std::alloc::AllocError;
 use std::test::*;
@@ -13,6 +15,25 @@ fn numbers_are_put_with_the_high_byte_first(rt: HostRuntime) -> Result<(), Alloc
         4, 0x78, 0, 0, 0x10, 0, 0, 0, 0, 0x0f, 0xff, 0xff, 0xff, 0xe0, b'e', b'n', b'd',
     ];
     assert_eq!(rt; out.bytes(), want.as_slice());
+    Ok(())
+}
+
+/// A caller that changes bytes where they lie.
+fn mark(blob: &mut Blob)
+    requires { 0 < length blob.old }
+    ensures { blob.new ≡ slice_set blob.old 0 7 }
+{
+    blob.bytes_mut()[0] = 7;
+}
+
+#[test]
+fn lent_bytes_are_changed_where_they_lie(rt: HostRuntime) -> Result<(), AllocError> {
+    let mut blob = Blob::new(rt.alloc());
+    blob.push_all(b"abc")?;
+    if !blob.bytes().is_empty() {
+        mark(&mut blob);
+    }
+    assert_eq!(rt; blob.bytes(), [7, b'b', b'c'].as_slice());
     Ok(())
 }
 
@@ -79,6 +100,8 @@ fn faults_are_named_on_a_line(rt: HostRuntime) -> Result<(), AllocError> {
     assert_eq!(rt; context.bytes(), b"M3 BadContext Duplicate".as_slice());
     let sequence = fault_text(alloc, &Fault::WrongSequence { want: 1, got: 2 })?;
     assert_eq!(rt; sequence.bytes(), b"M18 WrongSequence 1 2".as_slice());
+    let again = fault_text(alloc, &Fault::FinalTooLong(3).copy(alloc)?)?;
+    assert_eq!(rt; again.bytes(), b"M19 FinalTooLong 3".as_slice());
     Ok(())
 }
 
@@ -106,5 +129,20 @@ fn other_refusals_are_named_on_a_line(rt: HostRuntime) -> Result<(), AllocError>
     let source = outside_text(alloc, &Outside::SourceFault)?;
     let line = printed(alloc, &source)?;
     assert_eq!(rt; line.bytes(), b"esdk: X1 SourceFault\n".as_slice());
+    Ok(())
+}
+
+#[test]
+fn refused_files_are_named_on_a_line(rt: HostRuntime) -> Result<(), AllocError> {
+    let alloc = rt.alloc();
+    let shape = file_text(alloc, &FileRefusal::BadShape(0))?;
+    assert_eq!(rt; shape.bytes(), b"K2 BadShape 0".as_slice());
+    let clash = FileRefusal::ClashingKeys(Text::new(alloc, "ns")?, Text::new(alloc, "k")?);
+    let keys = file_text(alloc, &clash)?;
+    assert_eq!(rt; keys.bytes(), b"K5 ClashingKeys \"ns\" \"k\"".as_slice());
+    let again = file_text(alloc, &clash.copy(alloc)?)?;
+    assert_eq!(rt; again.bytes(), b"K5 ClashingKeys \"ns\" \"k\"".as_slice());
+    let long = file_text(alloc, &FileRefusal::FileTooLong)?;
+    assert_eq!(rt; long.bytes(), b"K10 FileTooLong".as_slice());
     Ok(())
 }
