@@ -4,6 +4,7 @@ pub mod Fronts
 pub mod Offences
 pub mod Offending
 pub mod Order
+pub mod ReadBack
 pub mod Readings
 pub mod Refused
 pub mod Rows
@@ -12,4 +13,4 @@ pub mod Spelled
 pub mod Steps
 pub mod Uniqueness
 pub mod Whole
-pub mod Written
+pub mod WrittenHeaders

@@ -21,7 +21,7 @@ use Rattle.header_codec.specs.Offence.{Version, Suite, Context, NoKeys, ManyKeys
 use Rattle.header_codec.proofs.Steps.{after_count, after_kind, after_frame, after_opening, after_context, after_keys, after_content}
 use Rattle.header_codec.proofs.Readings.{place, Refuses, Refuses-bind, Refuses-first, Refuses-after, guard_passes, guard_refuses}
 use Rattle.header_codec.proofs.Contents.{limit_within, limit_over}
-use Rattle.header_codec.proofs.Written.{Reads-number8, Reads-number16, Reads-number32, Reads-opening, Reads-keys}
+use Rattle.header_codec.proofs.ReadBack.{Reads-number8, Reads-number16, Reads-number32, Reads-opening, Reads-keys}
 use Rattle.header_codec.proofs.Offending.{Refuses-guard, not_of_false, not_of_true, version_refused, suite_refused, context_refused, behind_context, no_keys_refused, many_keys_refused, EndsLate, late_text, entries_late}
 
 -- ---- the content

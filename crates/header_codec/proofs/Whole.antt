@@ -1,6 +1,7 @@
 -- Where a header's body ends, and what is kept of it.
 use Rattle.std.proofs.Common.{◌≡◌, ℕ, ◌≤◌, List, length, take, refl, ap, sym, ◌∙◌, arith}
 use Rattle.std.proofs.lemmas.List.{length-take}
+use Rattle.esdk_fields.specs.Bytes.{AreBytes}
 use Rattle.esdk_fields.specs.Place.{Place, start}
 use Rattle.esdk_fields.specs.Reading.{Read, bytes}
 use Rattle.esdk_fields.proofs.Sequential.{IsSequential-bytes}
@@ -10,9 +11,10 @@ use Rattle.header_codec.specs.declared.settings.Settings.{Settings}
 use Rattle.context_codec.specs.Context.{KeyValue}
 use Rattle.context_codec.specs.Split.{SpellsContext}
 use Rattle.edk_codec.specs.Entry.{Entry}
-use Rattle.header_codec.specs.Header.{HeaderValue}
+use Rattle.header_codec.specs.Header.{HeaderValue, IsKept}
 use Rattle.header_codec.specs.Table.{Head, header, made_of, BeginsWith}
 use Rattle.header_codec.proofs.Steps.{header_is_read}
+use Rattle.header_codec.proofs.Spelled.{is_spelled}
 use Rattle.header_codec.proofs.Order.{IsSequential-header}
 
 length_of_field : (n : ℕ) (p : Place) (x : List ℕ) (next : Place) → bytes n p ≡ Read x next → length x ≡ n
@@ -51,3 +53,7 @@ begins_with settings b parts next stored end id entries commitment raw tag read 
     made : (i : List ℕ) (e : List Entry) (c r t : List ℕ) → i ≡ parts.id → e ≡ parts.entries → c ≡ parts.commitment → r ≡ take parts.size b → t ≡ parts.tag
         → value (record { suite = 0x0478; message_id = i; stored = stored; entries = e; content = parts.content; commitment = c; raw = r; tag = t }) ≡ made_of b parts stored
     made i e c r t pi pe pc pr pt = rw (pi, pe, pc, pr, pt) refl
+
+-- what was read keeps what the type of headers keeps
+pub kept : (settings : Settings) (b : List ℕ) (h : HeaderValue) (end : Place) → AreBytes b → BeginsWith settings b h end → IsKept h
+kept settings b h end fits begins = let s = is_spelled settings b h end fits begins in record { body = s.body; keys_end = s.within.keys_end }

@@ -77,3 +77,8 @@ pub record IsWithin (settings : Settings) (h : HeaderValue) : Type 0 where
   pub keys_end : length h.raw ≤ latest_end + 37
   pub max_keys : IfSome settings.max_keys (λ most. length h.entries ≤ most)
   pub max_unit : IfSome settings.max_unit (λ most. frame_length h.content ≤ most)
+
+-- What the type of headers keeps: the body is the header's own, and its data keys end in time.
+pub record IsKept (h : HeaderValue) : Type 0 where
+  pub body : IsHeader h.raw h
+  pub keys_end : length h.raw ≤ latest_end + 37

@@ -1,14 +1,17 @@
 -- What the laws of this crate say of the table, and of the headers that it reads.
-use Rattle.std.specs.Prelude.{◌≡◌, ◌↔◌, ℕ, ◌+◌, List, ◌++◌, length}
+use Rattle.std.specs.Prelude.{◌≡◌, ◌↔◌, ℕ, ◌+◌, ◌≤◌, List, ◌++◌, length, IfSome, None}
 use Rattle.esdk_fields.specs.declared.faults.Fault.{Fault}
 use Rattle.esdk_fields.specs.Bytes.{AreBytes}
 use Rattle.esdk_fields.specs.Laws.{JudgesInOrder}
 use Rattle.esdk_fields.specs.Place.{Place, start}
 use Rattle.esdk_fields.specs.Reading.{Read, Refused}
+use Rattle.context_codec.specs.Context.{KeyValue}
+use Rattle.edk_codec.specs.Entry.{Entry}
 use Rattle.header_codec.specs.declared.settings.Settings.{Settings}
 use Rattle.header_codec.specs.Header.{HeaderValue, IsHeader, IsWithin}
 use Rattle.header_codec.specs.Offence.{HasOffence}
 use Rattle.header_codec.specs.Table.{Head, header, BeginsWith}
+use Rattle.header_codec.specs.Written.{AreHeaderParts, written_header, written_value, header_refusal}
 
 -- A fault stays when bytes follow, and comes with the last byte of its field, no earlier and no later. So does the header, once it is whole.
 abbrev pub JudgesHeadersInOrder : Type 0
@@ -41,3 +44,17 @@ ReadsSomeHeader = (settings : Settings) (bytes : List ℕ) (parts : Head) (end :
 abbrev pub RefusesTheFirstOffence : Type 0
 RefusesTheFirstOffence = (settings : Settings) (bytes : List ℕ) (fault : Fault) (at : ℕ) → AreBytes bytes
     → (header settings (start bytes) ≡ Refused fault at) ↔ HasOffence settings bytes fault at
+
+-- What is written is the body of a header of these parts.
+abbrev pub WritesHeaders : Type 0
+WritesHeaders = (id : List ℕ) (stored : List KeyValue) (entries : List Entry) (frame : ℕ) (commitment tag : List ℕ)
+    → AreHeaderParts id stored entries frame commitment
+    → IsHeader (written_header id stored entries frame commitment) (written_value id stored entries frame commitment tag)
+
+-- What is written is read back as these parts with whatever tag stands behind it, whatever follows, under any limits that the parts keep.
+abbrev pub WrittenHeadersAreRead : Type 0
+WrittenHeadersAreRead = (settings : Settings) (id : List ℕ) (stored : List KeyValue) (entries : List Entry) (frame : ℕ) (commitment tag more : List ℕ)
+    → AreHeaderParts id stored entries frame commitment → length tag ≡ 16
+    → header_refusal id stored entries settings.max_keys ≡ None → IfSome settings.max_unit (λ most. frame ≤ most)
+    → BeginsWith settings (written_header id stored entries frame commitment ++ tag ++ more) (written_value id stored entries frame commitment tag)
+    (record { at = length (written_header id stored entries frame commitment) + 16; left = more })

@@ -5,4 +5,5 @@ pub mod Session
 pub mod Stands
 pub mod Parts
 pub mod Found
+pub mod Written
 pub mod Laws

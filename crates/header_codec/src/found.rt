@@ -15,9 +15,11 @@ use std::alloc::{AllocError, Global};
 
 /// A header, and the offset behind its tag.
 #[derive(Drop)]
-pub(crate) struct Found {
-    pub(crate) header: Header,
-    pub(crate) end: usize,
+pub struct Found {
+    /// The header and its tag.
+    pub header: Header,
+    /// Where the tag ends, counted from the first byte of the header.
+    pub end: usize,
 }
 
 /// The entries, out of the bytes.
@@ -31,8 +33,11 @@ fn owned_entries(alloc: Global, entries: &[RawEntry<'_>]) -> Result<Vec<DataKeyE
     Ok(owned)
 }
 
-/// The header that the bytes begin with, and where its tag ends. Else why there is none.
-pub(crate) fn header_in(alloc: Global, settings: Settings, bytes: &[u8]) -> Result<Found, Stop>
+/// The header that the bytes begin with, and where its tag ends.
+///
+/// `Fault` with M1 to M9 and the offset where the field that has it ends; `Wanting` where neither a fault nor the header's tag is whole in the
+/// bytes; `Memory` where memory runs out.
+pub fn header_in(alloc: Global, settings: Settings, bytes: &[u8]) -> Result<Found, Stop>
     ensures { FindsHeader settings bytes.now result }
 {
     let mut cursor = Cursor::new(bytes);

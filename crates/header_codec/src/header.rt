@@ -1,7 +1,7 @@
 //! A header that was read.
 
-ghost use Rattle.std.specs.Prelude.{◌≡◌, length};
-ghost use Rattle.header_codec.specs.Header.{HeaderValue};
+ghost use Rattle.std.specs.Prelude.{◌≡◌, ◌+◌, ◌≤◌, length};
+ghost use Rattle.header_codec.specs.Header.{IsContent, IsHeader, latest_end};
 
 use context_codec::Context;
 use edk_codec::DataKeyEntry;
@@ -22,7 +22,7 @@ pub struct Header {
 }
 
 impl Model for Header {
-    ghost use Rattle.header_codec.specs.Header.{HeaderValue};
+    ghost use Rattle.header_codec.specs.Header.{HeaderValue, IsKept};
 
     ghost Value = { HeaderValue };
 
@@ -36,6 +36,17 @@ impl Model for Header {
       raw = a.text.items;
       tag = a.authentication;
     } };
+
+    ghost invariant = { λ a. IsKept (record {
+      suite = a.algorithm;
+      message_id = a.id.items;
+      stored = a.context;
+      entries = a.keys.items;
+      content = a.body;
+      commitment = a.suite_data.items;
+      raw = a.text.items;
+      tag = a.authentication;
+    }) };
 }
 
 impl Header {
@@ -48,7 +59,8 @@ impl Header {
 
     /// The message id, 32 bytes.
     pub fn message_id(&self) -> &[u8]
-        ensures { result.now ≡ self.now.message_id }
+        ensures id { result.now ≡ self.now.message_id }
+        ensures len { length self.now.message_id ≡ 32 }
     {
         &self.id
     }
@@ -62,28 +74,34 @@ impl Header {
 
     /// The encrypted data keys, in the header's order.
     pub fn entries(&self) -> &[DataKeyEntry]
-        ensures { result.now ≡ self.now.entries }
+        ensures entries { result.now ≡ self.now.entries }
+        ensures some { 1 ≤ length self.now.entries }
+        ensures few { length self.now.entries ≤ 65535 }
     {
         &self.keys
     }
 
     /// How the body's content is cut.
     pub fn content(&self) -> Content
-        ensures { result ≡ self.now.content }
+        ensures content { result ≡ self.now.content }
+        ensures is_content { IsContent self.now.content }
     {
         self.body
     }
 
     /// The algorithm suite data: the commitment to the data key, 32 bytes.
     pub fn commitment(&self) -> &[u8]
-        ensures { result.now ≡ self.now.commitment }
+        ensures commitment { result.now ≡ self.now.commitment }
+        ensures len { length self.now.commitment ≡ 32 }
     {
         &self.suite_data
     }
 
     /// The header body, byte for byte as it was read.
     pub fn raw(&self) -> &[u8]
-        ensures { result.now ≡ self.now.raw }
+        ensures body { result.now ≡ self.now.raw }
+        ensures is_header { IsHeader self.now.raw self.now }
+        ensures within { length self.now.raw ≤ latest_end + 37 }
     {
         &self.text
     }

@@ -11,15 +11,18 @@ mod parts;
 mod session;
 mod settings;
 mod table;
+mod written;
 
 pub use edk_codec::DataKeyEntry;
+pub use found::{Found, header_in};
 pub use header::Header;
 pub use laws::{
     headers_are_judged_in_order, one_header_is_read, some_header_is_read, spelled_headers_are_read,
-    the_first_offence_is_the_fault,
+    the_first_offence_is_the_fault, written_headers_are_headers, written_headers_are_read,
 };
 pub use session::{HeaderReader, HeaderStep};
 pub use settings::Settings;
+pub use written::write_header;
 
 #[cfg(test)]
 mod tests;

@@ -12,18 +12,18 @@ use crate::parts::{Parts, RawEntry};
 use crate::settings::Settings;
 use context_codec::{Context, read_field};
 use esdk_fields::{
-    Content, Cursor, Fault, FieldError, Stop, bytes_of, refused, u8_of, u16_of, u32_of,
+    Content, Cursor, Fault, FieldError, Stop, bytes_of, refused, sized_of, u8_of, u16_of, u32_of,
 };
 use std::alloc::Global;
 
 /// The version of the format.
-const VERSION: u8 = 2;
+pub(crate) const VERSION: u8 = 2;
 
 /// The suite with key commitment and without a signature.
-const SUITE: u16 = 0x0478;
+pub(crate) const SUITE: u16 = 0x0478;
 
 /// Where the encrypted data keys end at the latest.
-const LATEST_END: usize = 16_777_216;
+pub(crate) const LATEST_END: usize = 16_777_216;
 
 /// A context where it stands in the bytes, and its pairs.
 #[derive(Drop)]
@@ -50,14 +50,13 @@ fn opening_of<'a>(cursor: &mut Cursor<'a>) -> Result<&'a [u8], Stop>
 }
 
 /// Two bytes of length, and a context's text.
-#[tactic(auto, unfolding(crate::specs::Table::context_field))]
+#[tactic(auto, unfolding(crate::specs::Table::context_field, esdk_fields::specs::Sized::sized_bytes))]
 fn context_field_of<'a>(alloc: Global, cursor: &mut Cursor<'a>) -> Result<ContextField<'a>, Stop>
     ensures reads { Gives (λ x. x.bytes.now) result cursor.new (context_field cursor.old) }
     ensures spells { IfOk result (λ x. SpellsContext x.bytes.now x.stored) }
     ensures end { OnOk result (cursor.new.at ≤ cursor.old.at + 65537) }
 {
-    let len = usize::from(u16_of(cursor)?);
-    let bytes = bytes_of(cursor, len)?;
+    let bytes = sized_of(cursor)?;
     match read_field(alloc, bytes) {
         Ok(stored) => Ok(ContextField { bytes, stored }),
         Err(FieldError::Fault(fault)) => refused(fault, cursor),
@@ -117,7 +116,7 @@ fn entries_of<'a>(
 }
 
 /// Whether the number is over the limit, where there is one.
-fn is_over(max_keys: Option<u16>, count: u16) -> bool
+pub(crate) fn is_over(max_keys: Option<u16>, count: u16) -> bool
     ensures { result ≡ is_over max_keys count }
 {
     match max_keys {

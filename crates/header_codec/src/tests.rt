@@ -1,3 +1,5 @@
+mod writing;
+
 use super::*;
 use esdk_fields::{Blob, Content, FieldError, fault_text};
 use std::alloc::{AllocError, Global};

@@ -1,5 +1,5 @@
 use Rattle.header_codec.proofs.Spelled.{is_spelled}
-use Rattle.header_codec.proofs.Written.{begins}
+use Rattle.header_codec.proofs.ReadBack.{begins}
 use Rattle.header_codec.proofs.laws.spelled_headers_are_read.Goals as goal
 
 pub returns : goal.returns
