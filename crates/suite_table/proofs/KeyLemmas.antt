@@ -1,0 +1,21 @@
+-- The length and the bytes of the keys that are derived.
+use Rattle.std.proofs.Common.{◌≡◌, ◌<◌, ℕ, List, length}
+use Rattle.std.specs.Prelude.{All}
+use Rattle.cipher_spec.proofs.HkdfLemmas.{length-hkdf512, bytes-hkdf512}
+use Rattle.suite_table.specs.Keys.{derived, commitment}
+
+pub length-derived : (key id : List ℕ) → length (derived key id) ≡ 32
+unfolding derived
+length-derived key id = length-hkdf512 key id _ 32
+
+pub bytes-derived : (key id : List ℕ) → All (λ b. b < 256) (derived key id)
+unfolding derived
+bytes-derived key id = bytes-hkdf512 key id _ 32
+
+pub length-commitment : (key id : List ℕ) → length (commitment key id) ≡ 32
+unfolding commitment
+length-commitment key id = length-hkdf512 key id _ 32
+
+pub bytes-commitment : (key id : List ℕ) → All (λ b. b < 256) (commitment key id)
+unfolding commitment
+bytes-commitment key id = bytes-hkdf512 key id _ 32

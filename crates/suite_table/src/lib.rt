@@ -1,0 +1,14 @@
+//! The algorithm suites of the format, and what each derives from a data key.
+//! Standard: AWS Encryption SDK Specification, "Supported algorithm suites".
+#![tactic(auto)]
+
+mod keys;
+mod laws;
+mod suite;
+
+pub use keys::{commitment, derived};
+pub use laws::{commitment_bytes, commitment_length, derived_bytes, derived_length};
+pub use suite::{Suite, suite_of};
+
+#[cfg(test)]
+mod tests;
