@@ -1,0 +1,14 @@
+pub mod Steps
+pub mod Order
+pub mod Ciphers
+pub mod WrittenAgain
+pub mod Fields
+pub mod Ways
+pub mod Heads
+pub mod Units
+pub mod Sizes
+pub mod Limits
+pub mod Answering
+pub mod FaultyUnits
+pub mod AadLemmas
+pub mod SpelledUnits
