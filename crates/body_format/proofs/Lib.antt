@@ -1,0 +1,17 @@
+pub mod Places
+pub mod Ranges
+pub mod Slots
+pub mod CutReadings
+pub mod RowLaws
+pub mod FrameCounts
+pub mod WrittenRows
+pub mod WrittenBodies
+pub mod BodyRows
+pub mod Released
+pub mod BodyLaws
+pub mod FrameTable
+pub mod TableLaws
+pub mod BlockTable
+pub mod Loop
+pub mod OneRow
+pub mod Writing

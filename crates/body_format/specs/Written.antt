@@ -1,0 +1,39 @@
+-- A body as it is written: a text in frames. Standard: AWS Encryption SDK Specification, message body, "Framed Data".
+use Rattle.std.specs.Prelude.{ℕ, ◌+◌, ◌-◌, ◌*◌, ◌/◌, ◌^◌, ◌<◌, ◌≤◌, List, ◌++◌, length, take, drop, map, ◌==◌, if◌then◌else◌}
+use Rattle.std.specs.List.{flat_map, range_with_len}
+use Rattle.frame_codec.specs.UnitHead.{final_mark}
+use Rattle.frame_codec.specs.Unit.{Under}
+use Rattle.frame_codec.specs.Written.{regular_frame, final_frame}
+
+-- how many frames a text of so many bytes has: one for the empty text, else its length by the frame length, rounded up
+unfoldable pub frame_count : ℕ → ℕ → ℕ
+frame_count size frame = if size == 0 then 1 else (size + frame - 1) / frame
+
+-- what frame i, counted from 0, has of the text
+abbrev pub piece : ℕ → List ℕ → ℕ → List ℕ
+piece frame text i = take frame (drop (i * frame) text)
+
+-- what the first m frames have of the text
+abbrev pub pieces : ℕ → List ℕ → ℕ → List (List ℕ)
+pieces frame text m = map (piece frame text) (range_with_len 0 m)
+
+-- the first m regular frames of a text; their numbers start at 1
+unfoldable pub regular_frames : Under → List ℕ → ℕ → List ℕ
+regular_frames u text m = flat_map (λ i. regular_frame u (i + 1) (piece u.frame text i)) (range_with_len 0 m)
+
+-- all frames but the last are regular; the final frame has the rest
+unfoldable pub framed_body : Under → List ℕ → List ℕ
+framed_body u text =
+    let count = frame_count (length text) u.frame in
+    regular_frames u text (count - 1) ++ final_frame u count (drop ((count - 1) * u.frame) text)
+
+-- A text that can be written in frames: a frame has at least one byte and at most 2^32 - 1, and there are at most 2^32 - 1 frames.
+pub record IsFramed (u : Under) (text : List ℕ) : Type 0 where
+  pub some : 1 ≤ u.frame
+  pub narrow : u.frame < 2 ^ 32
+  pub few : length text ≤ (2 ^ 32 - 1) * u.frame
+
+-- So many full frames can be made of the text, and numbered.
+pub record AreFull (u : Under) (text : List ℕ) (m : ℕ) : Type 0 where
+  pub full : m * u.frame ≤ length text
+  pub few : m < final_mark
