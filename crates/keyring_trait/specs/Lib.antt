@@ -1,0 +1,4 @@
+pub mod Parts
+pub mod Wrapping
+pub mod Unlocking
+pub mod Laws

@@ -1,0 +1,64 @@
+//! Laws about wrapping and unlocking. A law is a function that does nothing: its contract is what is proved.
+
+ghost use Rattle.keyring_trait.specs.Laws.{UnwrapsWraps, PassesOtherNamespaces, PassesOtherNames, UnwrapsTheKey, UnwrapsOnlyWraps, UnwrapsNone, WrapsWhatIsMade, UnlocksWhatWasStored, UnlocksOnlyWraps, NamesTheLeastMissing, NamesTheLeastMismatch, StoresTheSpelled};
+
+/// An entry is unwrapped to a data key exactly where it is a wrap of that data key, by the same key and over the same context.
+pub fn wraps_are_unwrapped()
+    ensures { UnwrapsWraps }
+{}
+
+/// A key passes over the entries of keys with another namespace.
+pub fn other_namespaces_are_passed_over()
+    ensures { PassesOtherNamespaces }
+{}
+
+/// A key passes over the entries of keys with another name.
+pub fn other_names_are_passed_over()
+    ensures { PassesOtherNames }
+{}
+
+/// Where all entries wrap one data key, a reader who has one of the writer's keys unwraps it, whatever other keys it has and whatever order they have.
+pub fn the_wrapped_key_is_unwrapped()
+    ensures { UnwrapsTheKey }
+{}
+
+/// A data key that is unwrapped was wrapped, over that context and under a key of the reader's, in an entry that is there.
+pub fn only_wraps_are_unwrapped()
+    ensures { UnwrapsOnlyWraps }
+{}
+
+/// Nothing is unwrapped exactly where no key of the reader's opens an entry.
+pub fn none_is_unwrapped()
+    ensures { UnwrapsNone }
+{}
+
+/// What a list of keys makes of a data key are wraps of it, one for each of these keys.
+pub fn what_is_made_is_wrapped()
+    ensures { WrapsWhatIsMade }
+{}
+
+/// What a writer stored is unlocked by a reader who has one of its keys and gives the pairs that it required: with the whole context, the
+/// required pairs as those that are only authenticated, and the data key.
+pub fn what_was_stored_is_unlocked()
+    ensures { UnlocksWhatWasStored }
+{}
+
+/// Where a reader unlocks, the data key was wrapped under one of its keys over the stored and the given pairs together.
+pub fn only_wraps_are_unlocked()
+    ensures { UnlocksOnlyWraps }
+{}
+
+/// M13 names the least required key that isn't given.
+pub fn the_least_missing_key_is_named()
+    ensures { NamesTheLeastMissing }
+{}
+
+/// M12 names the least key that is stored and given with different values.
+pub fn the_least_clashing_key_is_named()
+    ensures { NamesTheLeastMismatch }
+{}
+
+/// The stored pairs of a header are the context that its bytes spell.
+pub fn stored_pairs_are_spelled()
+    ensures { StoresTheSpelled }
+{}
