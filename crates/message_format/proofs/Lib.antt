@@ -1,0 +1,10 @@
+pub mod Judging
+pub mod TrailingUnits
+pub mod Bodies
+pub mod Following
+pub mod ReadingOn
+pub mod WrittenHeads
+pub mod WrittenMessages
+pub mod RoundTrip
+pub mod Lines
+pub mod Found

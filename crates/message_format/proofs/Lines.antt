@@ -1,0 +1,123 @@
+-- The judgement of any bytes, line by line.
+use Rattle.std.proofs.Common.{◌≡◌, ◌≢◌, ℕ, ◌+◌, ◌-◌, Bool, true, false, not, List, length, take, drop, Option, Some, None, refl, sym, ap, subst, ◌∙◌, arith}
+use Rattle.std.specs.Str.{bytes_eq}
+use Rattle.std.proofs.lemmas.Slice.Eq.{bytes_eq-Decides}
+use Rattle.esdk_fields.specs.declared.contents.Content.{Content}
+use Rattle.esdk_fields.specs.declared.contents.Content.TheVariants.{Single, Framed}
+use Rattle.esdk_fields.specs.declared.faults.Fault.{Fault}
+use Rattle.esdk_fields.specs.declared.faults.Fault.TheVariants.{Commitment, HeaderTag}
+use Rattle.esdk_fields.specs.Place.{Place, start, past}
+use Rattle.esdk_fields.specs.Reading.{Reading, Read, Refused, Wanting, fault_of, value_of}
+use Rattle.esdk_fields.proofs.Fronts.{left_is}
+use Rattle.esdk_fields.proofs.Inverse.{field_is_read}
+use Rattle.context_codec.specs.Context.{KeyValue}
+use Rattle.header_codec.specs.declared.settings.Settings.{Settings}
+use Rattle.header_codec.specs.Header.{HeaderValue}
+use Rattle.header_codec.specs.Table.{Head, header, header_fault, head}
+use Rattle.header_codec.proofs.Order.{IsSequential-header}
+use Rattle.header_codec.proofs.Steps.{header_is_read}
+use Rattle.suite_table.specs.Keys.{derived, commitment}
+use Rattle.keyring_trait.specs.Unlocking.{Unlocking, Refuses, Unlocks}
+use Rattle.body_format.specs.declared.verdicts.Verdict.TheVariants.{Going, Faulty}
+use Rattle.body_format.specs.Rows.{JudgedBody}
+use Rattle.body_format.specs.Body.{judged_body}
+use Rattle.body_format.specs.Table.{tabled_frames, tabled_block}
+use Rattle.message_format.specs.Message.{header_tag}
+use Rattle.message_format.specs.Judgement.{Judged, locked, opened_as, lock_fault, header_of, judged_header, judged}
+use Rattle.message_format.specs.Laws.{IsLineByLine}
+use Rattle.message_format.proofs.Bodies.{frames_tabled, block_tabled}
+use Rattle.message_format.proofs.Judging.{judged_refused, judged_wanting, judged_read, judged_opened, judged_locked}
+
+-- ---- what is known of a reading
+
+faulty_reading : {A : Type 0} (r : Reading A) (fault : Fault) → fault_of r ≡ Some fault → (at : ℕ) × (r ≡ Refused fault at)
+faulty_reading (Read x p) fault e = absurd cc
+faulty_reading (Refused other at) fault e = (at, cc)
+faulty_reading Wanting fault e = absurd cc
+
+wanting_reading : {A : Type 0} (r : Reading A) → fault_of r ≡ None → value_of r ≡ None → r ≡ Wanting
+wanting_reading (Read x p) e f = absurd cc
+wanting_reading (Refused fault at) e f = absurd cc
+wanting_reading Wanting e f = refl
+
+read_reading : {A : Type 0} (r : Reading A) (x : A) → value_of r ≡ Some x → (p : Place) × (r ≡ Read x p)
+read_reading (Read y p) x e = (p, cc)
+read_reading (Refused fault at) x e = absurd cc
+read_reading Wanting x e = absurd cc
+
+-- the body stands behind the tag
+body_left : (settings : Settings) (b : List ℕ) (parts : Head) (body : Place) → header settings (start b) ≡ Read parts body → body.left ≡ drop (parts.size + 16) b
+body_left settings b parts body e =
+    let h = header_is_read settings (start b) parts body e in
+    let tag = field_is_read (λ b. b) 16 h.body_end parts.tag body h.tag in
+    let end : h.body_end.at + 16 ≡ body.at = ap (λ (p : Place). p.at) tag.after in
+    let size : body.at - 0 ≡ parts.size + 16 = omega (arith, end, h.size) in
+    left_is (header settings) (start b) parts body (IsSequential-header settings) e ∙ ap (λ (n : ℕ). drop n b) size
+
+-- ---- the lock
+
+same_bytes : (a b : List ℕ) → a ≡ b → not (bytes_eq a b) ≡ false
+same_bytes a b e = rw ((bytes_eq-Decides a b).1 e) refl
+
+other_bytes : (a b : List ℕ) → a ≢ b → not (bytes_eq a b) ≡ true
+other_bytes a b h = by_test (bytes_eq a b) refl
+  where
+    by_test : (t : Bool) → bytes_eq a b ≡ t → not t ≡ true
+    by_test true e = absurd (h ((bytes_eq-Decides a b).0 e))
+    by_test false e = refl
+
+pub lock_other_key : (h : HeaderValue) (only : List KeyValue) (key : List ℕ) → h.commitment ≢ commitment key h.message_id → lock_fault h only key ≡ Some Commitment
+unfolding lock_fault
+lock_other_key h only key e = rw (other_bytes h.commitment (commitment key h.message_id) e) refl
+
+pub lock_other_tag : (h : HeaderValue) (only : List KeyValue) (key : List ℕ) → h.commitment ≡ commitment key h.message_id → h.tag ≢ header_tag h.raw only key h.message_id → lock_fault h only key ≡ Some HeaderTag
+unfolding lock_fault
+lock_other_tag h only key e f = rw (same_bytes h.commitment (commitment key h.message_id) e, other_bytes h.tag (header_tag h.raw only key h.message_id) f) refl
+
+pub lock_opens : (h : HeaderValue) (only : List KeyValue) (key : List ℕ) → h.commitment ≡ commitment key h.message_id → h.tag ≡ header_tag h.raw only key h.message_id → lock_fault h only key ≡ None
+unfolding lock_fault
+lock_opens h only key e f = rw (same_bytes h.commitment (commitment key h.message_id) e, same_bytes h.tag (header_tag h.raw only key h.message_id) f) refl
+
+-- ---- the lines
+
+abbrev opened : JudgedBody → Judged
+opened j = opened_as j
+
+answered : (bytes : List ℕ) (settings : Settings) (answer : Unlocking) (parts : Head) (body : Place) (other : Unlocking) → header settings (start bytes) ≡ Read parts body → answer ≡ other
+    → judged bytes settings answer ≡ judged_header settings (header_of bytes parts) body other
+answered bytes settings answer parts body other e is = judged_read bytes settings answer parts body e ∙ ap (judged_header settings (header_of bytes parts) body) is
+
+-- the body of an unlocked message
+unlocked : (bytes : List ℕ) (settings : Settings) (answer : Unlocking) (parts : Head) (body : Place) (whole only : List KeyValue) (key : List ℕ) → header settings (start bytes) ≡ Read parts body
+    → answer ≡ Unlocks whole only key → parts.commitment ≡ commitment key parts.id → parts.tag ≡ header_tag (take parts.size bytes) only key parts.id
+    → judged bytes settings answer ≡ opened (judged_body parts.content settings.max_unit (derived key parts.id) parts.id body)
+unlocked bytes settings answer parts body whole only key e is commits tagged =
+    answered bytes settings answer parts body (Unlocks whole only key) e is
+    ∙ judged_opened settings (header_of bytes parts) body whole only key (lock_opens (header_of bytes parts) only key commits tagged)
+
+pub line_by_line : (bytes : List ℕ) (settings : Settings) (answer : Unlocking) → IsLineByLine bytes settings answer
+line_by_line bytes settings answer = record {
+  header_is_faulty = λ fault e. let r = faulty_reading (header settings (start bytes)) fault e in judged_refused bytes settings answer fault r.0 r.1;
+  header_goes_on = λ e f. judged_wanting bytes settings answer (wanting_reading (header settings (start bytes)) e f);
+  refused = λ parts fault e is. let r = read_reading (header settings (start bytes)) parts e in answered bytes settings answer parts r.0 (Refuses fault) r.1 is;
+  other_key = λ parts whole only key e is commits.
+      let r = read_reading (header settings (start bytes)) parts e in
+      answered bytes settings answer parts r.0 (Unlocks whole only key) r.1 is
+      ∙ judged_locked settings (header_of bytes parts) r.0 whole only key Commitment (lock_other_key (header_of bytes parts) only key commits);
+  other_tag = λ parts whole only key e is commits tagged.
+      let r = read_reading (header settings (start bytes)) parts e in
+      answered bytes settings answer parts r.0 (Unlocks whole only key) r.1 is
+      ∙ judged_locked settings (header_of bytes parts) r.0 whole only key HeaderTag (lock_other_tag (header_of bytes parts) only key commits tagged);
+  frames = λ parts whole only key size e is commits tagged content.
+      let r = read_reading (header settings (start bytes)) parts e in
+      unlocked bytes settings answer parts r.0 whole only key r.1 is commits tagged
+      ∙ ap (λ (c : Content). opened (judged_body c settings.max_unit (derived key parts.id) parts.id r.0)) content
+      ∙ ap opened (frames_tabled settings.max_unit (record { key = derived key parts.id; id = parts.id; frame = size }) r.0)
+      ∙ ap (λ (left : List ℕ). opened (tabled_frames (record { key = derived key parts.id; id = parts.id; frame = size }) left)) (body_left settings bytes parts r.0 r.1);
+  block = λ parts whole only key e is commits tagged content.
+      let r = read_reading (header settings (start bytes)) parts e in
+      unlocked bytes settings answer parts r.0 whole only key r.1 is commits tagged
+      ∙ ap (λ (c : Content). opened (judged_body c settings.max_unit (derived key parts.id) parts.id r.0)) content
+      ∙ ap opened (block_tabled settings.max_unit (derived key parts.id) parts.id r.0)
+      ∙ ap (λ (left : List ℕ). opened (tabled_block settings.max_unit (derived key parts.id) parts.id left)) (body_left settings bytes parts r.0 r.1);
+}
