@@ -1,4 +1,4 @@
-//! Blocks whose encipherment was published, or computed by another program.
+//! Blocks whose encipherment was published, or computed by another program, one by one and in groups.
 
 use crate::Key256;
 
@@ -98,6 +98,42 @@ const COMPUTED: [Vector; 5] = [
     },
 ];
 
+/// Eight blocks under one key.
+#[derive(Clone, Copy)]
+struct Group {
+    key: [u128; 2],
+    inputs: [u128; 8],
+    outputs: [u128; 8],
+}
+
+// Computed by OpenSSL, at a key and blocks without a pattern.
+const GROUP: Group = Group {
+    key: [
+        0xc5bdf0d5_26b0cc59_8cc11ea7_d5e82851,
+        0xc37eeafc_56e4ef96_76d6fca9_a2780640,
+    ],
+    inputs: [
+        0x1e25fbd0_8fa1460e_e7813bd2_91217dde,
+        0xac1753c7_841f9d05_5d2c6648_86c104d6,
+        0xcef65f6a_1cf9d4db_b4071699_b436706b,
+        0xa7d8e77c_71244a9d_d0fd111e_b9ddec17,
+        0x226088f5_a393f8b5_64ce5976_080c476f,
+        0x893105f2_147d21b3_7446627b_8a4eb09b,
+        0x1924492a_24ff65fb_3e515fae_52215a16,
+        0x051191ea_a4c0a5c3_664e252f_7829c090,
+    ],
+    outputs: [
+        0x09f24c48_cbd200b2_3a4125f0_c6863c8d,
+        0x6ee0f60e_0ed86713_0054c8f9_d6677067,
+        0xe4a66e04_c27e286e_2d43826e_34f6538e,
+        0x93558d1d_b634b127_34c4e87c_a125946b,
+        0x107e6e11_439448b6_133c6c13_5dfc84e4,
+        0x4faa34c6_02c36261_230090b0_da4da6a9,
+        0x3d9a96ff_f7921089_1ea15684_15a96316,
+        0xbe91356f_e792629b_0b918fbf_688e515b,
+    ],
+};
+
 /// The key's 32 bytes.
 fn bytes(halves: [u128; 2]) -> [u8; 32] {
     let mut key = [0; 32];
@@ -123,5 +159,84 @@ fn published_blocks(rt: HostRuntime) {
 fn openssl_blocks(rt: HostRuntime) {
     for vector in &COMPUTED {
         assert_eq!(rt; enciphered(vector), vector.output);
+    }
+}
+
+/// Numbers as blocks.
+fn eight(x: &[u128; 8]) -> [[u8; 16]; 8] {
+    [
+        x[0].to_be_bytes(),
+        x[1].to_be_bytes(),
+        x[2].to_be_bytes(),
+        x[3].to_be_bytes(),
+        x[4].to_be_bytes(),
+        x[5].to_be_bytes(),
+        x[6].to_be_bytes(),
+        x[7].to_be_bytes(),
+    ]
+}
+
+/// The first four of eight blocks.
+fn first_four(x: &[[u8; 16]; 8]) -> [[u8; 16]; 4] {
+    [x[0], x[1], x[2], x[3]]
+}
+
+/// The last four of eight blocks.
+fn last_four(x: &[[u8; 16]; 8]) -> [[u8; 16]; 4] {
+    [x[4], x[5], x[6], x[7]]
+}
+
+/// Eight blocks, enciphered one by one.
+fn one_by_one(key: &Key256, x: &[[u8; 16]; 8]) -> [[u8; 16]; 8] {
+    [
+        key.block(x[0]),
+        key.block(x[1]),
+        key.block(x[2]),
+        key.block(x[3]),
+        key.block(x[4]),
+        key.block(x[5]),
+        key.block(x[6]),
+        key.block(x[7]),
+    ]
+}
+
+#[test]
+fn openssl_blocks_in_groups(rt: HostRuntime) {
+    let key = Key256::new(&bytes(GROUP.key));
+    let inputs = eight(&GROUP.inputs);
+    let outputs = eight(&GROUP.outputs);
+    assert_eq!(rt; key.blocks8(inputs), outputs);
+    assert_eq!(rt; key.blocks4(first_four(&inputs)), first_four(&outputs));
+    assert_eq!(rt; key.blocks4(last_four(&inputs)), last_four(&outputs));
+}
+
+#[test]
+fn published_block_at_each_place_of_a_group(rt: HostRuntime) {
+    let standard = &PUBLISHED[0];
+    let key = Key256::new(&bytes(standard.key));
+    let input = standard.input.to_be_bytes();
+    let output = standard.output.to_be_bytes();
+    for i in 0..8usize {
+        let mut x = [[0; 16]; 8];
+        x[i] = input;
+        assert_eq!(rt; key.blocks8(x)[i], output, "place {i} of eight");
+    }
+    for i in 0..4usize {
+        let mut x = [[0; 16]; 4];
+        x[i] = input;
+        assert_eq!(rt; key.blocks4(x)[i], output, "place {i} of four");
+    }
+}
+
+#[test]
+fn groups_of_many_blocks_are_their_blocks(rt: HostRuntime) {
+    let key = Key256::new(&bytes(GROUP.key));
+    let mut x = eight(&GROUP.inputs);
+    for _ in 0..100 {
+        let next = one_by_one(&key, &x);
+        assert_eq!(rt; key.blocks8(x), next);
+        assert_eq!(rt; key.blocks4(first_four(&x)), first_four(&next));
+        assert_eq!(rt; key.blocks4(last_four(&x)), last_four(&next));
+        x = next;
     }
 }

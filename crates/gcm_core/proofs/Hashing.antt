@@ -1,11 +1,11 @@
 -- A hash that takes a text block by block.
-use Rattle.std.proofs.Common.{◌≡◌, ℕ, ◌+◌, ◌-◌, ◌*◌, ◌/◌, ◌<◌, List, [], ◌∷◌, ◌++◌, length, map, replicate, get_or, bit_xor, refl, sym, ap, ◌∙◌, inl, inr, arith, length-append}
+use Rattle.std.proofs.Common.{◌≡◌, ℕ, ◌+◌, ◌-◌, ◌*◌, ◌/◌, ◌<◌, List, [], ◌∷◌, ◌++◌, length, map, replicate, get_or, refl, sym, ap, ◌∙◌, inl, inr, arith, length-append}
 use Rattle.std.specs.List.{range_with_len}
 use Rattle.std.proofs.lemmas.List.FromFn.{fill_by_all, get_or-map-range_with_len, length-map-range_with_len, map-range_with_len_more}
 use Rattle.std.proofs.lemmas.Bool.{cases_lt}
 use Rattle.std.proofs.lemmas.List.{get_or_append_left, get_or-append_right}
 use Rattle.std.specs.Int.{w64, w128, from_be_bytes, to_be_bytes}
-use Rattle.cipher_spec.specs.Ghash.{times, ghash_from, ghash}
+use Rattle.cipher_spec.specs.Ghash.{ghash_from, ghash}
 use Rattle.cipher_spec.specs.Gcm.{block_at, blocks, gctr, hash_key, lengths, pre_counter, tag_of}
 use Rattle.cipher_spec.specs.Aes.{aes}
 use Rattle.ghash_core.specs.State.{State}

@@ -126,8 +126,8 @@ pub fn absorb(hash: &mut Ghash, text: &[u8])
     absorb_by_blocks(hash, &text[GROUP * groups..]);
 }
 
-/// Takes two slices into the hash as one text, filled up with zeros to whole blocks.
-pub fn absorb_two(hash: &mut Ghash, first: &[u8], second: &[u8])
+/// Takes two slices into the hash block by block, as one text, filled up with zeros to whole blocks.
+pub fn absorb_two_by_blocks(hash: &mut Ghash, first: &[u8], second: &[u8])
     requires { length first.now + length second.now ≤ 2 ^ 32 }
     ensures { hash.new
         ≡ record {
@@ -139,4 +139,18 @@ pub fn absorb_two(hash: &mut Ghash, first: &[u8], second: &[u8])
     'each: for k in 0..count {
         hash.block(block(first, second, k));
     }
+}
+
+/// Takes two slices into the hash as one text, filled up with zeros to whole blocks.
+pub fn absorb_two(hash: &mut Ghash, first: &[u8], second: &[u8])
+    requires { length first.now + length second.now ≤ 2 ^ 32 }
+    ensures { hash.new
+        ≡ record {
+          key = hash.old.key;
+          hash = ghash_from hash.old.key hash.old.hash (blocks (first.now ++ second.now));
+        } }
+{
+    let whole = 16 * (first.len() / 16);
+    absorb(hash, &first[..whole]);
+    absorb_two_by_blocks(hash, &first[whole..], second);
 }

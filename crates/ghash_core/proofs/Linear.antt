@@ -1,7 +1,7 @@
 -- The product of blocks is linear in each factor, since it is a sum of shifted copies of the second, one for each bit of the first.
-use Rattle.std.proofs.Common.{◌≡◌, ℕ, zero, suc, ◌+◌, ◌-◌, ◌*◌, ◌/◌, ◌%◌, ◌^◌, ◌<◌, bit_xor, refl, sym, ap, ◌∙◌, arith}
+use Rattle.std.proofs.Common.{◌≡◌, ℕ, zero, suc, ◌+◌, ◌-◌, ◌/◌, ◌%◌, ◌<◌, bit_xor, refl, sym, ap, ◌∙◌, arith}
 use Rattle.std.specs.Int.{bit_at}
-use Rattle.std.specs.Int.Bits.{xor_assoc, xor_self, xor_zero_l, xor_zero_r}
+use Rattle.std.specs.Int.Bits.{xor_assoc, xor_self, xor_zero_r}
 use Rattle.std.proofs.lemmas.Nat.{xor_comm, xor_shr}
 use Rattle.std.proofs.lemmas.Nat.Bits.{bit_at_xor, bit_at-lt}
 use Rattle.cipher_spec.specs.Field.{add_if}

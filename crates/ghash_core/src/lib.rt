@@ -9,5 +9,6 @@ pub mod laws;
 mod product;
 #[cfg(test)]
 mod tests;
+mod vector;
 
 pub use hasher::Ghash;

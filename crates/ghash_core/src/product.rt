@@ -4,6 +4,8 @@ ghost use Rattle.std.specs.Prelude.{◌≡◌, ℕ, bit_xor};
 ghost use Rattle.cipher_spec.specs.Ghash.{half, times};
 ghost use Rattle.ghash_core.specs.Rows.{row, IsRows};
 
+use crate::vector::sum;
+
 /// For each group of four bits of a block, the products of its 16 values and the other factor.
 pub type Rows = [[u128; 16]; 32];
 
@@ -30,23 +32,19 @@ fn row(y: u128) -> [u128; 16]
     let a = half(y);
     let b = half(a);
     let c = half(b);
+    let bc = sum(b, c);
+    let ac = sum(a, c);
+    let ab = sum(a, b);
+    let abc = sum(ab, c);
+    let yc = sum(y, c);
+    let yb = sum(y, b);
+    let ybc = sum(yb, c);
+    let ya = sum(y, a);
+    let yac = sum(ya, c);
+    let yab = sum(ya, b);
+    let yabc = sum(yab, c);
     [
-        0,
-        c,
-        b,
-        b ^ c,
-        a,
-        a ^ c,
-        a ^ b,
-        a ^ b ^ c,
-        y,
-        y ^ c,
-        y ^ b,
-        y ^ b ^ c,
-        y ^ a,
-        y ^ a ^ c,
-        y ^ a ^ b,
-        y ^ a ^ b ^ c,
+        0, c, b, bc, a, ac, ab, abc, y, yc, yb, ybc, ya, yac, yab, yabc,
     ]
 }
 

@@ -8,10 +8,11 @@ use Rattle.std.proofs.lemmas.List.FromFn.{get_or-map-range_with_len, fill_by_all
 use Rattle.plane_core.specs.declared.planes.Planes.{Planes}
 use Rattle.plane_core.specs.Bits.{number_of, byte_of, block}
 use Rattle.plane_core.specs.Grid.{row, word_at}
-use Rattle.plane_core.specs.Places.{lane_bit, word_bit, spot}
+use Rattle.plane_core.specs.Places.{lane, lane_bit, word_bit, spot}
 use Rattle.plane_core.proofs.Bytes.{same_image, spread}
 use Rattle.plane_core.proofs.States.{same_state}
 use Rattle.plane_core.proofs.Words.{cell}
+use Rattle.plane_core.proofs.Lanes.{lane_cell}
 
 -- ---- one by one
 
@@ -68,14 +69,14 @@ byte_from_bits bit x j b n h e =
 
 -- ---- eight blocks in vectors
 
-pub of_lanes : (p r : Planes (List ℕ)) → IsTransposed lane_bit p r → (b : ℕ) → b < 8 → length (word_at r b) ≡ 16
-    → ((k : ℕ) → get_or (word_at r b) k 0 < 256) → block lane_bit p b ≡ word_at r b
+pub of_lanes : (p r : Planes (List ℕ)) → IsTransposed lane_cell p r → (b : ℕ) → b < 8 → (x : List ℕ) → length x ≡ 16
+    → ((j : ℕ) → get_or x j 0 < 256) → ((j : ℕ) → j < 16 → get_or (word_at r b) (lane j) 0 ≡ get_or x j 0) → block lane_bit p b ≡ x
 unfolding block
-of_lanes p r e b h long bytes =
-    same_state (λ j. byte_of lane_bit p (j % 4 + 4 * (j / 4)) b) (λ j. get_or (word_at r b) j 0) (λ j l.
+of_lanes p r e b h x long bytes lanes =
+    same_state (λ j. byte_of lane_bit p (j % 4 + 4 * (j / 4)) b) (λ j. get_or x j 0) (λ j l.
     let i : j % 4 + 4 * (j / 4) ≡ j = omega arith in
-    rw i (byte_from_bits lane_bit p j b (get_or (word_at r b) j 0) (bytes j) (λ q s. e.cells q b j s h)))
-    ∙ sym (fill_by_all (λ j. get_or (word_at r b) j 0) (word_at r b) 16 0 long (λ k l. refl))
+    rw i (byte_from_bits lane_bit p j b (get_or x j 0) (bytes j) (λ q s. e.cells q b (lane j) s h ∙ ap (λ n. bit_at n q) (lanes j l))))
+    ∙ sym (fill_by_all (λ j. get_or x j 0) x 16 0 long (λ k l. refl))
 
 -- ---- four blocks in words
 

@@ -19,9 +19,13 @@ spot j b = 8 * (j % 8) + 4 * (j / 8) + b
 abbrev pub word_bit : ℕ → ℕ → ℕ → ℕ
 word_bit w j b = bit_at w (spot j (b % 4))
 
--- the bit of byte j of block b, of eight blocks, in a vector of 16 bytes
+-- the lane of a vector of 16 that byte j of each block, of eight blocks, has in a plane: row by row
+abbrev pub lane : ℕ → ℕ
+lane j = 4 * (j % 4) + j / 4
+
+-- the bit of byte j of block b in a vector
 abbrev pub lane_bit : List ℕ → ℕ → ℕ → ℕ
-lane_bit v j b = bit_at (slice_index v j) b
+lane_bit v j b = bit_at (slice_index v (lane j)) b
 
 -- a word of 64 bits, each bit moved n places down, around the end
 abbrev pub turned : ℕ → ℕ → ℕ

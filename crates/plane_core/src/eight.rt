@@ -3,31 +3,40 @@
 ghost use Rattle.std.specs.Prelude.{◌≡◌, ℕ, ◌<◌, [], length, map, slice_index, slice_index_or};
 ghost use Rattle.std.specs.List.{range_with_len};
 ghost use Rattle.plane_core.specs.Bits.{block};
-ghost use Rattle.plane_core.specs.Places.{lane_bit};
+ghost use Rattle.plane_core.specs.Places.{lane, lane_bit};
 
 use crate::grid::transposed;
 use crate::planes::Planes;
 use std::simd::prelude::*;
 
-/// A block as a vector.
+/// The bytes of a state, row by row where they go column by column, and the other way round.
 #[inline(always)]
-fn vector(x: [u8; 16]) -> u8x16
-    ensures same { result ≡ x }
+fn exchanged(v: u8x16) -> u8x16
+    ensures lanes { (j : ℕ) → j < 16 → slice_index result j ≡ slice_index v (lane j) }
     ensures long { length result ≡ 16 }
-    ensures bytes { (k : ℕ) → slice_index result k < 256 }
+    ensures bytes { (j : ℕ) → slice_index result j < 256 }
 {
-    u8x16::from_array(x)
+    v.swizzle([0, 4, 8, 12, 1, 5, 9, 13, 2, 6, 10, 14, 3, 7, 11, 15])
 }
 
-/// A vector as a block.
+/// A block as a vector, whose lanes go row by row.
+#[inline(always)]
+fn vector(x: [u8; 16]) -> u8x16
+    ensures lanes { (j : ℕ) → j < 16 → slice_index result (lane j) ≡ slice_index x j }
+    ensures long { length x ≡ 16 }
+    ensures bytes { (j : ℕ) → slice_index x j < 256 }
+{
+    exchanged(u8x16::from_array(x))
+}
+
+/// A vector, whose lanes go row by row, as a block.
 #[inline(always)]
 fn array(v: u8x16) -> [u8; 16]
-    ensures same { result ≡ v }
-    ensures long { length v ≡ 16 }
-    ensures bytes { (k : ℕ) → slice_index v k < 256 }
+    ensures lanes { (j : ℕ) → j < 16 → slice_index v (lane j) ≡ slice_index result j }
+    ensures long { length result ≡ 16 }
+    ensures bytes { (j : ℕ) → slice_index result j < 256 }
 {
-    let _lanes = v & v;
-    v.to_array()
+    exchanged(v).to_array()
 }
 
 /// Eight blocks as planes.

@@ -3,7 +3,7 @@
 ghost use Rattle.std.specs.Prelude.{◌≡◌, ℕ, ◌+◌, ◌*◌, ◌/◌, ◌%◌, ◌<◌, bit_and, bit_xor, slice_index};
 ghost use Rattle.std.specs.Int.{bit_at};
 ghost use Rattle.plane_core.specs.Bits.{bit_is_small};
-ghost use Rattle.plane_core.specs.Places.{below, lane_bit, shifted, spot, turned, word_bit};
+ghost use Rattle.plane_core.specs.Places.{below, lane, lane_bit, shifted, spot, turned, word_bit};
 
 use std::simd::prelude::*;
 
@@ -36,7 +36,8 @@ pub trait Plane: Copy {
     ghost is_bit: { (v : Self) (j b : ℕ) → bit v j b < 2 };
 }
 
-// Eight blocks: lane j has byte j of each block, and bit b of a lane is block b's.
+// Eight blocks: a lane has a byte of each block, where bit b is block b's. The lanes go row by row, so
+// the bytes below are four lanes further.
 impl Plane for u8x16 {
     ghost bit = { lane_bit };
 
@@ -52,20 +53,20 @@ impl Plane for u8x16 {
 
     #[inline(always)]
     fn shifted(self) -> u8x16 {
-        self.swizzle([0, 5, 10, 15, 4, 9, 14, 3, 8, 13, 2, 7, 12, 1, 6, 11])
+        self.swizzle([0, 1, 2, 3, 5, 6, 7, 4, 10, 11, 8, 9, 15, 12, 13, 14])
     }
 
     #[inline(always)]
     fn below(self) -> u8x16 {
-        self.swizzle([1, 2, 3, 0, 5, 6, 7, 4, 9, 10, 11, 8, 13, 14, 15, 12])
+        self.swizzle([4, 5, 6, 7, 8, 9, 10, 11, 12, 13, 14, 15, 0, 1, 2, 3])
     }
 
     #[inline(always)]
     fn two_below(self) -> u8x16 {
-        self.swizzle([2, 3, 0, 1, 6, 7, 4, 5, 10, 11, 8, 9, 14, 15, 12, 13])
+        self.swizzle([8, 9, 10, 11, 12, 13, 14, 15, 0, 1, 2, 3, 4, 5, 6, 7])
     }
 
-    ghost is_bit = { λ v j b. bit_is_small (slice_index v j) b };
+    ghost is_bit = { λ v j b. bit_is_small (slice_index v (lane j)) b };
 }
 
 /// A word, each bit moved n places down, around the end.

@@ -1,4 +1,4 @@
-use Rattle.std.proofs.Common.{◌≡◌, ◌++◌, ℕ, List, ap, ◌∙◌, arith}
+use Rattle.std.proofs.Common.{◌++◌, ℕ, ◌∙◌, arith}
 use Rattle.std.specs.Int.{w32, to_be_bytes}
 use Rattle.cipher_spec.specs.Gcm.{counter}
 use Rattle.gcm_core.proofs.Counting.{counter-later, eight_values}

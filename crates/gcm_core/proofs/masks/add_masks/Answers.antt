@@ -1,4 +1,4 @@
-use Rattle.std.proofs.Common.{◌/◌, ◌%◌, ◌*◌, ◌+◌, [], length, get_or, ◌∙◌, arith}
+use Rattle.std.proofs.Common.{◌/◌, ◌%◌, [], length, get_or, ◌∙◌, arith}
 use Rattle.gcm_core.proofs.Counting.{added_further}
 use Rattle.gcm_core.proofs.Masking.{masks-block, masked-all}
 use Rattle.gcm_core.proofs.masks.add_masks.Goals as goal

@@ -1,4 +1,4 @@
-use Rattle.std.proofs.Common.{◌≡◌, ◌++◌, length, refl, sym, ap, ◌∙◌, arith, length-append}
+use Rattle.std.proofs.Common.{◌≡◌, ◌++◌, refl, sym, ◌∙◌, length-append}
 use Rattle.cipher_spec.specs.Gcm.{cipher_of, sealed, tag_of}
 use Rattle.gcm_core.proofs.Counting.{gctr-count_two}
 use Rattle.gcm_core.proofs.Hashing.{tag-finished}

@@ -1,7 +1,7 @@
 use Rattle.std.proofs.Common.{◌≡◌, [], map, slice_index_or, bit_xor, refl, sym, ap, subst, ◌∙◌, arith}
 use Rattle.std.specs.List.{range_with_len}
 use Rattle.std.specs.Int.{w128, from_be_bytes}
-use Rattle.cipher_spec.specs.Ghash.{times, ghash_from}
+use Rattle.cipher_spec.specs.Ghash.{ghash_from}
 use Rattle.ghash_core.specs.Rows.{IsRows}
 use Rattle.ghash_core.specs.State.{State}
 use Rattle.ghash_core.proofs.Blocks.{ghash_from-next, map-by_place}

@@ -1,5 +1,6 @@
+use Rattle.plane_core.specs.Places.{lane}
 use Rattle.plane_core.proofs.Gates.{lanes_xor}
 use Rattle.plane_core.proofs.plane.U8x16Plane.xor.Goals as goal
 
 pub returns : goal.returns
-returns c = lanes_xor c.args.self c.args.other c.fits-self.0 c.fits-other.0
+returns c j b = lanes_xor c.args.self c.args.other c.fits-self.0 c.fits-other.0 (lane j) b

@@ -2,7 +2,7 @@ use Rattle.std.proofs.Common.{◌≡◌, ◌++◌, map}
 use Rattle.std.specs.List.{range_with_len}
 use Rattle.cipher_spec.specs.Ghash.{ghash_from}
 use Rattle.cipher_spec.specs.Gcm.{block_at}
-use Rattle.gcm_core.proofs.absorbing.absorb_two.Given as goal
+use Rattle.gcm_core.proofs.absorbing.absorb_two_by_blocks.Given as goal
 
 abbrev pub invariant-each : goal.invariant-each
 invariant-each l = record {
