@@ -1,7 +1,16 @@
 pub mod CallPlan
 pub mod Counts
+pub mod Entropy
+pub mod FileShelf
+pub mod ListEntropy
+pub mod MemFile
+pub mod MemFiles
+pub mod MemShelf
 pub mod MemSink
 pub mod MemSource
+pub mod RngEntropy
+pub mod Shelf
 pub mod Sink
 pub mod StdSink
 pub mod StdSource
+pub mod Streams

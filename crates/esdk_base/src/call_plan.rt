@@ -1,5 +1,6 @@
 //! Which calls of a memory form are to fail.
-ghost use Rattle.std.specs.Prelude.{◌≡◌, ◌||◌, is_err};
+
+ghost use Rattle.std.specs.Prelude.{◌≡◌, ◌||◌, false, is_err};
 ghost use Rattle.esdk_base.specs.CallPlan.{after_call, fails_next};
 ghost use Rattle.esdk_base.specs.Counts.{HasCause};
 
@@ -40,11 +41,18 @@ impl CallPlan {
         ensures cause { HasCause self.old.faults self.new.faults result }
         ensures plan { self.new ≡ after_call (fails_next self.old || refused) self.old }
     {
-        self.calls = self.calls.saturating_add(1);
+        self.count();
         if self.failing.contains(&self.calls) || refused {
             self.faults = self.faults.saturating_add(1);
             return Err(Failed);
         }
         Ok(())
+    }
+
+    /// Counts a call, whether it is planned to fail or not. That alone is no fault.
+    pub(crate) fn count(&mut self)
+        ensures { self.new ≡ after_call false self.old }
+    {
+        self.calls = self.calls.saturating_add(1);
     }
 }

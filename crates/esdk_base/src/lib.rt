@@ -1,20 +1,39 @@
 //! The outside of `esdk`: where bytes come from and where they go.
 //!
-//! What is read and written stands behind two traits, `Source` and `Sink`. Each has a meaning, the
-//! bytes left or the bytes written, which an object may tell or not, and a count of its faults. The
-//! forms in memory tell everything; the adapters over std's `Read` and `Write` tell no content.
+//! What lies outside stands behind traits. A `Source` is read and a `Sink` is written once, from the
+//! front to the end; a `Shelf` holds files by their names; an `Entropy` gives random bytes. Each has
+//! a meaning, as the bytes left, the bytes written, the files or the bytes to come, which an object
+//! may tell or not, and a count of its faults. The forms in memory tell everything; the adapters over
+//! std's `Read` and `Write`, over the system's files and over a seeded generator tell no content.
 #![tactic(auto)]
 
 mod call_plan;
+mod entropy;
+mod file_shelf;
+mod fronts;
+mod list_entropy;
+mod mem_file;
+mod mem_files;
+mod mem_shelf;
 mod mem_sink;
 mod mem_source;
+mod rng_entropy;
+#[cfg(test)]
+mod scratch_path;
+mod shelf;
 mod sink;
 mod source;
 mod std_sink;
 mod std_source;
 
+pub use entropy::Entropy;
+pub use file_shelf::FileShelf;
+pub use list_entropy::ListEntropy;
+pub use mem_shelf::MemShelf;
 pub use mem_sink::MemSink;
 pub use mem_source::MemSource;
+pub use rng_entropy::RngEntropy;
+pub use shelf::Shelf;
 pub use sink::Sink;
 pub use source::{Failed, Source};
 pub use std_sink::StdSink;

@@ -1,4 +1,5 @@
 //! Where bytes go.
+
 ghost use Rattle.std.specs.Prelude.{ℕ, List};
 ghost use Rattle.std.specs.declared.option.Option.{Option};
 ghost use Rattle.esdk_base.specs.Counts.{HasCause};

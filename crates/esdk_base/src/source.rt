@@ -1,11 +1,12 @@
 //! Where bytes come from.
-ghost use Rattle.std.specs.Prelude.{◌≡◌, ℕ, List, None};
+
+ghost use Rattle.std.specs.Prelude.{ℕ, List};
 ghost use Rattle.std.specs.Io.{ReadsAtMost};
 ghost use Rattle.std.specs.Io.KnownBytes.{ReadConsumes};
 ghost use Rattle.std.specs.declared.option.Option.{Option};
 ghost use Rattle.esdk_base.specs.Counts.{CountsGiven, HasCause};
 
-/// A call of an outside object failed; its count of faults has risen.
+/// A call of an outside object failed. The object's count of faults has risen, but for a shelf that has no file of the name.
 #[derive(Debug, Clone, Copy, PartialEq, Eq)]
 pub struct Failed;
 

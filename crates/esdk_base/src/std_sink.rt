@@ -1,4 +1,5 @@
 //! Any writer of std as a sink.
+
 ghost use Rattle.std.specs.Prelude.{◌≡◌, None, OnOk};
 ghost use Rattle.std.specs.Io.KnownBytes.{Appends};
 ghost use Rattle.esdk_base.specs.Counts.{HasCause};
@@ -55,19 +56,40 @@ impl<W: Write> Sink for StdSink<W> {
 #[cfg(test)]
 mod tests {
     use super::*;
+    use crate::scratch_path::scratch_path;
+    use std::fs;
+    use std::fs::File;
+    use std::test::Fail;
 
     #[test]
-    fn puts_pass_through_and_faults_are_counted(rt: HostRuntime) {
+    fn puts_pass_through(rt: HostRuntime) {
         let mut sink = StdSink::new(Vec::new(rt.alloc()));
-        assert_eq!(rt; sink.put(b"ab"), Ok(()));
-        assert_eq!(rt; sink.put(b"c"), Ok(()));
-        assert_eq!(rt; sink.writer.as_slice(), b"abc".as_slice());
-        assert_eq!(rt; sink.faults, 0);
+        assert!(rt; sink.put(b"ab").is_ok());
+        assert!(rt; sink.put(b"c").is_ok());
+        assert!(rt; sink.writer.as_slice() == b"abc".as_slice());
+        assert!(rt; sink.faults == 0);
+    }
 
+    #[test]
+    fn a_put_past_the_end_of_the_room_is_a_fault(rt: HostRuntime) {
         let mut room = [0u8; 3];
         let mut sink = StdSink::new(room.as_mut_slice());
-        assert_eq!(rt; sink.put(b"ab"), Ok(()));
-        assert_eq!(rt; sink.put(b"cd"), Err(Failed));
-        assert_eq!(rt; sink.faults, 1);
+        assert!(rt; sink.put(b"ab").is_ok());
+        assert!(rt; sink.put(b"cd").is_err());
+        assert!(rt; sink.faults == 1);
+    }
+
+    #[test]
+    fn a_file_is_written(rt: HostRuntime) -> Result<(), Fail> {
+        let path = scratch_path(&rt, "std_sink")?;
+        let mut sink = StdSink::new(File::create(&rt, path.as_str())?);
+        assert!(rt; sink.put(b"ab").is_ok());
+        assert!(rt; sink.put(b"c").is_ok());
+        let mut read_only = StdSink::new(File::open(&rt, path.as_str())?);
+        assert!(rt; read_only.put(b"d").is_err());
+        assert!(rt; read_only.faults == 1);
+        assert!(rt; fs::read(&rt, path.as_str())?.as_slice() == b"abc".as_slice());
+        fs::remove_file(&rt, path.as_str())?;
+        Ok(())
     }
 }

@@ -1,4 +1,5 @@
 //! Any reader of std as a source.
+
 ghost use Rattle.std.specs.Prelude.{◌≡◌, None};
 ghost use Rattle.std.specs.Io.{ReadsAtMost};
 ghost use Rattle.std.specs.Io.KnownBytes.{ReadConsumes};
@@ -65,8 +66,11 @@ impl<R: Read> Source for StdSource<R> {
 #[cfg(test)]
 mod tests {
     use super::*;
-    use std::io;
+    use crate::scratch_path::scratch_path;
+    use std::fs::File;
     use std::io::ErrorKind;
+    use std::test::Fail;
+    use std::{fs, io};
 
     /// A reader that gives one byte, and then fails.
     #[derive(Drop)]
@@ -84,20 +88,37 @@ mod tests {
     }
 
     #[test]
-    fn reads_pass_through_and_faults_are_counted(rt: HostRuntime) {
-        let mut out = [0; 4];
-        let bytes = [1u8, 2, 3, 4, 5];
+    fn reads_pass_through(rt: HostRuntime) {
+        let bytes = [1u8, 2, 3];
         let mut source = StdSource::new(bytes.as_slice());
-        assert_eq!(rt; source.read(&mut out), Ok(4));
-        assert_eq!(rt; out, [1, 2, 3, 4]);
-        assert_eq!(rt; source.read(&mut out), Ok(1));
-        assert_eq!(rt; source.read(&mut out), Ok(0));
-        assert_eq!(rt; (source.given, source.faults), (5, 0));
+        let mut out = [0; 2];
+        assert!(rt; matches!(source.read(&mut out), Ok(2)));
+        assert!(rt; out == [1, 2]);
+        assert!(rt; matches!(source.read(&mut out), Ok(1)));
+        assert!(rt; matches!(source.read(&mut out), Ok(0)));
+        assert!(rt; source.given == 3 && source.faults == 0);
+    }
 
+    #[test]
+    fn faults_are_counted(rt: HostRuntime) {
         let mut source = StdSource::new(Breaking(false));
-        assert_eq!(rt; source.read(&mut out), Ok(1));
-        assert_eq!(rt; source.read(&mut out), Err(Failed));
-        assert_eq!(rt; source.read(&mut out), Err(Failed));
-        assert_eq!(rt; (source.given, source.faults), (1, 2));
+        let mut out = [0; 2];
+        assert!(rt; matches!(source.read(&mut out), Ok(1)));
+        assert!(rt; source.read(&mut out).is_err());
+        assert!(rt; source.read(&mut out).is_err());
+        assert!(rt; source.given == 1 && source.faults == 2);
+    }
+
+    #[test]
+    fn a_file_is_read(rt: HostRuntime) -> Result<(), Fail> {
+        let path = scratch_path(&rt, "std_source")?;
+        fs::write(&rt, path.as_str(), "abc")?;
+        let mut source = StdSource::new(File::open(&rt, path.as_str())?);
+        let mut out = [0; 4];
+        assert!(rt; matches!(source.read(&mut out), Ok(3)));
+        assert!(rt; out == *b"abc\0");
+        assert!(rt; matches!(source.read(&mut out), Ok(0)));
+        fs::remove_file(&rt, path.as_str())?;
+        Ok(())
     }
 }

@@ -1,0 +1,46 @@
+-- What a source, a sink, a shelf and an entropy tell and count at one moment.
+use Rattle.std.specs.Prelude.{ℕ, List, ⊤}
+use Rattle.std.specs.Prelude.{Option, Some, None}
+use Rattle.esdk_base.specs.Shelf.{Files}
+
+-- the bytes left, and the counts of bytes given and of faults
+pub record SourceState : Type 0 where
+  pub left : Option (List ℕ)
+  pub given : ℕ
+  pub faults : ℕ
+
+-- the bytes written, and the count of faults
+pub record SinkState : Type 0 where
+  pub written : Option (List ℕ)
+  pub faults : ℕ
+
+-- the files, and the count of faults
+pub record ShelfState : Type 0 where
+  pub files : Option Files
+  pub faults : ℕ
+
+-- the bytes to come, and the count of faults
+pub record EntropyState : Type 0 where
+  pub to_come : Option (List ℕ)
+  pub faults : ℕ
+
+-- the state of a source that tells and counts so
+abbrev pub source_state : {S : Type 0} → (S → Option (List ℕ)) → (S → ℕ) → (S → ℕ) → S → SourceState
+source_state left given faults source = record { left = left source; given = given source; faults = faults source }
+
+-- the state of a sink that tells and counts so
+abbrev pub sink_state : {S : Type 0} → (S → Option (List ℕ)) → (S → ℕ) → S → SinkState
+sink_state written faults sink = record { written = written sink; faults = faults sink }
+
+-- the state of a shelf that tells and counts so
+abbrev pub shelf_state : {S : Type 0} → (S → Option Files) → (S → ℕ) → S → ShelfState
+shelf_state files faults shelf = record { files = files shelf; faults = faults shelf }
+
+-- the state of an entropy that tells and counts so
+abbrev pub entropy_state : {S : Type 0} → (S → Option (List ℕ)) → (S → ℕ) → S → EntropyState
+entropy_state to_come faults entropy = record { to_come = to_come entropy; faults = faults entropy }
+
+-- of bytes that are told
+abbrev pub OnTold : Option (List ℕ) → (List ℕ → Type 0) → Type 0
+OnTold None P = ⊤
+OnTold (Some bytes) P = P bytes

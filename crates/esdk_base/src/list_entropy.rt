@@ -1,0 +1,104 @@
+//! An entropy over a list of bytes.
+
+ghost use Rattle.std.specs.Prelude.{◌≡◌, ◌≤◌, Some, is_err, length};
+ghost use Rattle.esdk_base.specs.Counts.{HasCause};
+ghost use Rattle.esdk_base.specs.Entropy.{FillConsumes};
+ghost use Rattle.esdk_base.specs.ListEntropy.{after_fill, fill_fails};
+
+use crate::call_plan::CallPlan;
+use crate::{Entropy, Failed};
+use esdk_fields::Blob;
+use std::marker::Model;
+
+/// An entropy that gives the bytes of a `Blob`, in their order.
+#[derive(Drop)]
+pub struct ListEntropy {
+    bytes: Blob,
+    at: usize,
+    plan: CallPlan,
+}
+
+impl Model for ListEntropy {
+    ghost use Rattle.std.specs.Prelude.{drop, ◌≤◌, length};
+    ghost use Rattle.esdk_base.specs.ListEntropy.{ListEntropyState};
+
+    ghost Value = { ListEntropyState };
+
+    ghost view = { λ e. record { to_come = drop e.at e.bytes; plan = e.plan } };
+
+    ghost invariant = { λ e. e.at ≤ length e.bytes };
+}
+
+impl ListEntropy {
+    /// An entropy of these bytes. The fills whose numbers `failing` lists, counted from 1, fail, and
+    /// those that want more bytes than are left; no other does.
+    pub fn new(bytes: Blob, failing: Vec<u64>) -> ListEntropy
+        ensures { result ≡ record {
+          to_come = bytes;
+          plan = record { failing = failing.items; calls = 0; faults = 0 };
+        } }
+    {
+        ListEntropy {
+            bytes,
+            at: 0,
+            plan: CallPlan::new(failing),
+        }
+    }
+}
+
+impl Entropy for ListEntropy {
+    ghost to_come = { λ e. Some e.to_come };
+
+    ghost faults = { λ e. e.plan.faults };
+
+    fn fill(&mut self, out: &mut [u8]) -> Result<(), Failed>
+        ensures bytes { FillConsumes (Some self.old.to_come) (Some self.new.to_come) result out.new }
+        ensures cause { HasCause self.old.plan.faults self.new.plan.faults result }
+        ensures failed { is_err result ≡ fill_fails self.old (length out.old) }
+        ensures entropy { self.new ≡ after_fill self.old (length out.old) }
+    {
+        let left = &self.bytes.bytes()[self.at..];
+        let Ok(()) = self.plan.begin(left.len() < out.len()) else {
+            return Err(Failed);
+        };
+        out.copy_from_slice(&left[..out.len()]);
+        self.at += out.len();
+        Ok(())
+    }
+}
+
+#[cfg(test)]
+mod tests {
+    use super::*;
+    use std::alloc::Global;
+    use std::test::Fail;
+
+    /// An entropy of the bytes 1, 2, 3, 4.
+    fn four_bytes(alloc: Global, failing: Vec<u64>) -> Result<ListEntropy, Fail> {
+        let mut bytes = Blob::new(alloc);
+        bytes.push_all(&[1, 2, 3, 4])?;
+        Ok(ListEntropy::new(bytes, failing))
+    }
+
+    #[test]
+    fn gives_its_bytes_in_turn_but_for_planned_failures(rt: HostRuntime) -> Result<(), Fail> {
+        let mut entropy = four_bytes(rt.alloc(), [2u64].to_vec(rt.alloc())?)?;
+        let mut out = [0; 2];
+        assert!(rt; entropy.fill(&mut out).is_ok());
+        assert!(rt; out == [1, 2]);
+        assert!(rt; entropy.fill(&mut out).is_err());
+        assert!(rt; entropy.fill(&mut out).is_ok());
+        assert!(rt; out == [3, 4]);
+        Ok(())
+    }
+
+    #[test]
+    fn fails_where_too_few_bytes_are_left(rt: HostRuntime) -> Result<(), Fail> {
+        let mut entropy = four_bytes(rt.alloc(), Vec::new(rt.alloc()))?;
+        assert!(rt; entropy.fill(&mut [0; 5]).is_err());
+        assert!(rt; entropy.fill(&mut [0; 4]).is_ok());
+        assert!(rt; entropy.fill(&mut [0]).is_err());
+        assert!(rt; entropy.fill(&mut []).is_ok());
+        Ok(())
+    }
+}

@@ -1,0 +1,83 @@
+//! A seeded generator as an entropy.
+
+ghost use Rattle.std.specs.Prelude.{◌≡◌, None, is_err, is_none};
+ghost use Rattle.esdk_base.specs.Counts.{HasCause};
+ghost use Rattle.esdk_base.specs.Entropy.{FillConsumes};
+ghost use Rattle.esdk_base.specs.RngEntropy.{Draws};
+
+use crate::{Entropy, Failed};
+use rand_chacha::ChaCha20Rng;
+use rand_core::Rng;
+use std::marker::Model;
+
+/// An entropy over a generator of ChaCha20. Where the generator couldn't be seeded there is none. It tells no content.
+#[derive(Drop)]
+pub struct RngEntropy {
+    rng: Option<ChaCha20Rng>,
+    faults: u64,
+}
+
+impl Model for RngEntropy {
+    ghost use Rattle.esdk_base.specs.RngEntropy.{RngEntropyState};
+
+    ghost Value = { RngEntropyState };
+
+    ghost view = { λ e. record { rng = e.rng; faults = e.faults } };
+}
+
+impl RngEntropy {
+    /// An entropy over this generator. Without one each fill fails; with one none does.
+    pub fn new(rng: Option<ChaCha20Rng>) -> RngEntropy
+        ensures { result ≡ record { rng = rng; faults = 0 } }
+    {
+        RngEntropy { rng, faults: 0 }
+    }
+}
+
+impl Entropy for RngEntropy {
+    ghost to_come = { λ _. None };
+
+    ghost faults = { λ e. e.faults };
+
+    fn fill(&mut self, out: &mut [u8]) -> Result<(), Failed>
+        ensures bytes { FillConsumes None None result out.new }
+        ensures cause { HasCause self.old.faults self.new.faults result }
+        ensures failed { is_err result ≡ is_none self.old.rng }
+
+        // The bytes are the generator's, which goes on behind them.
+        ensures drawn { Draws ⟦<ChaCha20Rng as Rng>⟧.stream self.old.rng self.new.rng out.new }
+    {
+        let Some(rng) = &mut self.rng else {
+            self.faults = self.faults.saturating_add(1);
+            return Err(Failed);
+        };
+        rng.fill_bytes(out);
+        Ok(())
+    }
+}
+
+#[cfg(test)]
+mod tests {
+    use super::*;
+    use rand_core::SeedableRng;
+
+    /// The bytes are the key stream of ChaCha20 under the key and nonce of zeros (RFC 8439, appendix A.1).
+    #[test]
+    fn a_seeded_generator_fills_in_turn(rt: HostRuntime) {
+        let mut entropy = RngEntropy::new(Some(ChaCha20Rng::from_seed([0; 32])));
+        let mut out = [0; 8];
+        assert!(rt; entropy.fill(&mut out).is_ok());
+        assert!(rt; out == [0x76, 0xb8, 0xe0, 0xad, 0xa0, 0xf1, 0x3d, 0x90]);
+        assert!(rt; entropy.fill(&mut out).is_ok());
+        assert!(rt; out == [0x40, 0x5d, 0x6a, 0xe5, 0x53, 0x86, 0xbd, 0x28]);
+        assert!(rt; entropy.faults == 0);
+    }
+
+    #[test]
+    fn without_a_generator_each_fill_fails(rt: HostRuntime) {
+        let mut entropy = RngEntropy::new(None);
+        assert!(rt; entropy.fill(&mut [0; 2]).is_err());
+        assert!(rt; entropy.fill(&mut []).is_err());
+        assert!(rt; entropy.faults == 2);
+    }
+}
