@@ -1,0 +1,56 @@
+-- A file's front that grows piece by piece.
+use Rattle.std.proofs.Common.{◌≡◌, ◌≤◌, ◌<◌, ℕ, List, [], ◌++◌, inl, inr, length, drop, Bool, true, false, Option, Err, refl, ap, subst, sym, arith, ◌∙◌, append-nil, length-append}
+use Rattle.esdk_base.specs.Shelf.{Files, Holds, is_missing}
+use Rattle.esdk_base.specs.Streams.{ShelfState}
+use Rattle.whole_input.specs.declared.file.FileError.{FileError}
+use Rattle.whole_input.specs.declared.file.FileError.TheVariants.{Shelf, TooLong, Memory}
+use Rattle.whole_input.specs.File.{Adds, FileCause, IsFile, IsFront, IsLong, Piece, most_file}
+
+-- Where the shelf tells, these bytes are the file's front; if there are any, the file is there. No read failed.
+pub record Adding (first now : ShelfState) (name bytes : List ℕ) : Type 0 where
+  pub front : IsFront first.files name bytes
+  pub there : 0 < length bytes → is_missing first.files name ≡ false
+  pub files : now.files ≡ first.files
+  pub faults : now.faults ≡ first.faults
+
+pub adding_none : (first : ShelfState) (name : List ℕ) → Adding first first name []
+adding_none first name = record { front = λ told holds. refl; there = λ some. absurd (omega (arith, some)); files = refl; faults = refl }
+
+-- one piece more
+pub adding_more : (first old new : ShelfState) (name before after : List ℕ) (more : Bool) → Adding first old name before → Piece old new name before after more
+    → new.files ≡ old.files → Adding first new name after
+adding_more first old new name before after more adding piece stays = record {
+  front = let P : Option Files → Type 0 = λ f. IsFront f name before → IsFront f name after in subst P adding.files piece.front adding.front;
+  there = λ some. subst (λ f. is_missing f name ≡ false) adding.files piece.there;
+  files = stays ∙ adding.files;
+  faults = piece.faults ∙ adding.faults;
+}
+
+-- the end of the file
+pub adding_ends : (first old new : ShelfState) (name before after : List ℕ) → Adding first old name before → Piece old new name before after false
+    → length before ≤ most_file → IsFile first new name after
+adding_ends first old new name before after adding piece few = record {
+  there = subst (λ f. is_missing f name ≡ false) adding.files piece.there;
+  whole = λ told holds.
+      let ended = subst (λ f. Holds f name told → drop (length before) told ≡ []) adding.files (piece.end refl told) holds in
+      adding.front told holds ∙ ap (λ b. before ++ b) ended ∙ append-nil before ∙ sym (piece.same refl);
+  few = omega (arith, few, ap length (piece.same refl));
+  faults = piece.faults ∙ adding.faults;
+}
+
+-- more bytes than are taken
+pub adding_long : (first now : ShelfState) (name bytes : List ℕ) → Adding first now name bytes → most_file < length bytes → IsLong first now name
+adding_long first now name bytes adding many = record {
+  there = adding.there (omega (arith, many));
+  many = λ told holds. omega (arith, many, ap length (adding.front told holds), length-append bytes (drop (length bytes) told));
+  faults = adding.faults;
+}
+
+-- a read that failed
+pub adding_fails : (first old new : ShelfState) (name before after : List ℕ) (error : FileError) → Adding first old name before
+    → Adds old new name before after (Err error) → FileCause first new name error
+adding_fails first old new name before after Shelf adding (inl rose) = inl (omega (arith, rose, adding.faults))
+adding_fails first old new name before after Shelf adding (inr absent) =
+    inr (subst (λ f. is_missing f name ≡ true) adding.files absent.0, absent.1 ∙ adding.faults)
+adding_fails first old new name before after TooLong adding adds = absurd adds
+adding_fails first old new name before after Memory adding adds = tt

@@ -1,0 +1,32 @@
+use Rattle.std.proofs.Common.{length, arith, ap, sym, subst}
+use Rattle.esdk_base.specs.Streams.{shelf_state}
+use Rattle.whole_input.proofs.Adding.{Adding, adding_none, adding_more, adding_ends, adding_long, adding_fails}
+use Rattle.whole_input.proofs.file.fill.Goals as goal
+
+pub loop-bytes-init : goal.loop-bytes-init
+loop-bytes-init g c =
+    let first = shelf_state g.F.Shelf.files g.F.Shelf.faults c.args.shelf.now in
+    subst (λ b. Adding first first c.args.name.now b) (sym c.requires.empty) (adding_none first c.args.name.now)
+
+pub loop-bytes-preserved : goal.loop-bytes-preserved
+loop-bytes-preserved g c =
+    let adds = rw c.in-Ok-true.is at c.add_piece.ensures.adds in
+    adding_more _ _ _ _ c.loop-bytes.bytes c.add_piece.new.bytes _ c.loop-bytes.invariant adds c.add_piece.ensures.stays
+
+pub loop-bytes-smaller : goal.loop-bytes-smaller
+loop-bytes-smaller g c =
+    let adds = rw c.in-Ok-true.is at c.add_piece.ensures.adds in
+    omega (arith, adds.longer c.in-Ok-true.field-0-test, c.loop-bytes-test.true, ap length c.bytes.ensures)
+
+pub returns-in-Ok-false-clause-file : goal.returns-in-Ok-false-clause-file
+returns-in-Ok-false-clause-file g c =
+    let adds = rw (c.in-Ok-false.is, c.in-Ok-false.field-0-test) at c.add_piece.ensures.adds in
+    adding_ends _ _ _ _ c.loop-bytes.bytes c.add_piece.new.bytes c.loop-bytes.invariant adds (omega (arith, c.loop-bytes-test.true, ap length c.bytes.ensures))
+
+pub returns-in-Err-clause-cause : goal.returns-in-Err-clause-cause
+returns-in-Err-clause-cause g c =
+    let adds = rw c.in-Err.is at c.add_piece.ensures.adds in
+    adding_fails _ _ _ _ c.loop-bytes.bytes c.add_piece.new.bytes c.in-Err.error c.loop-bytes.invariant adds
+
+pub returns-clause-cause : goal.returns-clause-cause
+returns-clause-cause g c = adding_long _ _ _ c.loop-bytes.bytes c.loop-bytes.invariant (omega (arith, c.loop-bytes-test.false, ap length c.bytes.ensures))

@@ -1,0 +1,50 @@
+-- What is taken of a file.
+use Rattle.std.specs.Prelude.{◌≡◌, ◌⊎◌, ℕ, ◌<◌, ◌≤◌, List, ◌++◌, length, [], drop, Bool, true, false, ⊤, Option, Result, Ok, Err}
+use Rattle.esdk_base.specs.Counts.{Rose}
+use Rattle.esdk_base.specs.Shelf.{Files, Holds, is_missing}
+use Rattle.esdk_base.specs.Streams.{ShelfState}
+use Rattle.whole_input.specs.declared.file.FileError.{FileError}
+use Rattle.whole_input.specs.declared.file.FileError.TheVariants.{Shelf, TooLong, Memory}
+
+-- how many bytes a file has at the most that is taken whole
+abbrev pub most_file : ℕ
+most_file = 1048576
+
+-- The file has just these bytes, where the shelf tells; there are at most 1,048,576, and no read failed.
+pub record IsFile (old new : ShelfState) (name bytes : List ℕ) : Type 0 where
+  pub there : is_missing old.files name ≡ false
+  pub whole : (told : List ℕ) → Holds old.files name told → told ≡ bytes
+  pub few : length bytes ≤ most_file
+  pub faults : new.faults ≡ old.faults
+
+-- The file has more than 1,048,576 bytes, where the shelf tells, and no read failed.
+pub record IsLong (old new : ShelfState) (name : List ℕ) : Type 0 where
+  pub there : is_missing old.files name ≡ false
+  pub many : (told : List ℕ) → Holds old.files name told → most_file < length told
+  pub faults : new.faults ≡ old.faults
+
+-- why a file wasn't taken
+abbrev pub FileCause : ShelfState → ShelfState → List ℕ → FileError → Type 0
+FileCause old new name Shelf = Rose old.faults new.faults ⊎ ((is_missing old.files name ≡ true) × (new.faults ≡ old.faults))
+FileCause old new name TooLong = IsLong old new name
+FileCause old new name Memory = ⊤
+
+-- these bytes are the front of the file, where the shelf tells
+abbrev pub IsFront : Option Files → List ℕ → List ℕ → Type 0
+IsFront files name bytes = (told : List ℕ) → Holds files name told → told ≡ bytes ++ drop (length bytes) told
+
+-- A piece of the file, which may be empty, was put behind the bytes before.
+pub record Piece (old new : ShelfState) (name before after : List ℕ) (more : Bool) : Type 0 where
+  pub there : is_missing old.files name ≡ false
+  pub front : IsFront old.files name before → IsFront old.files name after
+  pub longer : more ≡ true → length before < length after
+  pub same : more ≡ false → after ≡ before
+  pub end : more ≡ false → (told : List ℕ) → Holds old.files name told → drop (length before) told ≡ []
+  pub faults : new.faults ≡ old.faults
+
+-- what adding a piece to a file's front comes to
+abbrev pub Adds : ShelfState → ShelfState → List ℕ → List ℕ → List ℕ → Result Bool FileError → Type 0
+Adds old new name before after (Ok more) = Piece old new name before after more
+Adds old new name before after (Err Shelf) = Rose old.faults new.faults ⊎ ((is_missing old.files name ≡ true) × (new.faults ≡ old.faults))
+Adds old new name before after (Err TooLong) = ⊥
+Adds old new name before after (Err Memory) = ⊤

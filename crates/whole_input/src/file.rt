@@ -1,0 +1,92 @@
+//! Taking a small file of a shelf.
+ghost use Rattle.std.specs.Prelude.{◌≡◌, ◌<◌, ◌≤◌, [], IfOk, IfErr, OnOk, length, vec_len};
+ghost use Rattle.esdk_base.specs.Streams.{shelf_state};
+ghost use Rattle.whole_input.specs.File.{Adds, FileCause, IsFile};
+
+use crate::buffer::buffer_of;
+use esdk_base::Shelf;
+use esdk_fields::Blob;
+use std::alloc::{AllocError, AllocFailed, Global};
+
+/// How many bytes are read at once at the most.
+const PIECE: usize = 65536;
+
+/// How many bytes a file has at the most that is taken whole.
+const MOST_FILE: usize = 1_048_576;
+
+/// Why a file wasn't taken.
+#[derive(Debug, Clone, Copy, PartialEq, Eq)]
+pub enum FileError {
+    /// A read failed: the shelf failed, or the name isn't on it.
+    Shelf,
+    /// The file gave more than 1,048,576 bytes.
+    TooLong,
+    /// Memory ran out.
+    Memory,
+}
+
+impl From<AllocError> for FileError {
+    ghost use Rattle.std.specs.Prelude.{◌≡◌};
+    ghost use Rattle.whole_input.specs.declared.file.FileError.TheVariants.{Memory};
+
+    ghost from_gives = { λ _ error. error ≡ Memory };
+
+    fn from(_: AllocError) -> FileError {
+        FileError::Memory
+    }
+}
+
+/// Takes all bytes of the file that has this name on the shelf, at most 1,048,576. The shelf stays
+/// as it is.
+pub fn take_file<F: Shelf>(alloc: Global, shelf: &mut F, name: &str) -> Result<Blob, FileError>
+    ensures file { IfOk result (λ bytes. IsFile (shelf_state F.files F.faults shelf.old) (shelf_state F.files F.faults shelf.new) name.now bytes) }
+    ensures cause { IfErr result (λ error. FileCause (shelf_state F.files F.faults shelf.old) (shelf_state F.files F.faults shelf.new) name.now error) }
+    ensures stays { F.files shelf.new ≡ F.files shelf.old }
+{
+    let mut buffer = buffer_of(alloc, PIECE)?;
+    let mut bytes = Blob::new(alloc);
+    fill(shelf, name, &mut buffer, &mut bytes)?;
+    Ok(bytes)
+}
+
+/// Puts the pieces of the file behind each other.
+fn fill<F: Shelf>(
+    shelf: &mut F,
+    name: &str,
+    buffer: &mut [u8],
+    bytes: &mut Blob,
+) -> Result<(), FileError>
+    requires room { 0 < length buffer.old }
+    requires empty { bytes.old ≡ [] }
+    ensures file { OnOk result (IsFile (shelf_state F.files F.faults shelf.old) (shelf_state F.files F.faults shelf.new) name.now bytes.new) }
+    ensures cause { IfErr result (λ error. FileCause (shelf_state F.files F.faults shelf.old) (shelf_state F.files F.faults shelf.new) name.now error) }
+    ensures stays { F.files shelf.new ≡ F.files shelf.old }
+{
+    while bytes.bytes().len() <= MOST_FILE {
+        match add_piece(shelf, name, buffer, bytes) {
+            Ok(true) => {}
+            Ok(false) => return Ok(()),
+            Err(error) => return Err(error),
+        }
+    }
+    Err(FileError::TooLong)
+}
+
+/// Reads the next piece of the file and puts it behind the bytes, which are the file's front, and
+/// answers whether there was one.
+fn add_piece<F: Shelf>(
+    shelf: &mut F,
+    name: &str,
+    buffer: &mut [u8],
+    bytes: &mut Blob,
+) -> Result<bool, FileError>
+    requires room { 0 < length buffer.old }
+    ensures adds { Adds (shelf_state F.files F.faults shelf.old) (shelf_state F.files F.faults shelf.new) name.now bytes.old bytes.new result }
+    ensures stays { F.files shelf.new ≡ F.files shelf.old }
+{
+    let Ok(count) = shelf.read_at(name, bytes.bytes().len() as u64, buffer) else {
+        return Err(FileError::Shelf);
+    };
+    bytes.push_all(&buffer[..count])?;
+    Ok(count > 0)
+}
