@@ -1,0 +1,3 @@
+pub mod RawKey
+pub mod Made
+pub mod Finding

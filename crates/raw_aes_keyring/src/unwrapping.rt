@@ -1,0 +1,106 @@
+//! Unwrapping a data key. AWS Encryption SDK Specification, "Raw AES Keyring", OnDecrypt.
+
+ghost use Rattle.std.specs.Prelude.{◌≡◌, ◌∷◌, [], List, ◌≤◌, length, take, drop, IfOk, OnSome};
+ghost use Rattle.cipher_spec.specs.Gcm.{opened};
+ghost use Rattle.context_codec.specs.Context.{KeyValue, ctx_text};
+ghost use Rattle.keyring_trait.specs.Wrapping.{first_some, unwrap, unwrapped};
+ghost use Rattle.raw_aes_keyring.specs.Finding.{FindsIv};
+
+use crate::raw_aes::RawAes;
+use crate::wrapping::whole_text;
+use aes_core::Key256;
+use context_codec::Context;
+use edk_codec::{DataKeyEntry, info_parts};
+use gcm_core::open_in_place;
+use keyring_trait::{DataKey, WrapKey};
+use std::alloc::{AllocError, Global};
+
+impl RawAes {
+    /// The data key of the first entry that is one of this keyring's key and opens under it, over the text of the context, which has to be the
+    /// whole context. An entry of another key, or one that doesn't open, is passed over. None exactly where no entry is left. Fails only
+    /// where memory runs out.
+    pub fn unwrap(
+        &self,
+        alloc: Global,
+        context: &Context,
+        entries: &[DataKeyEntry],
+    ) -> Result<Option<DataKey>, AllocError>
+        ensures { IfOk result (λ found. found ≡ unwrapped (self.now ∷ []) entries.now context.now) }
+    {
+        let aad = whole_text(alloc, context)?;
+        let cipher_key = Key256::new(&self.key.key);
+        Ok(first_unwrapped(&self.key, &cipher_key, aad.bytes(), entries))
+    }
+}
+
+/// The data key of the first entry that opens.
+fn first_unwrapped(
+    key: &WrapKey,
+    cipher_key: &Key256,
+    aad: &[u8],
+    entries: &[DataKeyEntry],
+) -> Option<DataKey>
+    requires same { cipher_key.now ≡ key.now.key }
+    requires short { length aad.now ≤ 65535 }
+    ensures { (c : List KeyValue) → aad.now ≡ ctx_text c
+        → result ≡ first_some (unwrap key.now c) entries.now }
+{
+    for entry in entries {
+        let found = unwrapped_entry(key, cipher_key, aad, entry);
+        if found.is_some() {
+            return found;
+        }
+    }
+    None
+}
+
+/// The data key, where the entry is one of this key and opens under it.
+#[tactic(auto, unfolding(keyring_trait::specs::Wrapping::unwrap))]
+fn unwrapped_entry(
+    key: &WrapKey,
+    cipher_key: &Key256,
+    aad: &[u8],
+    entry: &DataKeyEntry,
+) -> Option<DataKey>
+    requires same { cipher_key.now ≡ key.now.key }
+    requires short { length aad.now ≤ 65535 }
+    ensures { (c : List KeyValue) → aad.now ≡ ctx_text c → result ≡ unwrap key.now c entry.now }
+{
+    match iv_of(key, entry) {
+        Some(iv) => opened_key(cipher_key, &iv, aad, entry.cipher()),
+        None => None,
+    }
+}
+
+/// The IV, where the entry is one of this key: where it has the key's namespace and name, and a ciphertext of 32 bytes with a tag of 16.
+fn iv_of(key: &WrapKey, entry: &DataKeyEntry) -> Option<[u8; 12]>
+    ensures iv { FindsIv key.now entry.now result }
+    ensures long { OnSome result (length entry.now.cipher ≡ 48) }
+{
+    if entry.provider() != key.namespace.as_str().as_bytes() {
+        return None;
+    }
+    if entry.cipher().len() != 48 {
+        return None;
+    }
+    info_parts(entry.info(), key.name.as_str().as_bytes())
+}
+
+/// The data key that a ciphertext with its tag holds, where the tag is right.
+fn opened_key(cipher_key: &Key256, iv: &[u8; 12], aad: &[u8], cipher: &[u8]) -> Option<DataKey>
+    requires long { length cipher.now ≡ 48 }
+    requires short { length aad.now ≤ 65535 }
+    ensures { result
+        ≡ opened cipher_key.now iv.now aad.now (take 32 cipher.now) (drop 32 cipher.now) }
+{
+    let (sealed, tag) = cipher.split_at(32);
+    let mut bytes = [0; 32];
+    bytes.copy_from_slice(sealed);
+    let mut right = [0; 16];
+    right.copy_from_slice(tag);
+    if open_in_place(cipher_key, iv, aad, &[], &mut bytes, &right) {
+        Some(DataKey::new(bytes))
+    } else {
+        None
+    }
+}
