@@ -1,0 +1,40 @@
+-- What an encryption of told bytes to a told output writes.
+use Rattle.std.proofs.Common.{◌≡◌, ◌∙◌, ℕ, List, ◌++◌, length, take, Option, Some, None, refl, sym, ap, subst, append-nil, take_at}
+use Rattle.std.specs.Io.KnownBytes.{Appends, Consumes, IsAtEnd}
+use Rattle.esdk_base.specs.Streams.{EntropyState, OnTold, SinkState, SourceState}
+use Rattle.keyring_trait.specs.Wrapping.{WrapKeyValue}
+use Rattle.esdk_encrypt.specs.Encrypt.{Encrypts, message_of}
+use Rattle.esdk_encrypt.specs.Laws.{GainsMessage}
+
+-- what was consumed of told bytes is their front
+consumed_first : (old new : Option (List ℕ)) (bytes : List ℕ) → Consumes old new bytes → OnTold old (λ coming. bytes ≡ take (length bytes) coming)
+consumed_first None new bytes consumed = tt
+consumed_first (Some coming) None bytes consumed = absurd consumed
+consumed_first (Some coming) (Some rest) bytes consumed = sym (ap (take (length bytes)) consumed ∙ take_at bytes rest (length bytes) refl)
+
+-- at their end, that is all of them
+consumed_all : (now : Option (List ℕ)) (bytes text : List ℕ) → Consumes (Some text) now bytes → IsAtEnd now → bytes ≡ text
+consumed_all None bytes text consumed end = absurd consumed
+consumed_all (Some rest) bytes text consumed end = sym (consumed ∙ ap (λ (more : List ℕ). bytes ++ more) end ∙ append-nil bytes)
+
+-- told bytes that grew are told
+appended_told : (now : Option (List ℕ)) (before bytes : List ℕ) → Appends (Some before) now bytes → now ≡ Some (before ++ bytes)
+appended_told None before bytes appended = absurd appended
+appended_told (Some written) before bytes appended = ap Some appended
+
+pub gains_message : (w : WrapKeyValue) (size : ℕ) (text before : List ℕ) (input taken : SourceState) (output put : SinkState) (entropy spent : EntropyState)
+    → input.left ≡ Some text → output.written ≡ Some before → Encrypts w size input taken output put entropy spent → GainsMessage w size text before entropy put
+gains_message w size text before input taken output put entropy spent left written encrypts =
+    let drawn : List ℕ = encrypts.drawn in
+    let writes = encrypts.writes in
+    let all : writes.text ≡ text =
+    consumed_all taken.left writes.text text (subst (λ bytes. Consumes bytes taken.left writes.text) left writes.came.consumed) writes.end.end in
+    let gained : Appends (Some before) put.written (message_of w size drawn writes.text) =
+    subst (λ bytes. Appends bytes put.written (message_of w size drawn writes.text)) written writes.gained in
+    record {
+      drawn = drawn;
+      count = encrypts.drew.count;
+      first = subst (λ (n : ℕ). OnTold entropy.to_come (λ coming. drawn ≡ take n coming)) encrypts.drew.count
+          (consumed_first entropy.to_come spent.to_come drawn encrypts.drew.consumed);
+      gained = appended_told put.written before (message_of w size drawn writes.text) gained ∙ ap (λ (t : List ℕ). Some (before ++ message_of w size drawn t)) all;
+    }

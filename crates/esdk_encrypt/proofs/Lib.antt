@@ -1,0 +1,6 @@
+mod Ending
+pub mod Fitting
+pub mod Gaining
+mod Laying
+mod Starting
+mod Writing

@@ -1,0 +1,2 @@
+pub mod Encrypt
+pub mod Laws

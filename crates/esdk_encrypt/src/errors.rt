@@ -1,0 +1,33 @@
+//! Why an input isn't encrypted.
+ghost use Rattle.std.specs.Prelude.{◌≡◌};
+ghost use Rattle.esdk_encrypt.specs.declared.errors.EncryptError.TheVariants.{Memory};
+
+use esdk_fields::{Outside, Refusal};
+use std::alloc::{AllocError, AllocFailed};
+
+/// Why an input isn't encrypted.
+#[derive(Drop)]
+pub enum EncryptError {
+    /// The request is refused: no message can hold so many frames.
+    Refusal(Refusal),
+    /// The input, the output or the entropy failed, or the input is too long.
+    Outside(Outside),
+    /// Memory ran out.
+    Memory,
+}
+
+impl From<AllocError> for EncryptError {
+    ghost from_gives = { λ _ error. error ≡ Memory };
+
+    fn from(_: AllocError) -> EncryptError {
+        EncryptError::Memory
+    }
+}
+
+impl<T: Drop> From<AllocFailed<T>> for EncryptError {
+    ghost from_gives = { λ _ error. error ≡ Memory };
+
+    fn from(_: AllocFailed<T>) -> EncryptError {
+        EncryptError::Memory
+    }
+}
