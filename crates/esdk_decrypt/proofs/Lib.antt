@@ -1,0 +1,4 @@
+mod Answering
+mod Putting
+pub mod WholeInputs
+pub mod RoundTrip

@@ -1,0 +1,2 @@
+pub mod Decrypt
+pub mod Laws

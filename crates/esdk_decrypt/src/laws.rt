@@ -1,0 +1,21 @@
+//! Laws about decryptions whose input tells its bytes. A law is a function that does nothing: its contract is what is proved.
+
+ghost use Rattle.esdk_decrypt.specs.Laws.{DecryptsWholeInputs, DecryptsNothingElse, NamesTheFirstFault, JudgesWhatIsWritten, DecryptsToTheText, DecryptsWhatIsWritten};
+
+/// An input that is a whole message and stores no pairs is decrypted, unless the input or the output fails or memory runs out. Nothing else is decrypted.
+pub fn whole_inputs_are_decrypted()
+    ensures decrypts { DecryptsWholeInputs }
+    ensures alone { DecryptsNothingElse }
+{}
+
+/// A fault that is answered is the first fault of the whole input, however little of it was taken; what was released before it is written.
+pub fn the_first_fault_is_named()
+    ensures { NamesTheFirstFault }
+{}
+
+/// A message that was written without a context, for a key of the reader's among others, is decrypted to its text.
+pub fn written_messages_are_decrypted()
+    ensures judged { JudgesWhatIsWritten }
+    ensures text { DecryptsToTheText }
+    ensures decrypts { DecryptsWhatIsWritten }
+{}

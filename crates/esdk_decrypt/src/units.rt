@@ -1,0 +1,36 @@
+//! What a judgement releases, written to a sink.
+ghost use Rattle.std.specs.Prelude.{OnOk, OnErr};
+ghost use Rattle.std.specs.List.{concat};
+ghost use Rattle.std.specs.Io.KnownBytes.{Appends};
+ghost use Rattle.esdk_base.specs.Counts.{HasCause};
+ghost use Rattle.esdk_base.specs.Sink.{AppendsFront};
+
+use esdk_base::{Failed, Sink};
+use esdk_fields::Blob;
+
+/// Writes the units one after another. A unit of no bytes isn't put.
+pub(crate) fn put_units<O: Sink>(units: &[Blob], output: &mut O) -> Result<(), Failed>
+    ensures whole { OnOk result (Appends (O.written output.old) (O.written output.new) (concat units.now)) }
+    ensures front { OnErr result (AppendsFront (O.written output.old) (O.written output.new) (concat units.now)) }
+    ensures cause { HasCause (O.faults output.old) (O.faults output.new) result }
+{
+    for unit in units {
+        match put_unit(unit, output) {
+            Ok(()) => {}
+            Err(failed) => return Err(failed),
+        }
+    }
+    Ok(())
+}
+
+/// Writes a unit, if it has any bytes.
+fn put_unit<O: Sink>(unit: &Blob, output: &mut O) -> Result<(), Failed>
+    ensures whole { OnOk result (Appends (O.written output.old) (O.written output.new) unit.now) }
+    ensures front { OnErr result (AppendsFront (O.written output.old) (O.written output.new) unit.now) }
+    ensures cause { HasCause (O.faults output.old) (O.faults output.new) result }
+{
+    if unit.bytes().is_empty() {
+        return Ok(());
+    }
+    output.put(unit.bytes())
+}
