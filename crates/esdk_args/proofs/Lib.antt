@@ -1,0 +1,4 @@
+pub mod Numerals
+pub mod Parsed
+pub mod Forms
+pub mod Requests

@@ -1,0 +1,11 @@
+use Rattle.esdk_args.proofs.Requests.{decrypt_asks, decrypt_is_read, encrypt_asks, encrypt_is_read, list_asks, list_is_read}
+use Rattle.esdk_args.proofs.laws.requests_are_read.Goals as goal
+
+pub returns-clause-list : goal.returns-clause-list
+returns-clause-list c = λ words. (list_asks words, list_is_read words)
+
+pub returns-clause-encrypt : goal.returns-clause-encrypt
+returns-clause-encrypt c = λ words asked. (encrypt_asks words asked, encrypt_is_read words asked)
+
+pub returns-clause-decrypt : goal.returns-clause-decrypt
+returns-clause-decrypt c = λ words asked. (decrypt_asks words asked, decrypt_is_read words asked)

@@ -1,0 +1,33 @@
+-- What the laws of this crate say of words.
+use Rattle.std.specs.Prelude.{◌≡◌, ◌≢◌, ◌↔◌, ◌≤◌, ◌<◌, ◌+◌, ◌^◌, ℕ, List, [], ◌∷◌, ◌++◌, length, replicate, codes, decimal, Ok, Err}
+use Rattle.esdk_args.specs.declared.options.OptionName.{OptionName}
+use Rattle.esdk_args.specs.declared.request.Request.TheVariants as requests
+use Rattle.esdk_args.specs.declared.request.EncryptWords.{EncryptWords}
+use Rattle.esdk_args.specs.declared.request.DecryptWords.{DecryptWords}
+use Rattle.esdk_args.specs.declared.request.WordsFault.TheVariants.{BadNumber, Memory}
+use Rattle.esdk_args.specs.Words.{words_of}
+use Rattle.esdk_args.specs.Spelling.{AsksEncrypt, AsksDecrypt, HasBadNumber, Writes}
+
+-- The one word `list` asks for a listing, and no other words do.
+abbrev pub ReadsList : Type 0
+ReadsList = (words : List (List ℕ)) → (words_of words ≡ Ok requests.List) ↔ (words ≡ codes "list" ∷ [])
+
+-- Words are read as an encryption exactly where they ask for it.
+abbrev pub ReadsEncrypt : Type 0
+ReadsEncrypt = (words : List (List ℕ)) (asked : EncryptWords) → (words_of words ≡ Ok (requests.Encrypt asked)) ↔ AsksEncrypt words asked
+
+-- Words are read as a decryption exactly where they ask for it.
+abbrev pub ReadsDecrypt : Type 0
+ReadsDecrypt = (words : List (List ℕ)) (asked : DecryptWords) → (words_of words ≡ Ok (requests.Decrypt asked)) ↔ AsksDecrypt words asked
+
+-- A bad number of an option is named exactly where the words have one.
+abbrev pub NamesBadNumbers : Type 0
+NamesBadNumbers = (words : List (List ℕ)) (name : OptionName) → (words_of words ≡ Err (BadNumber name)) ↔ HasBadNumber words name
+
+-- No words mean want of memory. So all others are not built.
+abbrev pub NeverMemory : Type 0
+NeverMemory = (words : List (List ℕ)) → words_of words ≢ Err Memory
+
+-- A number below 2^64 in decimal, with zeros before it to at most 20 digits, writes that number.
+abbrev pub ReadsWrittenNumbers : Type 0
+ReadsWrittenNumbers = (n zeros : ℕ) → n < 2 ^ 64 → zeros + length (decimal n) ≤ 20 → Writes (replicate zeros 48 ++ decimal n) n

@@ -1,0 +1,33 @@
+//! The options that take a number.
+
+ghost use Rattle.std.specs.Prelude.{◌≡◌};
+ghost use Rattle.esdk_args.specs.Options.{option_text, greatest};
+
+/// An option that takes a number.
+#[derive(Debug, Clone, Copy, PartialEq, Eq)]
+pub enum OptionName {
+    /// `--frame` of `encrypt`: the frame length in bytes, 1 to 4,294,967,295.
+    Frame,
+    /// `--max-unit` of `decrypt`: the greatest length in bytes of a frame or a single block, 1 to 68,719,476,704.
+    MaxUnit,
+}
+
+/// The option as it is written among the words.
+pub fn option_text(name: OptionName) -> &'static str
+    ensures { result.now ≡ option_text name }
+{
+    match name {
+        OptionName::Frame => "--frame",
+        OptionName::MaxUnit => "--max-unit",
+    }
+}
+
+/// The greatest number that the option takes.
+pub(crate) fn greatest(name: OptionName) -> u64
+    ensures { result ≡ greatest name }
+{
+    match name {
+        OptionName::Frame => 4_294_967_295,
+        OptionName::MaxUnit => 68_719_476_704,
+    }
+}
