@@ -21,7 +21,7 @@ use Rattle.header_codec.proofs.Order.{IsSequential-header}
 use Rattle.esdk_tool.specs.declared.failure.Failure.{Failure}
 use Rattle.esdk_tool.specs.declared.failure.Failure.TheVariants as failures
 use Rattle.esdk_tool.specs.List.{no_limits, input_fault, fault_at_end, IsInputCause, TooLong}
-use Rattle.esdk_tool.specs.Streams.{OnTold, SourceState}
+use Rattle.esdk_base.specs.Streams.{OnTold, SourceState}
 use Rattle.esdk_tool.specs.HeaderInput.{session_of, Waits, Holds, Feeds, Came, Grows}
 
 -- ---- one step of the reader
@@ -127,9 +127,13 @@ came_read first old new bytes count buffer came size consumed given faults =
 pub feed_cause : (first now : SourceState) (bytes piece : List ℕ) (reader : HeaderReader) (failure : Failure) → Came first now (bytes ++ piece)
     → Feeds bytes piece reader (Err failure) → IsInputCause failure first now
 feed_cause first now bytes piece reader failures.NotBuilt came feeds = absurd feeds
+feed_cause first now bytes piece reader (failures.BadNumber name) came feeds = absurd feeds
 feed_cause first now bytes piece reader (failures.Fault fault) came feeds =
     fault_told first.left now.left (bytes ++ piece) fault feeds.0 came.consumed feeds.1
+feed_cause first now bytes piece reader (failures.File refusal) came feeds = absurd feeds
 feed_cause first now bytes piece reader (failures.Outside outside) came feeds = absurd feeds
+feed_cause first now bytes piece reader (failures.Refusal refusal) came feeds = absurd feeds
+feed_cause first now bytes piece reader failures.NotYet came feeds = absurd feeds
 feed_cause first now bytes piece reader failures.Memory came feeds = tt
 
 -- ---- the loop

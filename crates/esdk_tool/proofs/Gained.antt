@@ -5,7 +5,7 @@ use Rattle.std.specs.Io.KnownBytes.{Appends}
 use Rattle.esdk_base.specs.Counts.{HasCause}
 use Rattle.esdk_base.specs.Sink.{PutAppends}
 use Rattle.esdk_tool.specs.Report.{Gains}
-use Rattle.esdk_tool.specs.Streams.{SinkState}
+use Rattle.esdk_base.specs.Streams.{SinkState}
 
 pub gains_by_put : {E : Type 0} (result : Result (Unit {0}) E) (bytes : List ℕ) (old new : SinkState)
     → PutAppends old.written new.written result bytes → HasCause old.faults new.faults result → Gains bytes old new

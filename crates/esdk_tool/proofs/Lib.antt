@@ -2,3 +2,8 @@ pub mod Feeding
 pub mod Gained
 pub mod Lines
 pub mod Shown
+pub mod Asked
+pub mod Files
+pub mod Statuses
+pub mod Encryption
+pub mod Decryption

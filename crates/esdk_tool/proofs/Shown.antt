@@ -11,7 +11,7 @@ use Rattle.header_codec.specs.Session.{ShowsHeader}
 use Rattle.header_codec.specs.Table.{header, BeginsWith}
 use Rattle.header_codec.proofs.Followed.{BeginsWith-append}
 use Rattle.esdk_tool.specs.List.{no_limits, BeginsWithHeader, Lists, ListsFront}
-use Rattle.esdk_tool.specs.Streams.{OnTold}
+use Rattle.esdk_base.specs.Streams.{OnTold}
 use Rattle.esdk_tool.specs.HeaderInput.{session_of, Holds, HoldsHeader}
 use Rattle.esdk_tool.specs.Listing.{list_of}
 

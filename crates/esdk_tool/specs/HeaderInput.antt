@@ -13,7 +13,7 @@ use Rattle.esdk_tool.specs.declared.failure.Failure.TheVariants as failures
 use Rattle.esdk_tool.specs.declared.header_input.Progress.{Progress}
 use Rattle.esdk_tool.specs.declared.header_input.Progress.TheVariants as progress
 use Rattle.esdk_tool.specs.List.{no_limits, IsInputCause}
-use Rattle.esdk_tool.specs.Streams.{OnTold, SourceState}
+use Rattle.esdk_base.specs.Streams.{OnTold, SourceState}
 
 -- a session that took these bytes and met no error
 abbrev pub session_of : List ℕ → Session

@@ -1,7 +1,11 @@
 pub mod ContextLine
+pub mod Decrypt
+pub mod Encrypt
 pub mod HeaderInput
+pub mod KeyInput
 pub mod List
 pub mod Listing
+pub mod Objects
 pub mod Report
 pub mod Run
-pub mod Streams
+pub mod Told

@@ -14,7 +14,7 @@ use Rattle.header_codec.specs.Table.{header, BeginsWith}
 use Rattle.esdk_tool.specs.declared.failure.Failure.{Failure}
 use Rattle.esdk_tool.specs.declared.failure.Failure.TheVariants as failures
 use Rattle.esdk_tool.specs.Listing.{list_of}
-use Rattle.esdk_tool.specs.Streams.{OnTold, SinkState, SourceState}
+use Rattle.esdk_base.specs.Streams.{OnTold, SinkState, SourceState}
 
 -- `list` takes each header that the format allows
 abbrev pub no_limits : Settings

@@ -1,43 +1,92 @@
 -- How a run of the program ends.
-use Rattle.std.specs.Prelude.{◌≡◌, ◌≢◌, ◌==◌, ◌||◌, ℕ, List, [], ◌∷◌, Bool, codes, Option, Some, None}
+use Rattle.std.specs.Prelude.{◌≡◌, ◌≢◌, ◌⊎◌, ◌==◌, ◌||◌, ℕ, List, [], Bool, true, false, Option, Some, None, Result, Ok, Err}
+use Rattle.esdk_args.specs.declared.request.Request.{Request}
+use Rattle.esdk_args.specs.declared.request.Request.TheVariants as requests
+use Rattle.esdk_args.specs.declared.request.WordsFault.{WordsFault}
+use Rattle.esdk_args.specs.declared.request.WordsFault.TheVariants as words
+use Rattle.esdk_base.specs.Streams.{EntropyState, SinkState, SourceState}
 use Rattle.esdk_fields.specs.declared.faults.Fault.{Fault}
-use Rattle.esdk_fields.specs.declared.refusals.Outside.{Outside}
-use Rattle.esdk_fields.specs.Report.{fault_line, outside_line, printed_line}
+use Rattle.esdk_tool.specs.declared.failure.Failure.{Failure}
 use Rattle.esdk_tool.specs.declared.failure.Failure.TheVariants as failures
-use Rattle.esdk_tool.specs.List.{IsListCause, LeavesOutput, input_fault}
-use Rattle.esdk_tool.specs.Report.{Gains}
-use Rattle.esdk_tool.specs.Streams.{OnTold, SinkState, SourceState}
-
--- the words of the command that is built: the one word `list`
-abbrev pub list_words : List (List ℕ)
-list_words = codes "list" ∷ []
-
--- the line for other words
-abbrev pub not_built_line : List ℕ
-not_built_line = printed_line (codes "words NotBuilt")
-
--- the line for want of memory
-abbrev pub memory_line : List ℕ
-memory_line = printed_line (codes "Memory")
+use Rattle.esdk_tool.specs.Decrypt.{DecryptFails, DecryptsInput}
+use Rattle.esdk_tool.specs.Encrypt.{EncryptFails, EncryptsInput}
+use Rattle.esdk_tool.specs.List.{IsListCause, LeavesOutput, Lists}
+use Rattle.esdk_tool.specs.Objects.{Objects}
+use Rattle.esdk_tool.specs.Report.{Reports, TellsContext}
 
 -- the statuses with which a run may end
 abbrev pub is_status : ℕ → Bool
-is_status code = code == 0 || code == 1 || code == 2 || code == 4 || code == 5
+is_status code = code == 0 || code == 1 || code == 2 || code == 3 || code == 4 || code == 5 || code == 6 || code == 8
+
+-- ---- what a run touches, by its words
+
+-- the command reads from the shelf
+abbrev pub reads_shelf : Result Request WordsFault → Bool
+reads_shelf (Ok requests.List) = false
+reads_shelf (Ok request) = true
+reads_shelf (Err fault) = false
+
+-- the command draws from the entropy
+abbrev pub draws : Result Request WordsFault → Bool
+draws (Ok (requests.Encrypt words)) = true
+draws (Ok request) = false
+draws (Err fault) = false
+
+-- ---- how it ends
+
+-- The failure that ended a run; the status is the failure's, and the report gained its line. Where memory for that line isn't there, they are those of want of memory.
+pub record Fails (cause : Failure → Type 0) (code : ℕ) (report reported : SinkState) : Type 0 where
+  pub failure : Failure
+  pub because : cause failure
+  pub said : Reports failure code report reported
+
+-- The status is 0, and the report gained nothing.
+pub record IsDone (code : ℕ) (report reported : SinkState) : Type 0 where
+  pub status : code ≡ 0
+  pub same : reported ≡ report
+
+-- the failure for which words are refused
+abbrev pub words_failure : WordsFault → Failure
+words_failure words.NotBuilt = failures.NotBuilt
+words_failure (words.BadNumber name) = failures.BadNumber name
+words_failure words.Memory = failures.Memory
+
+-- of words that are refused so
+abbrev pub RefusesWords : WordsFault → ℕ → SinkState → SinkState → Type 0
+RefusesWords fault code report reported =
+    Reports (words_failure fault) code report reported ⊎ Reports failures.Memory code report reported
+
+-- of `list`
+abbrev pub ListRuns : SourceState → SourceState → SinkState → SinkState → Type 0 → ℕ → SinkState → SinkState → Type 0
+ListRuns input taken output put same code report reported =
+    (IsDone code report reported × Lists input.left output.written put.written)
+    ⊎ Fails (λ failure. IsListCause failure input taken output put × LeavesOutput failure input output put same) code report reported
+
+-- of `encrypt` with the keyring file of this name, and frames of this many bytes
+abbrev pub EncryptRuns : List ℕ → ℕ → Objects → Objects → EntropyState → EntropyState → Type 0 → Type 0 → ℕ → SinkState → SinkState → Type 0
+EncryptRuns name size before after entropy spent untouched undrawn code report reported =
+    (IsDone code report reported × EncryptsInput name size before after entropy spent)
+    ⊎ Fails (EncryptFails name size before after entropy spent untouched undrawn) code report reported
+
+-- of `decrypt` with the keyring file of this name, and this limit on units
+abbrev pub DecryptRuns : List ℕ → Option ℕ → Objects → Objects → Type 0 → ℕ → SinkState → SinkState → Type 0
+DecryptRuns name max_unit before after untouched code report reported =
+    (TellsContext [] code report reported × DecryptsInput name max_unit before after)
+    ⊎ Fails (DecryptFails name max_unit before after untouched) code report reported
 
 -- No input that begins with a header and its tag is refused for a fault, and no other is done.
 abbrev pub AgreesWith : ℕ → Option Fault → Type 0
 AgreesWith code None = code ≢ 1
 AgreesWith code (Some fault) = code ≢ 0
 
--- The input, where it is told, has this fault, and the report gained the fault's line.
-pub record RefusesInput (input : SourceState) (report reported : SinkState) : Type 0 where
-  pub fault : Fault
-  pub cause : OnTold input.left (λ bytes. input_fault bytes ≡ Some fault)
-  pub line : Gains (printed_line (fault_line fault)) report reported
+-- ---- of any words
 
--- The input or the output failed, or the input is too long, and the report gained the line of that. Unless a put failed, the output is the same.
-pub record FailsOutside (input taken : SourceState) (output put : SinkState) (same : Type 0) (report reported : SinkState) : Type 0 where
-  pub outside : Outside
-  pub cause : IsListCause (failures.Outside outside) input taken output put
-  pub written : LeavesOutput (failures.Outside outside) input output put same
-  pub line : Gains (printed_line (outside_line outside)) report reported
+-- What a run comes to, by what its words ask for. `untouched` says that input and output are as before, `same` that the output is, `undrawn` that the entropy is.
+abbrev pub RunsAs : Result Request WordsFault → Objects → Objects → EntropyState → EntropyState → Type 0 → Type 0 → Type 0 → ℕ → SinkState → SinkState → Type 0
+RunsAs (Ok requests.List) before after entropy spent untouched same undrawn code report reported =
+    ListRuns before.input after.input before.output after.output same code report reported
+RunsAs (Ok (requests.Encrypt asked)) before after entropy spent untouched same undrawn code report reported =
+    EncryptRuns asked.keyring asked.frame before after entropy spent untouched undrawn code report reported
+RunsAs (Ok (requests.Decrypt asked)) before after entropy spent untouched same undrawn code report reported =
+    DecryptRuns asked.keyring asked.max_unit before after untouched code report reported
+RunsAs (Err fault) before after entropy spent untouched same undrawn code report reported = untouched × RefusesWords fault code report reported

@@ -2,7 +2,8 @@
 ghost use Rattle.std.specs.Prelude.{◌≡◌};
 ghost use Rattle.esdk_tool.specs.declared.failure.Failure.TheVariants.{Memory};
 
-use esdk_fields::{Fault, Outside};
+use esdk_args::OptionName;
+use esdk_fields::{Fault, FileRefusal, Outside, Refusal};
 use std::alloc::{AllocError, AllocFailed};
 
 /// Why a run ends without its result.
@@ -10,10 +11,18 @@ use std::alloc::{AllocError, AllocFailed};
 pub enum Failure {
     /// The words aren't those of a command that is built.
     NotBuilt,
+    /// The number of this option isn't one that it takes.
+    BadNumber(OptionName),
     /// The input has this fault.
     Fault(Fault),
-    /// The input or the output failed, or the input is too long.
+    /// The keyring file is refused.
+    File(FileRefusal),
+    /// The input, the output, the shelf or the entropy failed, or the input is too long.
     Outside(Outside),
+    /// What was asked for is refused.
+    Refusal(Refusal),
+    /// The header stores pairs, which can't be read yet.
+    NotYet,
     /// Memory ran out.
     Memory,
 }

@@ -2,7 +2,7 @@
 ghost use Rattle.std.specs.Prelude.{◌≡◌, ◌+◌, ◌≤◌, ◌<◌, ◌^◌, ℕ, List, [], IfOk, IfErr, OnOk, vec_len, length};
 ghost use Rattle.esdk_tool.specs.HeaderInput.{Advances, Came, Feeds, HoldsHeader, IsWithin, Waits};
 ghost use Rattle.esdk_tool.specs.List.{IsInputCause};
-ghost use Rattle.esdk_tool.specs.Streams.{SourceState, source_state};
+ghost use Rattle.esdk_base.specs.Streams.{SourceState, source_state};
 
 use crate::failure::Failure;
 use esdk_base::Source;

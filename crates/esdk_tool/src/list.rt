@@ -1,7 +1,7 @@
 //! The command `list`.
 ghost use Rattle.std.specs.Prelude.{◌≡◌, ◌+◌, ◌≤◌, ◌^◌, IfErr, OnOk};
 ghost use Rattle.esdk_tool.specs.List.{IsListCause, LeavesOutput, Lists};
-ghost use Rattle.esdk_tool.specs.Streams.{sink_state, source_state};
+ghost use Rattle.esdk_base.specs.Streams.{sink_state, source_state};
 
 use crate::failure::Failure;
 use crate::header_input::read_header;

@@ -1,12 +1,17 @@
-//! `esdk` reads messages of the AWS Encryption SDK's message format 2.0 and says what is in them.
+//! `esdk` encrypts files into messages of the AWS Encryption SDK's message format 2.0, decrypts them,
+//! and lists what stands in their headers.
 //!
-//! The program is one call, `run`, over its words, its input and its two outputs; `main` makes the
-//! real ones, calls it, and ends with its status.
+//! The program is one call, `run`, over its words, its input, its two outputs, a shelf of files and
+//! an entropy; `main` makes the real ones, calls it, and ends with its status.
 #![tactic(auto)]
 
+mod commands;
 mod context_line;
+mod decrypt;
+mod encrypt;
 mod failure;
 mod header_input;
+mod key_input;
 mod list;
 mod listing;
 mod report;
@@ -16,7 +21,7 @@ mod tests;
 mod top_call;
 mod words;
 
-use esdk_base::{StdSink, StdSource};
+use esdk_base::{FileShelf, RngEntropy, StdSink, StdSource};
 use esdk_fields::Text;
 use failure::Failure;
 use report::report_failure;
@@ -25,7 +30,8 @@ use std::process::ExitCode;
 use std::{env, io};
 use top_call::run;
 
-/// Runs the program over standard input, standard output and standard error.
+/// Runs the program over standard input, standard output and standard error, the files of the folder
+/// that it runs in, and a generator that the system seeds.
 fn main(rt: HostRuntime) -> ExitCode {
     let alloc = rt.alloc();
     let mut report = StdSink::new(rt.stderr());
@@ -33,7 +39,17 @@ fn main(rt: HostRuntime) -> ExitCode {
         Ok(words) => {
             let mut input = StdSource::new(rt.stdin());
             let mut output = StdSink::new(rt.stdout());
-            run(alloc, &words, &mut input, &mut output, &mut report)
+            let mut shelf = FileShelf::new(rt);
+            let mut entropy = RngEntropy::new(rand::make_rng(&rt).ok());
+            run(
+                alloc,
+                &words,
+                &mut input,
+                &mut output,
+                &mut report,
+                &mut shelf,
+                &mut entropy,
+            )
         }
         Err(failure) => report_failure(alloc, &failure, &mut report),
     };

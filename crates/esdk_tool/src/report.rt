@@ -1,14 +1,17 @@
-//! The line that a refusal leaves on the report.
-ghost use Rattle.std.specs.Prelude.{◌≡◌, IfOk};
-ghost use Rattle.esdk_fields.specs.Report.{fault_line, outside_line, printed_line};
-ghost use Rattle.esdk_tool.specs.Report.{Answers, Gains, Reports};
-ghost use Rattle.esdk_tool.specs.Streams.{sink_state};
+//! The line that a refusal leaves on the report, and the line of the context after a decryption.
+ghost use Rattle.std.specs.Prelude.{◌≡◌, [], IfOk};
+ghost use Rattle.esdk_base.specs.Streams.{sink_state};
+ghost use Rattle.esdk_fields.specs.Report.{fault_line, file_line, outside_line, printed_line, refusal_line};
+ghost use Rattle.esdk_tool.specs.Report.{Answers, Gains, Reports, TellsContext, context_line, line_of};
 ghost use Rattle.esdk_tool.specs.declared.failure.Failure.TheVariants as failures;
 
 use crate::failure::Failure;
 use crate::status::Status;
+use esdk_args::OptionName;
 use esdk_base::Sink;
-use esdk_fields::{Blob, Fault, Outside, fault_text, printed};
+use esdk_fields::{
+    Blob, Fault, FileRefusal, Outside, Refusal, fault_text, file_text, printed, refusal_text,
+};
 use std::alloc::{AllocError, Global};
 
 /// Puts the line of the refusal on the report, and answers the refusal's status.
@@ -20,21 +23,89 @@ pub fn report_failure<R: Sink>(alloc: Global, failure: &Failure, report: &mut R)
         (sink_state R.written R.faults report.old) (sink_state R.written R.faults report.new) }
 {
     match failure {
-        Failure::NotBuilt => report_words(report),
+        Failure::NotBuilt => report_not_built(report),
+        Failure::BadNumber(name) => report_number(*name, report),
         Failure::Fault(fault) => report_fault(alloc, fault, report),
+        Failure::File(refusal) => report_file(alloc, refusal, report),
         Failure::Outside(outside) => report_outside(*outside, report),
+        Failure::Refusal(refusal) => report_refusal(alloc, refusal, report),
+        Failure::NotYet => report_not_yet(report),
         Failure::Memory => report_memory(report),
     }
 }
 
-/// Puts the line of words that aren't a command that is built.
+/// Puts the line of words that aren't those of a command that is built.
 #[tactic(auto, unfolding(esdk_fields::specs::Report::printed_line))]
-fn report_words<R: Sink>(report: &mut R) -> Status
+fn report_not_built<R: Sink>(report: &mut R) -> Status
     ensures { Answers failures.NotBuilt result.code
         (sink_state R.written R.faults report.old) (sink_state R.written R.faults report.new) }
 {
     put_line(b"esdk: words NotBuilt\n", report);
     Status::WORDS
+}
+
+/// Puts the line of an option whose number is refused.
+fn report_number<R: Sink>(name: OptionName, report: &mut R) -> Status
+    ensures { Answers (failures.BadNumber name) result.code
+        (sink_state R.written R.faults report.old) (sink_state R.written R.faults report.new) }
+{
+    put_line(line_of_number(name), report);
+    Status::WORDS
+}
+
+/// Puts the line of a fault.
+fn report_fault<R: Sink>(alloc: Global, fault: &Fault, report: &mut R) -> Status
+    ensures { Reports (failures.Fault fault.now) result.code
+        (sink_state R.written R.faults report.old) (sink_state R.written R.faults report.new) }
+{
+    let Ok(line) = line_of_fault(alloc, fault) else {
+        return report_memory(report);
+    };
+    put_line(line.bytes(), report);
+    Status::FAULT
+}
+
+/// Puts the line of a keyring file's refusal.
+fn report_file<R: Sink>(alloc: Global, refusal: &FileRefusal, report: &mut R) -> Status
+    ensures { Reports (failures.File refusal.now) result.code
+        (sink_state R.written R.faults report.old) (sink_state R.written R.faults report.new) }
+{
+    let Ok(line) = line_of_file(alloc, refusal) else {
+        return report_memory(report);
+    };
+    put_line(line.bytes(), report);
+    Status::FILE
+}
+
+/// Puts the line of a failure outside.
+fn report_outside<R: Sink>(outside: Outside, report: &mut R) -> Status
+    ensures { Answers (failures.Outside outside) result.code
+        (sink_state R.written R.faults report.old) (sink_state R.written R.faults report.new) }
+{
+    put_line(line_of_outside(outside), report);
+    Status::OUTSIDE
+}
+
+/// Puts the line of a refused request.
+fn report_refusal<R: Sink>(alloc: Global, refusal: &Refusal, report: &mut R) -> Status
+    ensures { Reports (failures.Refusal refusal.now) result.code
+        (sink_state R.written R.faults report.old) (sink_state R.written R.faults report.new) }
+{
+    let Ok(line) = line_of_refusal(alloc, refusal) else {
+        return report_memory(report);
+    };
+    put_line(line.bytes(), report);
+    Status::REFUSAL
+}
+
+/// Puts the line of a header that can't be read yet.
+#[tactic(auto, unfolding(esdk_fields::specs::Report::printed_line))]
+fn report_not_yet<R: Sink>(report: &mut R) -> Status
+    ensures { Answers failures.NotYet result.code
+        (sink_state R.written R.faults report.old) (sink_state R.written R.faults report.new) }
+{
+    put_line(b"esdk: NotYet\n", report);
+    Status::NOT_YET
 }
 
 /// Puts the line of want of memory, which takes none.
@@ -47,32 +118,36 @@ fn report_memory<R: Sink>(report: &mut R) -> Status
     Status::MEMORY
 }
 
-/// Puts the line of a failure outside.
-fn report_outside<R: Sink>(outside: Outside, report: &mut R) -> Status
-    ensures { Answers (failures.Outside outside) result.code
-        (sink_state R.written R.faults report.old) (sink_state R.written R.faults report.new) }
-{
-    put_line(line_of_outside(outside), report);
-    Status::OUTSIDE
-}
-
-/// Puts the line of a fault on the report. Its number and its text may take memory.
-fn report_fault<R: Sink>(alloc: Global, fault: &Fault, report: &mut R) -> Status
-    ensures { Reports (failures.Fault fault.now) result.code
-        (sink_state R.written R.faults report.old) (sink_state R.written R.faults report.new) }
-{
-    let Ok(line) = line_of_fault(alloc, fault) else {
-        return report_memory(report);
-    };
-    put_line(line.bytes(), report);
-    Status::FAULT
-}
-
 /// The whole line of a fault.
 fn line_of_fault(alloc: Global, fault: &Fault) -> Result<Blob, AllocError>
     ensures { IfOk result (λ line. line ≡ printed_line (fault_line fault.now)) }
 {
     printed(alloc, &fault_text(alloc, fault)?)
+}
+
+/// The whole line of a keyring file's refusal.
+fn line_of_file(alloc: Global, refusal: &FileRefusal) -> Result<Blob, AllocError>
+    ensures { IfOk result (λ line. line ≡ printed_line (file_line refusal.now)) }
+{
+    printed(alloc, &file_text(alloc, refusal)?)
+}
+
+/// The whole line of a refused request.
+fn line_of_refusal(alloc: Global, refusal: &Refusal) -> Result<Blob, AllocError>
+    ensures { IfOk result (λ line. line ≡ printed_line (refusal_line refusal.now)) }
+{
+    printed(alloc, &refusal_text(alloc, refusal)?)
+}
+
+/// The whole line of an option whose number is refused, which takes no memory.
+#[tactic(auto, unfolding(esdk_fields::specs::Report::printed_line))]
+fn line_of_number(name: OptionName) -> &'static [u8]
+    ensures { result.now ≡ printed_line (line_of (failures.BadNumber name)) }
+{
+    match name {
+        OptionName::Frame => b"esdk: words BadNumber --frame\n",
+        OptionName::MaxUnit => b"esdk: words BadNumber --max-unit\n",
+    }
 }
 
 /// The whole line of a failure outside, which takes no memory: it is there when all else failed.
@@ -96,4 +171,24 @@ fn put_line<R: Sink>(line: &[u8], report: &mut R)
         (sink_state R.written R.faults report.old) (sink_state R.written R.faults report.new) }
 {
     let _ = report.put(line);
+}
+
+/// Puts the line of a whole context that has no pairs, and answers the status of the run: a report
+/// that fails is a failure outside.
+pub fn report_no_pairs<R: Sink>(report: &mut R) -> Status
+    ensures { TellsContext [] result.code
+        (sink_state R.written R.faults report.old) (sink_state R.written R.faults report.new) }
+{
+    match report.put(line_of_no_pairs()) {
+        Ok(()) => Status::DONE,
+        Err(_) => Status::OUTSIDE,
+    }
+}
+
+/// The line of a context that has no pairs.
+#[tactic(auto, unfolding(crate::specs::Report::context_line, crate::specs::Listing::context_json))]
+fn line_of_no_pairs() -> &'static [u8]
+    ensures { result.now ≡ context_line [] }
+{
+    b"{}\n"
 }

@@ -12,10 +12,16 @@ impl Status {
     pub const DONE: Status = Status { code: 0 };
     /// The message has a fault.
     pub const FAULT: Status = Status { code: 1 };
-    /// The words aren't a command that is built.
+    /// The words aren't those of a command that is built, or a number among them is refused.
     pub const WORDS: Status = Status { code: 2 };
-    /// The input or the output failed, or the input is too long.
+    /// The keyring file is refused.
+    pub const FILE: Status = Status { code: 3 };
+    /// An object outside failed, or the input is too long.
     pub const OUTSIDE: Status = Status { code: 4 };
     /// Memory ran out.
     pub const MEMORY: Status = Status { code: 5 };
+    /// What was asked for is refused.
+    pub const REFUSAL: Status = Status { code: 6 };
+    /// The header stores pairs, which can't be read yet.
+    pub const NOT_YET: Status = Status { code: 8 };
 }

@@ -1,72 +1,86 @@
-//! The top call: all that the program does, over the words and the streams that it is handed.
-ghost use Rattle.std.specs.Prelude.{◌≡◌, ◌≢◌, ◌+◌, ◌≤◌, ◌^◌, true};
-ghost use Rattle.esdk_tool.specs.List.{Lists, input_fault};
-ghost use Rattle.esdk_tool.specs.Report.{Gains};
-ghost use Rattle.esdk_tool.specs.Run.{AgreesWith, FailsOutside, RefusesInput, is_status, list_words, memory_line, not_built_line};
-ghost use Rattle.esdk_tool.specs.Streams.{OnTold, sink_state, source_state};
+//! The top call: all that the program does, over the words and the objects that it is handed.
+ghost use Rattle.std.specs.Prelude.{◌≡◌, ◌+◌, ◌≤◌, ◌^◌, false, true, Ok};
+ghost use Rattle.esdk_args.specs.declared.request.DecryptWords.{DecryptWords};
+ghost use Rattle.esdk_args.specs.declared.request.EncryptWords.{EncryptWords};
+ghost use Rattle.esdk_args.specs.declared.request.Request.TheVariants as requests;
+ghost use Rattle.esdk_args.specs.Words.{words_of};
+ghost use Rattle.esdk_base.specs.Streams.{OnTold, entropy_state, sink_state};
+ghost use Rattle.esdk_tool.specs.List.{input_fault};
+ghost use Rattle.esdk_tool.specs.Objects.{objects};
+ghost use Rattle.esdk_tool.specs.Run.{AgreesWith, RunsAs, draws, is_status, reads_shelf};
+ghost use Rattle.esdk_tool.specs.Told.{DecryptsWholeMessages, EncryptsWhatFits, ReadsBack, SaysTheJudgement, WritesTheMessage};
 
-use crate::failure::Failure;
-use crate::list::list;
-use crate::report::report_failure;
+use crate::commands::carry_out;
 use crate::status::Status;
-use crate::words::{Command, command_of};
-use esdk_base::{Sink, Source};
+use esdk_base::{Entropy, Shelf, Sink, Source};
 use esdk_fields::Text;
 use std::alloc::Global;
 
 /// Carries out the command that the words name, and answers the exit status.
 ///
 /// `list` reads a header and its tag from the input and writes the header's listing on the output.
-/// Where a run fails, the report gets one line, and nothing more is read or written; a report that
-/// fails changes nothing. The status is 0 where all was done, 1 for a fault of the input, 2 for
-/// words that aren't a command that is built, 4 for a failure of the input or the output or an
-/// input that is too long, and 5 where memory ran out.
-pub fn run<S: Source, O: Sink, R: Sink>(
+/// `encrypt` writes the message of its whole input under the key of a keyring file, and `decrypt`
+/// writes what the judgement of its input releases, and the whole context on the report. Where a run
+/// fails, the report gets one line, and nothing more is read or written; a report that fails then
+/// changes nothing. The status is 0 where all was done, 1 for a fault of the input, 2 for words that
+/// aren't those of a command that is built or have a bad number, 3 for a keyring file that is refused,
+/// 4 for a failure of the input, the output, the report of a context, the shelf or the entropy or an
+/// input that is too long, 5 where memory ran out, 6 for a request that is refused, and 8 for a header
+/// that stores pairs, which `decrypt` can't read yet.
+pub fn run<S: Source, O: Sink, R: Sink, F: Shelf, W: Entropy>(
     alloc: Global,
     words: &[Text],
     input: &mut S,
     output: &mut O,
     report: &mut R,
+    shelf: &mut F,
+    entropy: &mut W,
 ) -> Status
     ensures status { is_status result.code ≡ true }
 
-    // 2: the words aren't the one word `list`, and nothing was read.
-    ensures built { result.code ≢ 2 → words.now ≡ list_words }
-    ensures not_built { result.code ≡ 2 → words.now ≢ list_words }
-    ensures not_built_input { result.code ≡ 2 → input.new ≡ input.old }
-    ensures not_built_line { result.code ≡ 2 → Gains not_built_line
-        (sink_state R.written R.faults report.old) (sink_state R.written R.faults report.new) }
+    // What the run comes to, by what its words ask for.
+    ensures runs { RunsAs (words_of words.now)
+        (objects S.left S.given S.faults O.written O.faults F.files F.faults input.old output.old shelf.old)
+        (objects S.left S.given S.faults O.written O.faults F.files F.faults input.new output.new shelf.new)
+        (entropy_state W.to_come W.faults entropy.old) (entropy_state W.to_come W.faults entropy.new)
+        ((input.new ≡ input.old) × (output.new ≡ output.old)) (output.new ≡ output.old) (entropy.new ≡ entropy.old)
+        result.code (sink_state R.written R.faults report.old) (sink_state R.written R.faults report.new) }
 
-    // 0: the input begins with a header and its tag, and its listing was written.
-    ensures done { result.code ≡ 0 → Lists (S.left input.old) (O.written output.old) (O.written output.new) }
-    ensures done_report { result.code ≡ 0 → report.new ≡ report.old }
+    // No input that begins with a header and its tag is refused by `list` for a fault, and no other is done.
+    ensures judged { words_of words.now ≡ Ok requests.List → OnTold (S.left input.old) (λ bytes. AgreesWith result.code (input_fault bytes)) }
 
-    // 1: the input has a fault, or ends before the header is whole.
-    ensures fault { result.code ≡ 1 → RefusesInput (source_state S.left S.given S.faults input.old)
-        (sink_state R.written R.faults report.old) (sink_state R.written R.faults report.new) }
+    // The shelf keeps its files, and is left alone by commands that read no file; so is the entropy by those that draw nothing.
+    ensures files { F.files shelf.new ≡ F.files shelf.old }
+    ensures shelf { reads_shelf (words_of words.now) ≡ false → shelf.new ≡ shelf.old }
+    ensures entropy { draws (words_of words.now) ≡ false → entropy.new ≡ entropy.old }
 
-    // No input that begins with a header and its tag is refused for a fault, and no other is done.
-    ensures judged { OnTold (S.left input.old) (λ bytes. AgreesWith result.code (input_fault bytes)) }
-
-    // 4: the input or the output failed, or 2^62 bytes were taken.
-    ensures outside { result.code ≡ 4 → FailsOutside
-        (source_state S.left S.given S.faults input.old) (source_state S.left S.given S.faults input.new)
-        (sink_state O.written O.faults output.old) (sink_state O.written O.faults output.new) (output.new ≡ output.old)
-        (sink_state R.written R.faults report.old) (sink_state R.written R.faults report.new) }
-
-    // 5: memory ran out.
-    ensures memory_line { result.code ≡ 5 → Gains memory_line
-        (sink_state R.written R.faults report.old) (sink_state R.written R.faults report.new) }
-
-    // At most 2^62 bytes are taken, and nothing is written but the listing.
+    // At most 2^62 bytes are taken.
     ensures taken { S.given input.new ≤ S.given input.old + 2 ^ 62 }
-    ensures output { result.code ≢ 0 → result.code ≢ 4 → output.new ≡ output.old }
+
+    // `encrypt`: the output gains the message of the input, and an input that fits into a message is done, unless memory runs out or an object fails.
+    ensures message { (asked : EncryptWords) → words_of words.now ≡ Ok (requests.Encrypt asked) → WritesTheMessage asked.keyring asked.frame
+        (objects S.left S.given S.faults O.written O.faults F.files F.faults input.old output.old shelf.old)
+        (objects S.left S.given S.faults O.written O.faults F.files F.faults input.new output.new shelf.new)
+        (entropy_state W.to_come W.faults entropy.old) result.code }
+    ensures fits { (asked : EncryptWords) → words_of words.now ≡ Ok (requests.Encrypt asked) → EncryptsWhatFits asked.keyring asked.frame
+        (objects S.left S.given S.faults O.written O.faults F.files F.faults input.old output.old shelf.old)
+        (objects S.left S.given S.faults O.written O.faults F.files F.faults input.new output.new shelf.new)
+        (entropy_state W.to_come W.faults entropy.old) (entropy_state W.to_come W.faults entropy.new) result.code
+        (sink_state R.written R.faults report.old) (sink_state R.written R.faults report.new) }
+
+    // `decrypt`: the judgement of all bytes of the input is said; a whole message is done, and a message that was written is given back, unless memory runs out or an object fails.
+    ensures judgement { (asked : DecryptWords) → words_of words.now ≡ Ok (requests.Decrypt asked) → SaysTheJudgement asked.keyring asked.max_unit
+        (objects S.left S.given S.faults O.written O.faults F.files F.faults input.old output.old shelf.old)
+        (objects S.left S.given S.faults O.written O.faults F.files F.faults input.new output.new shelf.new) result.code
+        (sink_state R.written R.faults report.old) (sink_state R.written R.faults report.new) }
+    ensures whole { (asked : DecryptWords) → words_of words.now ≡ Ok (requests.Decrypt asked) → DecryptsWholeMessages asked.keyring asked.max_unit
+        (objects S.left S.given S.faults O.written O.faults F.files F.faults input.old output.old shelf.old)
+        (objects S.left S.given S.faults O.written O.faults F.files F.faults input.new output.new shelf.new) result.code
+        (sink_state R.written R.faults report.old) (sink_state R.written R.faults report.new) }
+    ensures round_trip { (asked : DecryptWords) → words_of words.now ≡ Ok (requests.Decrypt asked) → ReadsBack asked.keyring asked.max_unit
+        (objects S.left S.given S.faults O.written O.faults F.files F.faults input.old output.old shelf.old)
+        (objects S.left S.given S.faults O.written O.faults F.files F.faults input.new output.new shelf.new) result.code
+        (sink_state R.written R.faults report.old) (sink_state R.written R.faults report.new) }
 {
-    let Some(Command::List) = command_of(words) else {
-        return report_failure(alloc, &Failure::NotBuilt, report);
-    };
-    match list(alloc, input, output) {
-        Ok(()) => Status::DONE,
-        Err(failure) => report_failure(alloc, &failure, report),
-    }
+    carry_out(alloc, words, input, output, report, shelf, entropy)
 }

@@ -1,29 +1,17 @@
-//! The words of the command line.
-ghost use Rattle.std.specs.Prelude.{◌≡◌, ◌↔◌, [], ◌∷◌, codes, IfNone, IsTrue, OnSome};
+//! Words that are refused.
+ghost use Rattle.std.specs.Prelude.{◌≡◌};
+ghost use Rattle.esdk_tool.specs.Run.{words_failure};
 
-use esdk_fields::Text;
+use crate::failure::Failure;
+use esdk_args::WordsFault;
 
-/// A command that is built.
-#[derive(Debug, Clone, Copy, PartialEq, Eq)]
-pub enum Command {
-    /// Prints what the header of a message says.
-    List,
-}
-
-/// The command that the words name. The program's own name isn't among them.
-pub fn command_of(words: &[Text]) -> Option<Command>
-    ensures built { OnSome result (words.now ≡ codes "list" ∷ []) }
-    ensures not_built { IfNone result (¬ (words.now ≡ codes "list" ∷ [])) }
+/// What refused words are called in the program.
+pub fn words_failure(fault: WordsFault) -> Failure
+    ensures { result ≡ words_failure fault }
 {
-    match words {
-        [word] if names_list(word) => Some(Command::List),
-        _ => None,
+    match fault {
+        WordsFault::NotBuilt => Failure::NotBuilt,
+        WordsFault::BadNumber(name) => Failure::BadNumber(name),
+        WordsFault::Memory => Failure::Memory,
     }
-}
-
-/// Whether the word is `list`.
-fn names_list(word: &Text) -> bool
-    ensures { IsTrue result ↔ (word.now ≡ codes "list") }
-{
-    word.as_str() == "list"
 }

@@ -1,5 +1,5 @@
 use Rattle.std.proofs.Common.{take}
-use Rattle.esdk_tool.specs.Streams.{source_state}
+use Rattle.esdk_base.specs.Streams.{source_state}
 use Rattle.esdk_tool.proofs.Feeding.{came_read, feed_cause}
 use Rattle.esdk_tool.proofs.header_input.advance.Goals as goal
 

@@ -1,5 +1,5 @@
 use Rattle.std.proofs.Common.{◌≤◌, ◌-◌, ◌^◌}
-use Rattle.esdk_tool.specs.Streams.{source_state}
+use Rattle.esdk_base.specs.Streams.{source_state}
 use Rattle.esdk_tool.proofs.Feeding.{Going}
 use Rattle.esdk_tool.proofs.header_input.fill.Given as goal
 
