@@ -27,6 +27,9 @@ less_other a b less same =
 pub greater_less : (a b : List ℕ) → key_cmp a b ≡ Greater → key_cmp b a ≡ Less
 greater_less a b greater = nat_list_cmp_total.antisymm b a ∙ ap ordering_reverse greater
 
+pub equal_same : (a b : List ℕ) → key_cmp a b ≡ Equal → a ≡ b
+equal_same a b equal = (bytes_decides a b).0 (sym (is_eq-slice_cmp a b) ∙ ap is_eq equal)
+
 -- ---- ascending lists, by their first pair
 
 -- the first of the pairs, if there is one, is above the key

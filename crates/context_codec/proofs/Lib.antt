@@ -12,3 +12,10 @@ pub mod Written
 pub mod OneContext
 pub mod Verdicts
 pub mod Sorting
+pub mod Members
+pub mod Parts
+pub mod Stored
+pub mod KeyPlaces
+pub mod KeySets
+pub mod JoinedPairs
+pub mod JoinFaults

@@ -1,6 +1,7 @@
 -- Looking a key up.
-use Rattle.std.proofs.Common.{◌≡◌, ◌≢◌, ◌↔◌, ℕ, ◌+◌, ◌<◌, Bool, true, false, cond, List, [], ◌∷◌, length, get_or, drop, Option, Some, None, refl, sym, subst, ◌∙◌}
+use Rattle.std.proofs.Common.{◌≡◌, ◌≢◌, ◌↔◌, ℕ, ◌+◌, ◌<◌, Bool, true, false, ◌||◌, cond, List, [], ◌∷◌, length, get_or, drop, Option, Some, None, refl, sym, ap, subst, ◌∙◌}
 use Rattle.std.specs.Prelude.{All, IsNone, option_map}
+use Rattle.std.specs.Option.{is_some}
 use Rattle.std.specs.Map.{lookup}
 use Rattle.std.specs.Str.{bytes_eq}
 use Rattle.std.specs.Cmp.Lexicographic.{bytes_decides}
@@ -9,6 +10,7 @@ use Rattle.std.proofs.lemmas.Bool.Decides.{not_from_Decides}
 use Rattle.std.proofs.lemmas.List.{at_drop_more}
 use Rattle.std.proofs.lemmas.List.Elements.{All-nil, All-cons, All-head, All-tail}
 use Rattle.context_codec.specs.Context.{KeyValue}
+use Rattle.context_codec.specs.Parts.{holds}
 
 -- the pair at this place has the key
 pub lookup_here : (key : List ℕ) (ps : List KeyValue) (i : ℕ) (p : KeyValue) → i < length ps → p ≡ get_or ps i p → bytes_eq key p.0 ≡ true → lookup (bytes_eq key) (drop i ps) ≡ Some p.1
@@ -42,3 +44,19 @@ absent_none key (p ∷ ps) h =
 pub absent_iff : {V : Type 0} (view : V → List ℕ) (key : List ℕ) (ps : List KeyValue) (found : Option V) → option_map view found ≡ lookup (bytes_eq key) ps → IsNone found ↔ All (λ p. key ≢ p.0) ps
 absent_iff view key ps None e = (λ _. none_absent key ps (sym e), λ _. refl)
 absent_iff view key ps (Some v) e = (λ h. absurd cc, λ h. absurd (let none = absent_none key ps h in cc))
+
+found_holds : (key : List ℕ) (ps : List KeyValue) → is_some (lookup (bytes_eq key) ps) ≡ holds ps key
+found_holds key [] = refl
+found_holds key (p ∷ ps) = by_test (bytes_eq key p.0) (found_holds key ps)
+  where
+    by_test : (b : Bool) → is_some (lookup (bytes_eq key) ps) ≡ holds ps key → is_some (cond b (Some p.1) (lookup (bytes_eq key) ps)) ≡ (b || holds ps key)
+    by_test true rest = refl
+    by_test false rest = rest
+
+is_some-map : {A B : Type 0} (f : A → B) (o : Option A) → is_some o ≡ is_some (option_map f o)
+is_some-map f None = refl
+is_some-map f (Some x) = refl
+
+-- There is a value exactly where the pairs hold the key.
+pub found_iff_holds : {V : Type 0} (view : V → List ℕ) (key : List ℕ) (ps : List KeyValue) (found : Option V) → option_map view found ≡ lookup (bytes_eq key) ps → is_some found ≡ holds ps key
+found_iff_holds view key ps found e = is_some-map view found ∙ ap is_some e ∙ found_holds key ps

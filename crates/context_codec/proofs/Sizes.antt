@@ -1,11 +1,11 @@
 -- How long the text of a context is.
-use Rattle.std.proofs.Common.{◌≡◌, ℕ, ◌+◌, ◌*◌, ◌<◌, ◌≤◌, cond, eqb, List, [], ◌∷◌, ◌++◌, length, refl, get_or, take, drop, false, ne_eqb, arith}
+use Rattle.std.proofs.Common.{◌≡◌, ℕ, ◌+◌, ◌*◌, ◌<◌, ◌≤◌, cond, eqb, List, [], ◌∷◌, ◌++◌, length, refl, ap, get_or, take, drop, false, ne_eqb, arith}
 use Rattle.std.specs.Prelude.{insert, sum_by}
 use Rattle.std.specs.List.{flat_map}
 use Rattle.std.specs.Int.{w16}
 use Rattle.std.proofs.lemmas.List.{length-append}
 use Rattle.std.proofs.lemmas.List.Concat.{length-flat_map}
-use Rattle.std.proofs.lemmas.List.Sums.{sum_by-insert, sum_by-cons, get_or-le-sum_by}
+use Rattle.std.proofs.lemmas.List.Sums.{sum_by-insert, sum_by-cons, sum_by_more_le, get_or-le-sum_by}
 use Rattle.esdk_fields.specs.Numbers.{to_big_endian}
 use Rattle.esdk_fields.specs.Sized.{sized}
 use Rattle.esdk_fields.proofs.Again.{length-to_big_endian16}
@@ -17,6 +17,8 @@ use Rattle.context_codec.specs.Insert.{grown}
 pub length-pair_text : (p : KeyValue) → length (pair_text p) ≡ 4 + length p.0 + length p.1
 unfolding pair_text
 length-pair_text p = omega (arith, length-append (sized p.0) (sized p.1), length-sized p.0, length-sized p.1)
+
+pub ruleset pair_sizes = (length-pair_text)
 
 -- what the pairs take
 abbrev pub pairs_len : List KeyValue → ℕ
@@ -39,6 +41,10 @@ pub ctx_text-some : (ps : List KeyValue) (n : ℕ) → length ps ≡ n + 1 → c
 ctx_text-some [] n e = absurd (omega (arith, e))
 ctx_text-some (p ∷ ps) n e = refl
 
+pub length-ctx_text-some : (ps : List KeyValue) → 1 ≤ length ps → length (ctx_text ps) ≡ 2 + pairs_len ps
+length-ctx_text-some [] some = absurd (omega arith)
+length-ctx_text-some (p ∷ ps) some = length-pairs_text (p ∷ ps)
+
 pub length-ctx_text-le : (ps : List KeyValue) → length (ctx_text ps) ≤ 2 + pairs_len ps
 length-ctx_text-le [] = omega arith
 length-ctx_text-le (p ∷ ps) = omega (arith, length-pairs_text (p ∷ ps))
@@ -59,6 +65,12 @@ some_len (q ∷ ps) p qs = length-pairs_text (q ∷ ps ++ p ∷ qs)
 pub length-inserted : (ps : List KeyValue) (i : ℕ) (p : KeyValue) → length (ctx_text (insert ps i p)) ≡ grown ps p
 length-inserted ps i p =
     omega (arith, some_len (take i ps) p (drop i ps), sum_by-insert (λ q. length (pair_text q)) ps i p, length-grown ps p)
+
+-- the count and some of the pairs, and one more pair, are within the text
+pub counted_more_le : (ps : List KeyValue) (i : ℕ) (p : KeyValue) → i < length ps → p ≡ get_or ps i p → 2 + pairs_len (take i ps) + length (pair_text p) ≤ length (ctx_text ps)
+counted_more_le ps i p lt at =
+    let here : length (pair_text p) ≡ length (pair_text (get_or ps i p)) = ap (λ (q : KeyValue). length (pair_text q)) at in
+    omega (arith, here, sum_by_more_le (λ q. length (pair_text q)) ps i p lt, length-ctx_text-some ps (omega arith))
 
 -- ---- what a short text holds
 

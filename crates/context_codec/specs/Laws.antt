@@ -1,9 +1,10 @@
 -- What the laws of this crate say of contexts and the bytes that spell them.
-use Rattle.std.specs.Prelude.{◌≡◌, ◌↔◌, ℕ, ◌≤◌, List, length, Some, None}
+use Rattle.std.specs.Prelude.{◌≡◌, ◌↔◌, ◌⊎◌, ℕ, ◌≤◌, List, length, Some, None, Contains}
 use Rattle.esdk_fields.specs.declared.faults.ContextFault.TheVariants.{Length, Utf8, Duplicate}
 use Rattle.esdk_fields.specs.Bytes.{AreBytes}
 use Rattle.context_codec.specs.Context.{KeyValue, ctx_text, IsContext}
 use Rattle.context_codec.specs.Split.{split, context_fault, SpellsContext}
+use Rattle.context_codec.specs.KeySet.{AreAscendingKeys, with_key}
 use Rattle.context_codec.specs.Spelling.{IsSpelling, AreTexts, AreDistinct, IsSpelledContext}
 
 -- bytes that a length field of two bytes can stand before
@@ -50,3 +51,11 @@ RefusesDuplicates = (bytes : List ℕ) → IsField bytes
 -- The text of a context spells it.
 abbrev pub ReadsBack : Type 0
 ReadsBack = (context : List KeyValue) → IsContext context → SpellsContext (ctx_text context) context
+
+-- A set with one more key holds that key and the others, and no more.
+abbrev pub HoldsOneMoreKey : Type 0
+HoldsOneMoreKey = (keys : List (List ℕ)) (key other : List ℕ) → Contains (with_key keys key) other ↔ ((other ≡ key) ⊎ Contains keys other)
+
+-- With one more key the keys of a set still ascend.
+abbrev pub AscendsWithOneMoreKey : Type 0
+AscendsWithOneMoreKey = (keys : List (List ℕ)) (key : List ℕ) → AreAscendingKeys keys → AreAscendingKeys (with_key keys key)

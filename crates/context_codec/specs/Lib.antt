@@ -1,4 +1,7 @@
 pub mod Context
+pub mod Parts
+pub mod Join
+pub mod KeySet
 pub mod Split
 pub mod Spelling
 pub mod Placing

@@ -4,7 +4,9 @@ ghost use Rattle.std.specs.Prelude.{◌≡◌, ◌≢◌, ◌↔◌, [], length,
 ghost use Rattle.std.specs.Map.{lookup};
 ghost use Rattle.std.specs.Str.{bytes_eq};
 ghost use Rattle.context_codec.specs.Context.{IsContext, ctx_text};
+ghost use Rattle.context_codec.specs.Parts.{holds};
 
+use crate::lengths::text_len;
 use crate::pair::Pair;
 use std::alloc::{AllocError, Global};
 use std::marker::Model;
@@ -39,12 +41,29 @@ impl Context {
         }
     }
 
+    /// The context of these pairs.
+    pub(crate) fn of(pairs: Vec<Pair>) -> Context
+        requires { IsContext pairs.items }
+        ensures { result ≡ pairs.items }
+    {
+        let text_len = text_len(&pairs);
+        Context { pairs, text_len }
+    }
+
     /// The value of the key. None exactly where no pair has that key.
     pub fn get(&self, key: &str) -> Option<&str>
         ensures value { option_map (λ v. v.now) result ≡ lookup (bytes_eq key.now) self.now }
         ensures absent { IsNone result ↔ All (λ p. key.now ≢ p.0) self.now }
     {
         value_of(&self.pairs, key)
+    }
+
+    /// Whether some pair has the key.
+    #[tactic(auto, using(crate::proofs::Lookups::found_iff_holds))]
+    pub fn contains_key(&self, key: &str) -> bool
+        ensures { result ≡ holds self.now key.now }
+    {
+        value_of(&self.pairs, key).is_some()
     }
 
     /// The pairs, in the order of their keys.
@@ -89,7 +108,7 @@ fn value_of<'a>(pairs: &'a [Pair], key: &str) -> Option<&'a str>
 }
 
 /// Equal pairs, in the same order.
-fn copied(alloc: Global, pairs: &[Pair]) -> Result<Vec<Pair>, AllocError>
+pub(crate) fn copied(alloc: Global, pairs: &[Pair]) -> Result<Vec<Pair>, AllocError>
     ensures { IfOk result (λ made. made.items ≡ pairs.now) }
 {
     let mut made = Vec::new(alloc);

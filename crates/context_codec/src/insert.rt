@@ -72,7 +72,7 @@ impl Context {
 }
 
 /// The longest text that a length field of two bytes can stand before.
-const MAX_TEXT: u128 = 65535;
+pub(crate) const MAX_TEXT: u128 = 65535;
 
 /// Where a pair with this key belongs. None where the key is there already.
 fn place_of(pairs: &[Pair], key: &str) -> Option<usize>

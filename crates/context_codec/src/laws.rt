@@ -1,6 +1,6 @@
-//! The laws of contexts and the bytes that spell them, each a function with an empty body whose contract is the law.
+//! The laws of contexts, of the bytes that spell them and of key sets, each a function with an empty body whose contract is the law.
 
-ghost use Rattle.context_codec.specs.Laws.{SplitsSpellings, ReadsSpelledContexts, SpellsSomeContext, SpellsOneContext, TakesTexts, RefusesOtherBytes, RefusesOtherTexts, RefusesDuplicates, ReadsBack};
+ghost use Rattle.context_codec.specs.Laws.{SplitsSpellings, ReadsSpelledContexts, SpellsSomeContext, SpellsOneContext, TakesTexts, RefusesOtherBytes, RefusesOtherTexts, RefusesDuplicates, ReadsBack, HoldsOneMoreKey, AscendsWithOneMoreKey};
 
 /// The reader splits bytes into pairs exactly where the bytes are the spelling of these pairs: the count and the pairs one after another.
 pub fn spellings_are_split()
@@ -45,4 +45,14 @@ pub fn duplicate_keys_are_refused()
 /// The text of a context spells it.
 pub fn written_contexts_are_read()
     ensures { ReadsBack }
+{}
+
+/// A key set with one more key holds that key and the others, and no more.
+pub fn one_more_key_is_held()
+    ensures { HoldsOneMoreKey }
+{}
+
+/// With one more key, at its place, the keys of a set still ascend.
+pub fn one_more_key_keeps_the_order()
+    ensures { AscendsWithOneMoreKey }
 {}

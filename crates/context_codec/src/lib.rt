@@ -1,24 +1,33 @@
-//! Encryption contexts: pairs of texts in the order of their keys, and the one text of each context in a message's header.
+//! Encryption contexts: pairs of texts in the order of their keys, and the one text of each context in a message's header. A set of keys picks out
+//! pairs of a context, and the pairs that a header stores are joined to those that a caller gives.
 //!
 //! The definitions stand in `specs/`: `Context` says what a context and its text are, `Split` how a text is read, `Spelling` the same without a
-//! reader. A law is a function with an empty body, whose contract is the law.
+//! reader, `KeySet` what a set of keys is, `Parts` and `Join` what is picked out and joined. A law is a function with an empty body, whose contract
+//! is the law.
 #![tactic(auto)]
 
 mod context;
 mod insert;
+mod joining;
+mod key_set;
 mod laws;
+mod lengths;
 mod pair;
 mod raw;
 mod read;
 mod split;
+mod subsets;
 mod text;
 
 pub use context::Context;
 pub use insert::PairError;
+pub use joining::{Joined, join};
+pub use key_set::KeySet;
 pub use laws::{
-    duplicate_keys_are_refused, one_context_is_spelled, other_bytes_are_refused,
-    other_texts_are_refused, spelled_contexts_are_read, spelled_texts_are_taken,
-    spellings_are_split, taken_bytes_spell_a_context, written_contexts_are_read,
+    duplicate_keys_are_refused, one_context_is_spelled, one_more_key_is_held,
+    one_more_key_keeps_the_order, other_bytes_are_refused, other_texts_are_refused,
+    spelled_contexts_are_read, spelled_texts_are_taken, spellings_are_split,
+    taken_bytes_spell_a_context, written_contexts_are_read,
 };
 pub use pair::Pair;
 pub use read::read_field;

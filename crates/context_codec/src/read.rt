@@ -62,7 +62,7 @@ fn texts_of(alloc: Global, raw: &[RawPair<'_>]) -> Result<Option<Vec<Pair>>, All
 }
 
 /// Sorts the pairs by their keys.
-fn sort(pairs: &mut Vec<Pair>) -> Result<(), AllocError>
+pub(crate) fn sort(pairs: &mut Vec<Pair>) -> Result<(), AllocError>
     ensures permutation { IsPermutation pairs.old.items pairs.new.items }
     ensures sorted { OnOk result (IsSortedByKeys pairs.new.items) }
 {

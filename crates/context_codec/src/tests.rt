@@ -32,6 +32,42 @@ fn key_refused(answer: Result<(), PairError>) -> Option<Text> {
     }
 }
 
+/// The context of one pair.
+fn one_pair(alloc: Global, key: &str, value: &str) -> Result<Context, AllocError> {
+    let mut context = Context::new(alloc);
+    match context.insert(alloc, key, value) {
+        Ok(()) => Ok(context),
+        _refused => Err(AllocError),
+    }
+}
+
+/// Whether the context has one pair, and which.
+fn is_pair(context: &Context, key: &str, value: &str) -> bool {
+    context.pairs().len() == 1 && context.get(key) == Some(value)
+}
+
+/// Whether the set has these two keys, in this order.
+fn are_keys(set: &KeySet, first: &str, second: &str) -> bool {
+    let keys = set.keys();
+    keys.len() == 2 && keys[0].as_str() == first && keys[1].as_str() == second
+}
+
+/// The key that two contexts aren't joined for, where that is refused with M12.
+fn mismatched_key(answer: Result<Joined, FieldError>) -> Option<Text> {
+    match answer {
+        Err(FieldError::Fault(Fault::ContextMismatch(key))) => Some(key),
+        _other => None,
+    }
+}
+
+/// The length that two contexts aren't joined for, where that is refused with M14.
+fn joined_length(answer: Result<Joined, FieldError>) -> Option<u32> {
+    match answer {
+        Err(FieldError::Fault(Fault::ContextTooLong(length))) => Some(length),
+        _other => None,
+    }
+}
+
 #[test]
 fn one_pair_has_its_text(rt: HostRuntime) -> Result<(), Fail> {
     let mut context = Context::new(rt.alloc());
@@ -119,5 +155,81 @@ fn three_pairs_take_53_bytes(rt: HostRuntime) -> Result<(), Fail> {
     assert_eq!(rt; copied.bytes(), text.bytes());
     let again = context.pairs()[1].copy()?;
     assert_eq!(rt; again.key(), "file");
+    Ok(())
+}
+
+#[test]
+fn keys_stand_in_order_and_once(rt: HostRuntime) -> Result<(), Fail> {
+    let mut keys = KeySet::new(rt.alloc());
+    keys.insert(rt.alloc(), "owner")?;
+    keys.insert(rt.alloc(), "file")?;
+    keys.insert(rt.alloc(), "owner")?;
+    assert!(rt; are_keys(&keys, "file", "owner"));
+    assert!(rt; keys.contains("owner") && !keys.contains("own"));
+    Ok(())
+}
+
+#[test]
+fn a_union_has_the_keys_of_both(rt: HostRuntime) -> Result<(), Fail> {
+    let mut owner = KeySet::new(rt.alloc());
+    owner.insert(rt.alloc(), "owner")?;
+    let mut file = KeySet::new(rt.alloc());
+    file.insert(rt.alloc(), "file")?;
+    let both = owner.union(rt.alloc(), &file)?.copy(rt.alloc())?;
+    assert!(rt; are_keys(&both, "file", "owner"));
+    Ok(())
+}
+
+#[test]
+fn named_pairs_are_left_out_or_kept(rt: HostRuntime) -> Result<(), Fail> {
+    let mut keys = KeySet::new(rt.alloc());
+    keys.insert(rt.alloc(), "t")?;
+    let mut context = one_pair(rt.alloc(), "a", "1")?;
+    assert!(rt; context.insert(rt.alloc(), "t", "x").is_ok());
+    assert!(rt; is_pair(&context.without(rt.alloc(), &keys)?, "a", "1"));
+    assert!(rt; is_pair(&context.only(rt.alloc(), &keys)?, "t", "x"));
+    Ok(())
+}
+
+#[test]
+fn given_pairs_are_joined_to_the_stored(rt: HostRuntime) -> Result<(), Fail> {
+    let stored = one_pair(rt.alloc(), "a", "b")?;
+    let given = one_pair(rt.alloc(), "t", "x")?;
+    let joined = join(rt.alloc(), &stored, &given)
+        .ok()
+        .ok_or("the keys differ")?;
+    assert!(rt; joined.whole.get("a") == Some("b") && joined.whole.get("t") == Some("x"));
+    assert!(rt; joined.whole.length() == 14 && is_pair(&joined.only, "t", "x"));
+    Ok(())
+}
+
+#[test]
+fn a_key_with_two_values_is_refused(rt: HostRuntime) -> Result<(), Fail> {
+    let stored = one_pair(rt.alloc(), "a", "b")?;
+    let given = one_pair(rt.alloc(), "a", "c")?;
+    let key = mismatched_key(join(rt.alloc(), &stored, &given)).ok_or("not M12")?;
+    assert!(rt; key.as_str() == "a");
+    Ok(())
+}
+
+#[test]
+fn the_least_key_with_two_values_is_named(rt: HostRuntime) -> Result<(), Fail> {
+    let mut stored = one_pair(rt.alloc(), "t", "x")?;
+    assert!(rt; stored.insert(rt.alloc(), "a", "b").is_ok());
+    let mut given = one_pair(rt.alloc(), "t", "y")?;
+    assert!(rt; given.insert(rt.alloc(), "a", "c").is_ok());
+    let key = mismatched_key(join(rt.alloc(), &stored, &given)).ok_or("not M12")?;
+    assert!(rt; key.as_str() == "a");
+    Ok(())
+}
+
+#[test]
+fn a_whole_of_70012_bytes_is_refused(rt: HostRuntime) -> Result<(), Fail> {
+    let long = "x".repeat(rt.alloc(), 60_000)?;
+    let stored = one_pair(rt.alloc(), "s", long.as_str())?;
+    let short = "x".repeat(rt.alloc(), 10_000)?;
+    let given = one_pair(rt.alloc(), "g", short.as_str())?;
+    assert!(rt; stored.length() == 60_007);
+    assert!(rt; joined_length(join(rt.alloc(), &stored, &given)) == Some(70_012));
     Ok(())
 }

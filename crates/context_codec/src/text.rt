@@ -2,7 +2,7 @@
 
 ghost use Rattle.std.specs.Prelude.{◌≡◌, ◌++◌, OnOk, IfOk};
 ghost use Rattle.std.specs.List.{flat_map};
-ghost use Rattle.context_codec.specs.Context.{ctx_text, pair_text};
+ghost use Rattle.context_codec.specs.Context.{ctx_text, pair_text, IsContext};
 ghost use Rattle.context_codec.specs.Fitting.{IsSized, AreSized};
 
 use crate::context::Context;
@@ -15,7 +15,8 @@ impl Context {
     /// keys, key length in two bytes, key, value length in two bytes, value. Fails only where memory runs out.
     #[tactic(auto, unfolding(crate::specs::Context::pairs_text))]
     pub fn text(&self, alloc: Global) -> Result<Blob, AllocError>
-        ensures { IfOk result (λ text. text ≡ ctx_text self.now) }
+        ensures text { IfOk result (λ text. text ≡ ctx_text self.now) }
+        ensures context { IsContext self.now }
     {
         let mut out = Blob::new(alloc);
         if self.pairs.is_empty() {

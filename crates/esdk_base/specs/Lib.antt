@@ -1,5 +1,4 @@
 pub mod CallPlan
-pub mod Counts
 pub mod Entropy
 pub mod FileShelf
 pub mod ListEntropy

@@ -1,6 +1,6 @@
 -- A source in memory.
 use Rattle.std.specs.Prelude.{ℕ, List, length, drop, min, if◌then◌else◌}
-use Rattle.esdk_base.specs.Counts.{counted}
+use Rattle.esdk_fields.specs.Counts.{counted}
 use Rattle.esdk_base.specs.CallPlan.{Plan, fails_next, after_call}
 
 -- The bytes left, the most that one read gives, how many bytes were given, and which reads are to fail.

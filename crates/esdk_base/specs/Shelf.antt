@@ -6,7 +6,7 @@ use Rattle.std.specs.Option.{option_and_then, option_map, option_map_or}
 use Rattle.std.specs.Cmp.Lexicographic.{slice_cmp}
 use Rattle.std.specs.Ordering.{nat_cmp}
 use Rattle.std.specs.FinMap.{FinMap, get, insert}
-use Rattle.esdk_base.specs.Counts.{Rose}
+use Rattle.esdk_fields.specs.Counts.{Rose}
 
 -- Files: a finite map from the names, as bytes of text, to the bytes that they hold.
 abbrev pub Files : Type 0

@@ -2,7 +2,7 @@
 
 ghost use Rattle.std.specs.Prelude.{ℕ, List};
 ghost use Rattle.std.specs.declared.option.Option.{Option};
-ghost use Rattle.esdk_base.specs.Counts.{HasCause};
+ghost use Rattle.esdk_fields.specs.Counts.{HasCause};
 ghost use Rattle.esdk_base.specs.Entropy.{FillConsumes};
 
 use crate::Failed;

@@ -2,7 +2,7 @@
 
 ghost use Rattle.std.specs.Prelude.{◌≡◌, ◌≤◌, None};
 ghost use Rattle.std.specs.Io.{ReadsAtMost};
-ghost use Rattle.esdk_base.specs.Counts.{Rose};
+ghost use Rattle.esdk_fields.specs.Counts.{Rose};
 
 use crate::{Failed, Shelf};
 use std::fs::{File, OpenOptions};

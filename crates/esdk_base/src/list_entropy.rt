@@ -1,7 +1,7 @@
 //! An entropy over a list of bytes.
 
 ghost use Rattle.std.specs.Prelude.{◌≡◌, ◌≤◌, Some, is_err, length};
-ghost use Rattle.esdk_base.specs.Counts.{HasCause};
+ghost use Rattle.esdk_fields.specs.Counts.{HasCause};
 ghost use Rattle.esdk_base.specs.Entropy.{FillConsumes};
 ghost use Rattle.esdk_base.specs.ListEntropy.{after_fill, fill_fails};
 

@@ -5,7 +5,7 @@ ghost use Rattle.std.specs.FinMap.{empty, get};
 ghost use Rattle.std.specs.Io.{ReadsAtMost};
 ghost use Rattle.std.specs.Option.{option_map};
 ghost use Rattle.esdk_base.specs.CallPlan.{fails_next};
-ghost use Rattle.esdk_base.specs.Counts.{HasCause};
+ghost use Rattle.esdk_fields.specs.Counts.{HasCause};
 ghost use Rattle.esdk_base.specs.MemShelf.{after_append, after_create, after_read, append_faults, create_fails, is_absent, placed, read_count};
 ghost use Rattle.esdk_base.specs.MemFiles.{with_room};
 ghost use Rattle.esdk_base.specs.Shelf.{AppendsTo, Creates, EndsAt, HasCauseOrMissing, ReadsFrom, is_missing};

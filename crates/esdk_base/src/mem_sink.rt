@@ -1,7 +1,7 @@
 //! A sink in memory.
 
 ghost use Rattle.std.specs.Prelude.{◌≡◌, [], IfOk, Some, is_err};
-ghost use Rattle.esdk_base.specs.Counts.{HasCause};
+ghost use Rattle.esdk_fields.specs.Counts.{HasCause};
 ghost use Rattle.esdk_base.specs.MemSink.{after_put, put_fails};
 ghost use Rattle.esdk_base.specs.Sink.{PutAppends};
 

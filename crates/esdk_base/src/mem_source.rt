@@ -4,7 +4,7 @@ ghost use Rattle.std.specs.Prelude.{◌≡◌, ◌≤◌, IfOk, Some, is_err, le
 ghost use Rattle.std.specs.Io.{ReadsAtMost};
 ghost use Rattle.std.specs.Io.KnownBytes.{ReadConsumes};
 ghost use Rattle.esdk_base.specs.CallPlan.{fails_next};
-ghost use Rattle.esdk_base.specs.Counts.{CountsGiven, HasCause};
+ghost use Rattle.esdk_fields.specs.Counts.{CountsGiven, HasCause};
 ghost use Rattle.esdk_base.specs.MemSource.{after_read, read_count};
 
 use crate::call_plan::CallPlan;

@@ -1,7 +1,7 @@
 //! A seeded generator as an entropy.
 
 ghost use Rattle.std.specs.Prelude.{◌≡◌, None, is_err, is_none};
-ghost use Rattle.esdk_base.specs.Counts.{HasCause};
+ghost use Rattle.esdk_fields.specs.Counts.{HasCause};
 ghost use Rattle.esdk_base.specs.Entropy.{FillConsumes};
 ghost use Rattle.esdk_base.specs.RngEntropy.{Draws};
 

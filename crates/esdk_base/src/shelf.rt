@@ -3,7 +3,7 @@
 ghost use Rattle.std.specs.Prelude.{◌≡◌, ℕ};
 ghost use Rattle.std.specs.Io.{ReadsAtMost};
 ghost use Rattle.std.specs.declared.option.Option.{Option};
-ghost use Rattle.esdk_base.specs.Counts.{HasCause};
+ghost use Rattle.esdk_fields.specs.Counts.{HasCause};
 ghost use Rattle.esdk_base.specs.Shelf.{Files, AppendsTo, Creates, EndsAt, HasCauseOrMissing, ReadsFrom, is_missing};
 
 use crate::Failed;

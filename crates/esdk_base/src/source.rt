@@ -4,7 +4,7 @@ ghost use Rattle.std.specs.Prelude.{ℕ, List};
 ghost use Rattle.std.specs.Io.{ReadsAtMost};
 ghost use Rattle.std.specs.Io.KnownBytes.{ReadConsumes};
 ghost use Rattle.std.specs.declared.option.Option.{Option};
-ghost use Rattle.esdk_base.specs.Counts.{CountsGiven, HasCause};
+ghost use Rattle.esdk_fields.specs.Counts.{CountsGiven, HasCause};
 
 /// A call of an outside object failed. The object's count of faults has risen, but for a shelf that has no file of the name.
 #[derive(Debug, Clone, Copy, PartialEq, Eq)]

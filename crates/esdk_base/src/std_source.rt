@@ -3,7 +3,7 @@
 ghost use Rattle.std.specs.Prelude.{◌≡◌, None};
 ghost use Rattle.std.specs.Io.{ReadsAtMost};
 ghost use Rattle.std.specs.Io.KnownBytes.{ReadConsumes};
-ghost use Rattle.esdk_base.specs.Counts.{CountsGiven, HasCause};
+ghost use Rattle.esdk_fields.specs.Counts.{CountsGiven, HasCause};
 
 use crate::{Failed, Source};
 use std::io::Read;

@@ -9,3 +9,4 @@ pub mod Sequential
 pub mod Report
 pub mod Laws
 pub mod Lending
+pub mod Counts

@@ -1,6 +1,6 @@
 -- What is taken of a file.
 use Rattle.std.specs.Prelude.{◌≡◌, ◌⊎◌, ℕ, ◌<◌, ◌≤◌, List, ◌++◌, length, [], drop, Bool, true, false, ⊤, Option, Result, Ok, Err}
-use Rattle.esdk_base.specs.Counts.{Rose}
+use Rattle.esdk_fields.specs.Counts.{Rose}
 use Rattle.esdk_base.specs.Shelf.{Files, Holds, is_missing}
 use Rattle.esdk_base.specs.Streams.{ShelfState}
 use Rattle.whole_input.specs.declared.file.FileError.{FileError}

@@ -1,7 +1,7 @@
 -- What is taken of an input.
 use Rattle.std.specs.Prelude.{◌≡◌, ℕ, ◌+◌, ◌^◌, ◌<◌, ◌≤◌, List, [], ◌++◌, length, Option, Some, None, Result, Ok, Err}
 use Rattle.std.specs.Io.KnownBytes.{Consumes, IsAtEnd}
-use Rattle.esdk_base.specs.Counts.{Rose, RoseBy}
+use Rattle.esdk_fields.specs.Counts.{Rose, RoseBy}
 use Rattle.esdk_base.specs.Streams.{SourceState}
 use Rattle.whole_input.specs.declared.taken.End.{End}
 use Rattle.whole_input.specs.declared.taken.End.TheVariants.{Seen, Failed, TooLong}
