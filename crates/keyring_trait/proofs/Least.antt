@@ -11,11 +11,13 @@ use Rattle.std.proofs.lemmas.Cmp.{nat_list_cmp_total}
 use Rattle.esdk_fields.specs.declared.faults.Fault.TheVariants.{ContextMismatch, MissingRequired}
 use Rattle.context_codec.specs.Context.{KeyValue, IsAscending}
 use Rattle.context_codec.proofs.Keys.{key_cmp, less_other, Ascends, ascends_from}
-use Rattle.keyring_trait.specs.Parts.{holds}
-use Rattle.keyring_trait.specs.Unlocking.{differs, clashes, missing_required, mismatch}
-use Rattle.keyring_trait.specs.Laws.{IsLeastKey, IsMissing, AreAscendingKeys, HasTwoValues}
-use Rattle.keyring_trait.proofs.Members.{Contains-head, Contains-tail, Contains-cases, Contains-nil}
-use Rattle.keyring_trait.proofs.Parts.{same_pair, found_pair}
+use Rattle.context_codec.specs.Parts.{holds}
+use Rattle.context_codec.specs.Join.{differs, clashes, mismatch}
+use Rattle.context_codec.specs.KeySet.{AreAscendingKeys}
+use Rattle.keyring_trait.specs.Unlocking.{missing_required}
+use Rattle.keyring_trait.specs.Laws.{IsLeastKey, IsMissing, HasTwoValues}
+use Rattle.context_codec.proofs.Members.{Contains-head, Contains-tail, Contains-cases, Contains-nil}
+use Rattle.context_codec.proofs.Parts.{same_pair, found_pair}
 
 -- ---- lists that ascend by a key
 
@@ -159,7 +161,7 @@ lookup_pair ps key value up listed = by_value (lookup (bytes_eq key) ps) refl
         ap (λ (p : KeyValue). Some p.1) pair
 
 -- a pair clashes exactly where its key has two values
-clash_values : (given : List KeyValue) (p : KeyValue) → clashes given p ≡ true → (other : List ℕ) × Contains given (p.0, other) × (p.1 ≢ other)
+pub clash_values : (given : List KeyValue) (p : KeyValue) → clashes given p ≡ true → (other : List ℕ) × Contains given (p.0, other) × (p.1 ≢ other)
 clash_values given p e = by_value (lookup (bytes_eq p.0) given) refl e
   where
     by_value : (o : Option (List ℕ)) → o ≡ lookup (bytes_eq p.0) given → differs o p.1 ≡ true → (other : List ℕ) × Contains given (p.0, other) × (p.1 ≢ other)

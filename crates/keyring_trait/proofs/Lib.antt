@@ -1,7 +1,7 @@
-pub mod Members
+pub mod Firsts
 pub mod Wrapping
-pub mod Parts
 pub mod Unlocking
-pub mod Stored
 pub mod Made
 pub mod Least
+pub mod Holding
+pub mod Back

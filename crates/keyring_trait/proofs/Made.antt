@@ -5,9 +5,9 @@ use Rattle.std.proofs.lemmas.List.Elements.{All-head, All-tail}
 use Rattle.context_codec.specs.Context.{KeyValue}
 use Rattle.edk_codec.specs.Entry.{Entry, IsEntry}
 use Rattle.edk_codec.proofs.Infos.{length-raw_info}
-use Rattle.keyring_trait.specs.Wrapping.{WrapKeyValue, wrap, active, made}
-use Rattle.keyring_trait.specs.Laws.{IsWrapOf, HasWrap, AreApart, AreWrapped, AreIvs}
-use Rattle.keyring_trait.proofs.Members.{Contains-head, Contains-tail, Contains-cases, Contains-nil}
+use Rattle.keyring_trait.specs.Wrapping.{WrapKeyValue, wrap, active, made, AreIvs}
+use Rattle.keyring_trait.specs.Laws.{IsWrapOf, HasWrap, AreApart, AreWrapped}
+use Rattle.context_codec.proofs.Members.{Contains-head, Contains-tail, Contains-cases, Contains-nil}
 use Rattle.keyring_trait.proofs.Wrapping.{wrap-provider, wrap-info, length-wrap-cipher}
 
 moved : (w : WrapKeyValue) (ws : List WrapKeyValue) (c : List KeyValue) (key : List ℕ) (e : Entry) → IsWrapOf ws c key e → IsWrapOf (w ∷ ws) c key e

@@ -12,13 +12,14 @@ use Rattle.context_codec.proofs.OneContext.{same_ascending}
 use Rattle.edk_codec.specs.Entry.{Entry}
 use Rattle.esdk_fields.specs.declared.faults.Fault.{Fault}
 use Rattle.esdk_fields.specs.declared.faults.Fault.TheVariants.{ContextMismatch, MissingRequired}
-use Rattle.keyring_trait.specs.Parts.{holds, is_among, stored_of, only_of, joined, only_given, whole_of}
-use Rattle.keyring_trait.specs.Wrapping.{WrapKeyValue, first_some, unwrapped}
-use Rattle.keyring_trait.specs.Unlocking.{Unlocking, Unlocks, reserved_key, differs, clashes, missing_required, reserved_stored, mismatch, too_long, offences, opens_with, unless, unlock}
-use Rattle.keyring_trait.specs.Laws.{AreWrapped, IsEnough, AreGiven, IsOpened, IsUnlocked}
-use Rattle.keyring_trait.proofs.Members.{Contains-filter, Contains-filter_back, none_found}
+use Rattle.context_codec.specs.Parts.{holds, is_among, stored_of, only_of, joined, only_given, whole_of}
+use Rattle.keyring_trait.specs.Wrapping.{WrapKeyValue, first_some, unwrapped, IsOpened}
+use Rattle.context_codec.specs.Join.{differs, clashes, mismatch, too_long}
+use Rattle.keyring_trait.specs.Unlocking.{Unlocking, Unlocks, reserved_key, missing_required, reserved_stored, offences, opens_with, unless, unlock}
+use Rattle.keyring_trait.specs.Laws.{AreWrapped, IsEnough, AreGiven, IsUnlocked}
+use Rattle.context_codec.proofs.Members.{Contains-filter, Contains-filter_back, none_found}
 use Rattle.keyring_trait.proofs.Wrapping.{unwrapped_key, unwraps_only_wraps}
-use Rattle.keyring_trait.proofs.Parts.{Ascends-filter, joined_parts, holds_own, holds_pair, same_pair, found_pair}
+use Rattle.context_codec.proofs.Parts.{Ascends-filter, joined_parts, holds_own, holds_pair, same_pair, found_pair}
 
 -- ---- what is given
 

@@ -12,9 +12,9 @@ use Rattle.context_codec.specs.Context.{KeyValue, ctx_text}
 use Rattle.edk_codec.specs.Entry.{Entry}
 use Rattle.edk_codec.specs.RawInfo.{raw_info}
 use Rattle.edk_codec.proofs.Infos.{lengths, raw_info_parts, length-raw_info, name_of_raw_info}
-use Rattle.keyring_trait.specs.Wrapping.{WrapKeyValue, wrap, iv_in, is_entry_of, unwrap, first_some, unwrapped}
-use Rattle.keyring_trait.specs.Laws.{IsWrap, IsWrapOf, AreApart, AreWrapped, IsOpened}
-use Rattle.keyring_trait.proofs.Members.{IsOrNone, first_some-or, first_some-is, first_some-found, first_some-none, none_first_some}
+use Rattle.keyring_trait.specs.Wrapping.{WrapKeyValue, wrap, iv_in, is_entry_of, unwrap, first_some, unwrapped, IsWrap, IsOpened}
+use Rattle.keyring_trait.specs.Laws.{IsWrapOf, AreApart, AreWrapped}
+use Rattle.keyring_trait.proofs.Firsts.{IsOrNone, first_some-or, first_some-is, first_some-found, first_some-none, none_first_some}
 
 -- ---- what is sealed
 

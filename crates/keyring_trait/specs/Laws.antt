@@ -1,25 +1,21 @@
 -- What the laws of this crate say of wrapping, unwrapping and unlocking.
-use Rattle.std.specs.Prelude.{◌≡◌, ◌≢◌, ◌↔◌, ℕ, true, false, List, length, Some, None, All, Contains}
-use Rattle.std.specs.List.{AllAdjacentBelow}
+use Rattle.std.specs.Prelude.{◌≡◌, ◌≢◌, ◌↔◌, ◌≤◌, ℕ, ◌*◌, true, false, List, length, Option, Some, None, Contains}
 use Rattle.std.specs.Ordering.{nat_cmp}
 use Rattle.std.specs.declared.cmp.Ordering.TheVariants.{Less}
 use Rattle.std.specs.Cmp.Lexicographic.{slice_cmp}
+use Rattle.esdk_fields.specs.Counts.{Stayed}
 use Rattle.esdk_fields.specs.declared.faults.Fault.TheVariants.{ContextMismatch, MissingRequired}
 use Rattle.context_codec.specs.Context.{KeyValue, IsAscending, IsContext}
+use Rattle.context_codec.specs.Join.{mismatch}
+use Rattle.context_codec.specs.KeySet.{AreAscendingKeys}
 use Rattle.context_codec.specs.Split.{SpellsContext}
 use Rattle.edk_codec.specs.Entry.{Entry}
-use Rattle.keyring_trait.specs.Parts.{holds, is_among, stored_of, only_of, only_given, whole_of, stored_in}
-use Rattle.keyring_trait.specs.Wrapping.{WrapKeyValue, wrap, unwrap, unwrapped, active, made}
-use Rattle.keyring_trait.specs.Unlocking.{Unlocks, reserved_key, missing_required, mismatch, unlock}
+use Rattle.context_codec.specs.Parts.{holds, is_among, stored_of, only_of, only_given, whole_of, stored_in}
+use Rattle.keyring_trait.specs.Keyring.{KeyringMeaning, WrappedValue, Opens, Wraps, wanted}
+use Rattle.keyring_trait.specs.Wrapping.{WrapKeyValue, wrap, unwrap, unwrapped, active, made, ivs_of, IsWrap, IsOpened, AreIvs}
+use Rattle.keyring_trait.specs.Unlocking.{Unlocks, reserved_key, missing_required, unlock}
 
 -- ---- wrapping
-
--- The entry is a wrap of the data key over the context, under this key.
-pub record IsWrap (w : WrapKeyValue) (c : List KeyValue) (key : List ℕ) (e : Entry) : Type 0 where
-  pub iv : List ℕ
-  pub iv_long : length iv ≡ 12
-  pub key_long : length key ≡ 32
-  pub is : e ≡ wrap w c iv key
 
 -- An entry is unwrapped to a data key exactly where it is a wrap of that data key, by the same key and over the same context.
 abbrev pub UnwrapsWraps : Type 0
@@ -67,14 +63,6 @@ abbrev pub UnwrapsTheKey : Type 0
 UnwrapsTheKey = (writers readers : List WrapKeyValue) (c : List KeyValue) (key : List ℕ) (entries : List Entry)
     → AreWrapped writers readers c key entries → unwrapped readers entries c ≡ Some key
 
--- The wrapping key is one of these, the entry one of those, and the entry is a wrap of the data key over the context under the wrapping key.
-pub record IsOpened (keys : List WrapKeyValue) (entries : List Entry) (c : List KeyValue) (key : List ℕ) : Type 0 where
-  pub under : WrapKeyValue
-  pub entry : Entry
-  pub key_listed : Contains keys under
-  pub entry_listed : Contains entries entry
-  pub wrap : IsWrap under c key entry
-
 -- A data key that is unwrapped was wrapped.
 abbrev pub UnwrapsOnlyWraps : Type 0
 UnwrapsOnlyWraps = (keys : List WrapKeyValue) (entries : List Entry) (c : List KeyValue) (key : List ℕ) → unwrapped keys entries c ≡ Some key → IsOpened keys entries c key
@@ -84,16 +72,33 @@ abbrev pub UnwrapsNone : Type 0
 UnwrapsNone = (keys : List WrapKeyValue) (entries : List Entry) (c : List KeyValue)
     → (unwrapped keys entries c ≡ None) ↔ ((w : WrapKeyValue) → Contains keys w → (e : Entry) → Contains entries e → unwrap w c e ≡ None)
 
--- IVs for the keys that wrap, each of 12 bytes
-pub record AreIvs (writers : List WrapKeyValue) (ivs : List (List ℕ)) : Type 0 where
-  pub enough : length ivs ≡ length (active writers)
-  pub long : All (λ iv. length iv ≡ 12) ivs
-
 -- What the keys that wrap make of a data key is wrapped, one entry for each of them.
 abbrev pub WrapsWhatIsMade : Type 0
 WrapsWhatIsMade = (writers readers : List WrapKeyValue) (c : List KeyValue) (key : List ℕ) (ivs : List (List ℕ)) (shared : WrapKeyValue)
     → AreIvs writers ivs → length key ≡ 32 → AreApart (active writers) readers → Contains (active writers) shared → Contains readers shared
     → AreWrapped (active writers) readers c key (made writers c key ivs) × (length (made writers c key ivs) ≡ length (active writers))
+
+-- As many groups of 12 bytes as there are keys that wrap are their IVs.
+abbrev pub DrawsIvs : Type 0
+DrawsIvs = (keys : List WrapKeyValue) (n : ℕ) (bytes : List ℕ) → length (active keys) ≡ n → length bytes ≡ 12 * n → AreIvs keys (ivs_of n bytes)
+
+-- ---- a keyring
+
+-- A keyring tells these keys, one of which wraps, and no two of which share namespace and name. It was handed this data key over a context, with so many random bytes as it
+-- wants, and made this of it.
+pub record HasWrapped (ring : KeyringMeaning) (keys : List WrapKeyValue) (c : List KeyValue) (random key : List ℕ) (wrapped : WrappedValue) : Type 0 where
+  pub told : ring.keys ≡ Some keys
+  pub apart : AreApart keys keys
+  pub some : 1 ≤ ring.wraps
+  pub count : length (active keys) ≡ ring.wraps
+  pub drawn : length random ≡ wanted true ring.wraps
+  pub long : length key ≡ 32
+  pub wraps : Wraps ring c random (Some key) wrapped
+
+-- What it finds among these entries, whatever was asked of it between and as long as it doesn't fail, is that data key.
+abbrev pub WrappedKeysComeBack : Type 0
+WrappedKeysComeBack = (ring old new : KeyringMeaning) (keys : List WrapKeyValue) (c : List KeyValue) (random key : List ℕ) (wrapped : WrappedValue) (found : Option (List ℕ))
+    → HasWrapped ring keys c random key wrapped → old.keys ≡ ring.keys → Stayed old.faults new.faults → Opens old new c wrapped.entries found → found ≡ Some key
 
 -- ---- unlocking
 
@@ -135,10 +140,6 @@ pub record IsLeastKey (Fits : List ℕ → Type 0) (key : List ℕ) : Type 0 whe
 pub record IsMissing (given : List KeyValue) (required : List (List ℕ)) (key : List ℕ) : Type 0 where
   pub listed : Contains required key
   pub absent : holds given key ≡ false
-
--- the keys ascend, so that none stands twice
-abbrev pub AreAscendingKeys : List (List ℕ) → Type 0
-AreAscendingKeys keys = AllAdjacentBelow (λ a b. slice_cmp nat_cmp a b ≡ Less) keys (length keys)
 
 -- M13 names the least required key that is not given.
 abbrev pub NamesTheLeastMissing : Type 0

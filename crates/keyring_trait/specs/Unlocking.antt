@@ -1,13 +1,12 @@
 -- What a reader makes of a header's stored pairs and entries, of the pairs that the caller gives, of the keys that it requires, and of its wrapping keys.
 -- AWS Encryption SDK Specification, "Default CMM" and "Required Encryption Context CMM", Decrypt Materials.
-use Rattle.std.specs.Prelude.{ℕ, Bool, false, not, List, [], ◌∷◌, length, Option, Some, None, option_map, find, nat_lt, if◌then◌else◌, codes}
-use Rattle.std.specs.Map.{lookup}
-use Rattle.std.specs.Str.{bytes_eq}
+use Rattle.std.specs.Prelude.{ℕ, Bool, not, List, [], ◌∷◌, Option, Some, None, option_map, find, if◌then◌else◌, codes}
 use Rattle.esdk_fields.specs.declared.faults.Fault.{Fault}
-use Rattle.esdk_fields.specs.declared.faults.Fault.TheVariants.{ReservedKey, ContextMismatch, MissingRequired, ContextTooLong, NoKeyOpens}
-use Rattle.context_codec.specs.Context.{KeyValue, ctx_text}
+use Rattle.esdk_fields.specs.declared.faults.Fault.TheVariants.{ReservedKey, MissingRequired, NoKeyOpens}
+use Rattle.context_codec.specs.Context.{KeyValue}
+use Rattle.context_codec.specs.Join.{mismatch, too_long}
 use Rattle.edk_codec.specs.Entry.{Entry}
-use Rattle.keyring_trait.specs.Parts.{holds, only_given, whole_of}
+use Rattle.context_codec.specs.Parts.{holds, only_given, whole_of}
 use Rattle.keyring_trait.specs.Wrapping.{WrapKeyValue, first_some, unwrapped}
 
 -- A reader's answer: a fault, or the whole context, its pairs that are only authenticated, and the data key.
@@ -18,15 +17,6 @@ pub data Unlocking : Type 0 where
 -- the key that the format keeps for itself
 abbrev pub reserved_key : List ℕ
 reserved_key = codes "aws-crypto-public-key"
-
--- the value is there, and is another
-abbrev pub differs : Option (List ℕ) → List ℕ → Bool
-differs None value = false
-differs (Some other) value = not (bytes_eq other value)
-
--- the pair's key is given, with another value
-abbrev pub clashes : List KeyValue → KeyValue → Bool
-clashes given p = differs (lookup (bytes_eq p.0) given) p.1
 
 abbrev pub when : Bool → Fault → Option Fault
 when b fault = if b then Some fault else None
@@ -39,18 +29,14 @@ missing_required given required = option_map MissingRequired (find (λ key. not 
 abbrev pub reserved_stored : List KeyValue → Option Fault
 reserved_stored stored = when (holds stored reserved_key) ReservedKey
 
--- M12: the first key that is stored and given with different values
-abbrev pub mismatch : List KeyValue → List KeyValue → Option Fault
-mismatch stored given = option_map (λ p. ContextMismatch p.0) (find (clashes given) stored)
-
--- M14: the text of the whole context is longer than a field of two bytes can say
-abbrev pub too_long : List KeyValue → Option Fault
-too_long whole = when (nat_lt 65535 (length (ctx_text whole))) (ContextTooLong (length (ctx_text whole)))
-
 -- What is wrong with the pairs, in this order. The keys that are required and the stored pairs ascend, so that the first such key is the least.
 unfoldable pub offences : List KeyValue → List KeyValue → List (List ℕ) → List (Option Fault)
 offences stored given required =
     missing_required given required ∷ reserved_stored stored ∷ mismatch stored given ∷ too_long (whole_of stored given) ∷ []
+
+-- the first of them
+abbrev pub pair_offence : List KeyValue → List KeyValue → List (List ℕ) → Option Fault
+pair_offence stored given required = first_some (λ o. o) (offences stored given required)
 
 -- M15: no key opens an entry
 abbrev pub opens_with : List KeyValue → List KeyValue → Option (List ℕ) → Unlocking
@@ -64,5 +50,5 @@ unless (Some fault) answer = Refuses fault
 -- The first offence of the pairs; else what opens an entry under the whole context.
 unfoldable pub unlock : (stored : List KeyValue) (entries : List Entry) (given : List KeyValue) (required : List (List ℕ)) (keys : List WrapKeyValue) → Unlocking
 unlock stored entries given required keys =
-    unless (first_some (λ o. o) (offences stored given required))
+    unless (pair_offence stored given required)
     (opens_with (whole_of stored given) (only_given stored given) (unwrapped keys entries (whole_of stored given)))

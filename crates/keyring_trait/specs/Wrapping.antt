@@ -1,6 +1,6 @@
 -- Wrapping a data key under a raw AES key, and unwrapping it.
 -- AWS Encryption SDK Specification, "Raw AES Keyring", OnEncrypt and OnDecrypt; the cipher is AES-256 in GCM (NIST SP 800-38D).
-use Rattle.std.specs.Prelude.{ℕ, ◌+◌, Bool, ◌&&◌, ◌==◌, List, [], ◌∷◌, ◌++◌, length, take, drop, Option, None, if◌then◌else◌}
+use Rattle.std.specs.Prelude.{◌≡◌, ℕ, zero, suc, ◌+◌, Bool, ◌&&◌, ◌==◌, List, [], ◌∷◌, ◌++◌, length, take, drop, All, Contains, Option, None, if◌then◌else◌}
 use Rattle.std.specs.Option.{option_or}
 use Rattle.std.specs.Str.{bytes_eq}
 use Rattle.cipher_spec.specs.Gcm.{sealed, opened}
@@ -56,3 +56,28 @@ made_under (w ∷ ws) c key (iv ∷ ivs) = wrap w c iv key ∷ made_under ws c k
 -- the wraps of a data key by the keys that wrap
 abbrev pub made : List WrapKeyValue → List KeyValue → List ℕ → List (List ℕ) → List Entry
 made keys c key ivs = made_under (active keys) c key ivs
+
+-- so many IVs of 12 bytes, as they stand one behind another
+abbrev pub ivs_of : ℕ → List ℕ → List (List ℕ)
+ivs_of zero bytes = []
+ivs_of (suc n) bytes = take 12 bytes ∷ ivs_of n (drop 12 bytes)
+
+-- IVs for the keys that wrap, each of 12 bytes
+pub record AreIvs (writers : List WrapKeyValue) (ivs : List (List ℕ)) : Type 0 where
+  pub enough : length ivs ≡ length (active writers)
+  pub long : All (λ iv. length iv ≡ 12) ivs
+
+-- The entry is a wrap of the data key over the context, under this key.
+pub record IsWrap (w : WrapKeyValue) (c : List KeyValue) (key : List ℕ) (e : Entry) : Type 0 where
+  pub iv : List ℕ
+  pub iv_long : length iv ≡ 12
+  pub key_long : length key ≡ 32
+  pub is : e ≡ wrap w c iv key
+
+-- The wrapping key is one of these, the entry one of those, and the entry is a wrap of the data key over the context under the wrapping key.
+pub record IsOpened (keys : List WrapKeyValue) (entries : List Entry) (c : List KeyValue) (key : List ℕ) : Type 0 where
+  pub under : WrapKeyValue
+  pub entry : Entry
+  pub key_listed : Contains keys under
+  pub entry_listed : Contains entries entry
+  pub wrap : IsWrap under c key entry

@@ -1,6 +1,6 @@
 //! Laws about wrapping and unlocking. A law is a function that does nothing: its contract is what is proved.
 
-ghost use Rattle.keyring_trait.specs.Laws.{UnwrapsWraps, PassesOtherNamespaces, PassesOtherNames, UnwrapsTheKey, UnwrapsOnlyWraps, UnwrapsNone, WrapsWhatIsMade, UnlocksWhatWasStored, UnlocksOnlyWraps, NamesTheLeastMissing, NamesTheLeastMismatch, StoresTheSpelled};
+ghost use Rattle.keyring_trait.specs.Laws.{DrawsIvs, WrappedKeysComeBack, UnwrapsWraps, PassesOtherNamespaces, PassesOtherNames, UnwrapsTheKey, UnwrapsOnlyWraps, UnwrapsNone, WrapsWhatIsMade, UnlocksWhatWasStored, UnlocksOnlyWraps, NamesTheLeastMissing, NamesTheLeastMismatch, StoresTheSpelled};
 
 /// An entry is unwrapped to a data key exactly where it is a wrap of that data key, by the same key and over the same context.
 pub fn wraps_are_unwrapped()
@@ -35,6 +35,16 @@ pub fn none_is_unwrapped()
 /// What a list of keys makes of a data key are wraps of it, one for each of these keys.
 pub fn what_is_made_is_wrapped()
     ensures { WrapsWhatIsMade }
+{}
+
+/// The random bytes that a keyring is given for its wraps are IVs, one for each key that wraps.
+pub fn drawn_bytes_are_ivs()
+    ensures { DrawsIvs }
+{}
+
+/// A data key that was handed to a keyring to wrap is the one that the keyring finds again, where it tells its keys and doesn't fail.
+pub fn wrapped_keys_come_back()
+    ensures { WrappedKeysComeBack }
 {}
 
 /// What a writer stored is unlocked by a reader who has one of its keys and gives the pairs that it required: with the whole context, the

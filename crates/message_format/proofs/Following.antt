@@ -13,7 +13,7 @@ use Rattle.header_codec.specs.Table.{Head, header}
 use Rattle.header_codec.proofs.Order.{IsSequential-header}
 use Rattle.header_codec.proofs.Whole.{size_within}
 use Rattle.suite_table.specs.Keys.{derived}
-use Rattle.keyring_trait.specs.Parts.{stored_in}
+use Rattle.context_codec.specs.Parts.{stored_in}
 use Rattle.keyring_trait.specs.Unlocking.{Unlocking, Refuses, Unlocks}
 use Rattle.body_format.specs.declared.verdicts.Verdict.{Verdict}
 use Rattle.body_format.specs.declared.verdicts.Verdict.TheVariants.{Going, Whole, Faulty}

@@ -10,7 +10,7 @@ use Rattle.header_codec.specs.declared.settings.Settings.{Settings}
 use Rattle.header_codec.specs.Header.{HeaderValue}
 use Rattle.header_codec.specs.Table.{header}
 use Rattle.header_codec.proofs.Order.{IsSequential-header}
-use Rattle.keyring_trait.specs.Parts.{holds, only_of}
+use Rattle.context_codec.specs.Parts.{holds, only_of}
 use Rattle.keyring_trait.specs.Wrapping.{WrapKeyValue}
 use Rattle.keyring_trait.specs.Unlocking.{Unlocking, Unlocks, reserved_key}
 use Rattle.keyring_trait.specs.Laws.{AreWrapped, IsEnough, AreGiven}

@@ -23,9 +23,9 @@ use Rattle.header_codec.proofs.Contents.{limit_within}
 use Rattle.header_codec.proofs.WrittenHeaders.{written_is_read}
 use Rattle.suite_table.specs.Keys.{derived, commitment}
 use Rattle.suite_table.proofs.KeyLemmas.{length-commitment}
-use Rattle.keyring_trait.specs.Parts.{stored_of, only_of, stored_in}
-use Rattle.keyring_trait.proofs.Parts.{IsContext-stored_of}
-use Rattle.keyring_trait.proofs.Stored.{stored_is}
+use Rattle.context_codec.specs.Parts.{stored_of, only_of, stored_in}
+use Rattle.context_codec.proofs.Parts.{IsContext-stored_of}
+use Rattle.context_codec.proofs.Stored.{stored_is}
 use Rattle.body_format.specs.Written.{framed_body}
 use Rattle.message_format.specs.Message.{header_tag, header_body, under, message, IsWritable}
 use Rattle.message_format.specs.Judgement.{lock_fault, header_of}

@@ -18,7 +18,7 @@ use Rattle.header_codec.specs.Header.{HeaderValue}
 use Rattle.header_codec.specs.Table.{Head, header, BeginsWith}
 use Rattle.header_codec.proofs.Order.{IsSequential-header}
 use Rattle.suite_table.specs.Keys.{derived}
-use Rattle.keyring_trait.specs.Parts.{only_of, stored_in}
+use Rattle.context_codec.specs.Parts.{only_of, stored_in}
 use Rattle.keyring_trait.specs.Unlocking.{Unlocks}
 use Rattle.body_format.specs.declared.verdicts.Verdict.TheVariants.{Going, Whole}
 use Rattle.body_format.specs.Rows.{JudgedBody}

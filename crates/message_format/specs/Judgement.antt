@@ -12,7 +12,7 @@ use Rattle.header_codec.specs.declared.settings.Settings.{Settings}
 use Rattle.header_codec.specs.Header.{HeaderValue}
 use Rattle.header_codec.specs.Table.{Head, header, made_of}
 use Rattle.suite_table.specs.Keys.{derived, commitment}
-use Rattle.keyring_trait.specs.Parts.{stored_in}
+use Rattle.context_codec.specs.Parts.{stored_in}
 use Rattle.keyring_trait.specs.Unlocking.{Unlocking, Refuses, Unlocks}
 use Rattle.body_format.specs.declared.verdicts.Verdict.{Verdict}
 use Rattle.body_format.specs.declared.verdicts.Verdict.TheVariants.{Going, Faulty}

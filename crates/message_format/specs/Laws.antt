@@ -8,7 +8,7 @@ use Rattle.edk_codec.specs.Entry.{Entry}
 use Rattle.header_codec.specs.declared.settings.Settings.{Settings}
 use Rattle.header_codec.specs.Table.{Head, header_fault, head}
 use Rattle.suite_table.specs.Keys.{derived, commitment}
-use Rattle.keyring_trait.specs.Parts.{holds, only_of}
+use Rattle.context_codec.specs.Parts.{holds, only_of}
 use Rattle.keyring_trait.specs.Wrapping.{WrapKeyValue}
 use Rattle.keyring_trait.specs.Unlocking.{Unlocking, Refuses, Unlocks, reserved_key}
 use Rattle.keyring_trait.specs.Laws.{AreWrapped, IsEnough, AreGiven}

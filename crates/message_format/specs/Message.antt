@@ -7,7 +7,7 @@ use Rattle.edk_codec.specs.Entry.{Entry, IsEntry}
 use Rattle.header_codec.specs.Header.{latest_end}
 use Rattle.header_codec.specs.Written.{written_header, keys_end}
 use Rattle.suite_table.specs.Keys.{derived, commitment}
-use Rattle.keyring_trait.specs.Parts.{holds, stored_of, only_of}
+use Rattle.context_codec.specs.Parts.{holds, stored_of, only_of}
 use Rattle.frame_codec.specs.Unit.{Under}
 use Rattle.body_format.specs.Written.{framed_body}
 

@@ -1,4 +1,4 @@
-use Rattle.keyring_trait.proofs.Stored.{stored_is}
+use Rattle.context_codec.proofs.Stored.{stored_is}
 use Rattle.keyring_trait.proofs.laws.stored_pairs_are_spelled.Goals as goal
 
 pub returns : goal.returns

@@ -1,0 +1,81 @@
+//! Cryptographic materials managers: what gives the materials to encrypt or to decrypt a message with.
+
+ghost use Rattle.std.specs.Prelude.{◌≡◌, ◌≤◌, ◌+◌, ◌*◌, true, None, List, [], length, IfOk, IfErr};
+ghost use Rattle.esdk_fields.specs.Counts.{Stayed};
+ghost use Rattle.keyring_trait.specs.declared.journal.JournalLine.{JournalLine};
+ghost use Rattle.keyring_trait.specs.declared.journal.Kind.TheVariants.{Seal, Unseal};
+ghost use Rattle.keyring_trait.specs.Wrapping.{WrapKeyValue, active};
+ghost use Rattle.keyring_trait.specs.Manager.{ManagerMeaning, ManagerGoes, GivesMaterials, GivesNone, FindsMaterials, FindsNone, TellsOn, BearsOn, enc_served, dec_served};
+
+use crate::manager_errors::ManagerError;
+use crate::materials::{DecMaterials, EncMaterials};
+use crate::requests::{DecRequest, EncRequest};
+use crate::ring_refusals::RingRefusal;
+use std::alloc::Global;
+
+/// What gives the materials to encrypt or to decrypt a message with.
+/// AWS Encryption SDK Specification, "Cryptographic Materials Manager Interface".
+pub trait Manager: Drop {
+    /// What the manager means to its callers. Every call keeps all of it but the count of faults.
+    ghost meaning: { Self → ManagerMeaning };
+
+    /// The manager tells that these are its wrapping keys, in order. Every call keeps what is told.
+    ghost tells: { Self → List WrapKeyValue → Type 0 };
+
+    /// The manager is exact: it refuses exactly where the definitions say so, in their order, and requires its own demands and no more. Every call keeps that.
+    ghost exact: { Self → Type 0 };
+
+    /// The manager bears these lines of what it served: with a cache, they are within the cache's limits.
+    ghost bears: { Self → List JournalLine → Type 0 };
+
+    /// How many entries the materials to encrypt with have, at most 64. Every manager bears the empty list.
+    fn wraps(&self) -> u32
+        ensures value { result ≡ (meaning self.now).wraps }
+        ensures bound { result ≤ 64 }
+        ensures told { (keys : List WrapKeyValue) → tells self.now keys → length (active keys) ≡ (meaning self.now).wraps }
+        ensures bears { bears self.now [] }
+        ensures plain { (meaning self.now).plain ≡ true → (meaning self.now).fresh ≡ true }
+        ensures steady { (meaning self.now).steady ≡ true → Stayed (meaning self.now).faults (meaning self.now).faults };
+
+    /// What the keyrings refuse, where no data key is there yet.
+    fn refuses(&self) -> Option<RingRefusal>
+        ensures { result ≡ (meaning self.now).refuses };
+
+    /// Materials to encrypt with, at the moment `now` in seconds. The random bytes are 32 and 12 for each wrap.
+    ///
+    /// `Refusal` with Q1 or Q4 only where the key that it names has the reserved prefix and is in the context, or isn't in the context; with Q5 or Q6 only where
+    /// `refuses` says so; with no other. An exact manager answers Q4 with the least of its demands that isn't in the context, else Q1 with the least reserved key,
+    /// else Q5 or Q6, exactly there. `KeyringFault` only where the count of faults rose; never `Fault`.
+    fn for_encryption(
+        &mut self,
+        alloc: Global,
+        request: &EncRequest,
+        now: u64,
+        random: &[u8],
+    ) -> Result<EncMaterials, ManagerError>
+        requires { length random.now ≡ 32 + 12 * (meaning self.old).wraps }
+        ensures goes { ManagerGoes (meaning self.old) (meaning self.new) }
+        ensures tells { TellsOn (tells self.old) (tells self.new) }
+        ensures exact { exact self.old → exact self.new }
+        ensures gives { IfOk result (GivesMaterials (meaning self.old) (tells self.old) (exact self.old) request.now random.now) }
+        ensures cause { IfErr result (GivesNone (meaning self.old) (meaning self.new) (exact self.old) request.now) }
+        ensures bears { BearsOn (bears self.old) (bears self.new) Seal now request.now.declared enc_served result };
+
+    /// Materials to decrypt with, at the moment `now` in seconds.
+    ///
+    /// `Fault` with M11, M12 or M14 only where they stand in the pairs, with M13 only where the key that it names isn't given, with M15 only where no told key opens
+    /// an entry; with no other. An exact manager answers M13 with the least of its demands that isn't given, else M11, M12 or M14, exactly there. `KeyringFault` only
+    /// where the count of faults rose; never `Refusal`.
+    fn for_decryption(
+        &mut self,
+        alloc: Global,
+        request: &DecRequest,
+        now: u64,
+    ) -> Result<DecMaterials, ManagerError>
+        ensures goes { ManagerGoes (meaning self.old) (meaning self.new) }
+        ensures tells { TellsOn (tells self.old) (tells self.new) }
+        ensures exact { exact self.old → exact self.new }
+        ensures finds { IfOk result (FindsMaterials (meaning self.old) (meaning self.new) (tells self.old) (exact self.old) request.now) }
+        ensures cause { IfErr result (FindsNone (meaning self.old) (meaning self.new) (tells self.old) (exact self.old) request.now) }
+        ensures bears { BearsOn (bears self.old) (bears self.new) Unseal now None dec_served result };
+}

@@ -1,0 +1,39 @@
+//! Why a materials manager hands out no materials.
+
+use esdk_fields::{Fault, Refusal};
+use std::alloc::{AllocError, AllocFailed};
+
+/// Why a materials manager hands out no materials.
+#[derive(Drop)]
+pub enum ManagerError {
+    /// A header has this fault: one of its pairs, or that no key opens an entry.
+    Fault(Fault),
+    /// A request to encrypt is refused.
+    Refusal(Refusal),
+    /// A keyring failed, and counted that.
+    KeyringFault,
+    /// Memory ran out.
+    Memory,
+}
+
+impl From<AllocError> for ManagerError {
+    ghost use Rattle.std.specs.Prelude.{◌≡◌};
+    ghost use Rattle.keyring_trait.specs.declared.manager_errors.ManagerError.TheVariants.{Memory};
+
+    ghost from_gives = { λ _ e. e ≡ Memory };
+
+    fn from(_: AllocError) -> ManagerError {
+        ManagerError::Memory
+    }
+}
+
+impl<T: Drop> From<AllocFailed<T>> for ManagerError {
+    ghost use Rattle.std.specs.Prelude.{◌≡◌};
+    ghost use Rattle.keyring_trait.specs.declared.manager_errors.ManagerError.TheVariants.{Memory};
+
+    ghost from_gives = { λ _ e. e ≡ Memory };
+
+    fn from(_: AllocFailed<T>) -> ManagerError {
+        ManagerError::Memory
+    }
+}
