@@ -1,3 +1,4 @@
 pub mod RawKey
 pub mod Made
 pub mod Finding
+pub mod Keyring

@@ -2,6 +2,7 @@
 //! AWS Encryption SDK Specification, "Raw AES Keyring".
 #![tactic(auto)]
 
+mod keyring;
 mod raw_aes;
 mod unwrapping;
 mod wrapping;

@@ -1,6 +1,6 @@
 //! The keyring, and why none is made.
 
-ghost use Rattle.std.specs.Prelude.{◌≤◌, length};
+ghost use Rattle.std.specs.Prelude.{◌≡◌, ◌≤◌, length, IfOk};
 ghost use Rattle.raw_aes_keyring.specs.Made.{MakesKeyring};
 
 use esdk_fields::Text;
@@ -76,6 +76,15 @@ impl RawAes {
                 name,
                 key,
             },
+        })
+    }
+
+    /// An equal keyring. Fails only where memory runs out.
+    pub fn copy(&self) -> Result<RawAes, AllocError>
+        ensures { IfOk result (λ made. made ≡ self.now) }
+    {
+        Ok(RawAes {
+            key: self.key.copy()?,
         })
     }
 }

@@ -1,9 +1,12 @@
 //! Wraps that an independent implementation over OpenSSL made, and entries that are passed over.
 
+ghost use Rattle.std.specs.Prelude.{◌≡◌, length, is_some, IfOk};
+ghost use Rattle.keyring_trait.specs.Keyring.{wanted};
+
 use super::*;
 use context_codec::Context;
 use edk_codec::DataKeyEntry;
-use keyring_trait::DataKey;
+use keyring_trait::{DataKey, Keyring, Wrapped};
 use std::alloc::{AllocError, Global};
 use std::test::Fail;
 
@@ -145,6 +148,40 @@ fn unwrapped_of_tenant(alloc: Global, given: &Context) -> Result<Option<[u8; 32]
     Ok(unwrapped_over(alloc, &known_keyring(alloc)?, given, &entries)?)
 }
 
+/// What a keyring makes of a data key that is handed over or drawn.
+fn wrapped_by<K: Keyring>(
+    alloc: Global,
+    keyring: &mut K,
+    random: &[u8],
+    key: Option<&DataKey>,
+) -> Result<Wrapped, Fail>
+    requires { length random.now ≡ wanted (is_some key) (K.meaning keyring.old).wraps }
+    ensures { IfOk result (λ wrapped. length wrapped.entries ≡ (K.meaning keyring.old).wraps) }
+{
+    match keyring.on_encrypt(alloc, &Context::new(alloc), random, key) {
+        Ok(wrapped) => Ok(wrapped),
+        Err(_) => Err(Fail::from("nothing is wrapped")),
+    }
+}
+
+/// The bytes of the data key that a keyring finds in these entries.
+fn found_by<K: Keyring>(
+    alloc: Global,
+    keyring: &mut K,
+    entries: &[DataKeyEntry],
+) -> Result<Option<[u8; 32]>, Fail> {
+    match keyring.on_decrypt(alloc, &Context::new(alloc), entries) {
+        Ok(Some(key)) => Ok(Some(*key.bytes())),
+        Ok(None) => Ok(None),
+        Err(_) => Err(Fail::from("it is not known what opens")),
+    }
+}
+
+/// A keyring makes one entry, and refuses nothing.
+fn takes_all<K: Keyring>(keyring: &K) -> bool {
+    keyring.wraps() == 1 && keyring.refuses(true).is_none() && keyring.refuses(false).is_none()
+}
+
 /// An entry has these parts.
 fn has_parts(entry: &DataKeyEntry, provider: &[u8], info: &[u8], cipher: &[u8]) -> bool {
     entry.provider() == provider && entry.info() == info && entry.cipher() == cipher
@@ -248,5 +285,33 @@ fn the_namespace_of_aws_kms_is_reserved(rt: HostRuntime) -> Result<(), Fail> {
 #[test]
 fn other_namespaces_and_names_are_free(rt: HostRuntime) -> Result<(), Fail> {
     assert!(rt; RawAes::new(rt.alloc(), "aws-kms-2", "aws-kms", DATA_KEY).is_ok());
+    Ok(())
+}
+
+#[test]
+fn a_drawn_key_is_wrapped_through_the_bound(rt: HostRuntime) -> Result<(), Fail> {
+    let mut keyring = known_keyring(rt.alloc())?;
+    let wrapped = wrapped_by(rt.alloc(), &mut keyring, &[0x22; 44], None)?;
+    assert!(rt; has_parts(&wrapped.entries()[0], b"ns", &known_info(), &known_cipher()));
+    assert!(rt; found_by(rt.alloc(), &mut keyring, wrapped.entries())? == Some(DATA_KEY));
+    Ok(())
+}
+
+#[test]
+fn a_handed_key_comes_back_through_the_bound(rt: HostRuntime) -> Result<(), Fail> {
+    let mut keyring = known_keyring(rt.alloc())?;
+    let key = DataKey::new([0x33; 32]);
+    let wrapped = wrapped_by(rt.alloc(), &mut keyring, &[0x22; 12], Some(&key))?;
+    assert!(rt; wrapped.entries()[0].info() == known_info().as_slice());
+    assert!(rt; found_by(rt.alloc(), &mut keyring, wrapped.entries())? == Some([0x33; 32]));
+    Ok(())
+}
+
+#[test]
+fn a_copy_takes_all_and_opens_the_same(rt: HostRuntime) -> Result<(), Fail> {
+    let mut copy = known_keyring(rt.alloc())?.copy()?;
+    let entries = [known_entry(rt.alloc())?];
+    assert!(rt; takes_all(&copy));
+    assert!(rt; found_by(rt.alloc(), &mut copy, &entries)? == Some(DATA_KEY));
     Ok(())
 }

@@ -1,0 +1,28 @@
+-- What a keyring of one wrapping key answers.
+use Rattle.std.proofs.Common.{◌≡◌, ℕ, List, [], ◌∷◌, length, take, Option, Some, None, sym, ap, ◌∙◌, arith}
+use Rattle.std.proofs.lemmas.List.{take_all}
+use Rattle.esdk_fields.specs.Counts.{Stayed}
+use Rattle.context_codec.specs.Context.{KeyValue}
+use Rattle.edk_codec.specs.Entry.{Entry}
+use Rattle.keyring_trait.specs.Wrapping.{WrapKeyValue, wrap, unwrapped}
+use Rattle.keyring_trait.specs.Keyring.{WrappedValue, key_in, ivs_in, Wraps, OpensWith, Opens}
+use Rattle.keyring_trait.proofs.Wrapping.{unwraps_only_wraps}
+use Rattle.raw_aes_keyring.specs.Keyring.{raw_meaning}
+
+-- what the keys unwrap is what opens with them, whether or not something failed
+opens_unwrapped : (keys : List WrapKeyValue) (entries : List Entry) (c : List KeyValue) (stayed : Type 0) (found : Option (List ℕ)) → found ≡ unwrapped keys entries c → OpensWith keys entries c stayed found
+opens_unwrapped keys entries c stayed (Some key) is = record { opened = unwraps_only_wraps keys entries c key (sym is); none = λ e. absurd cc; first = λ _. is }
+opens_unwrapped keys entries c stayed None is = record { opened = tt; none = λ _. sym is; first = λ _. is }
+
+-- what the one key unwraps is what opens
+pub opens_one : (w : WrapKeyValue) (c : List KeyValue) (entries : List Entry) (found : Option (List ℕ)) → found ≡ unwrapped (w ∷ []) entries c → Opens (raw_meaning w) (raw_meaning w) c entries found
+opens_one w c entries found is = opens_unwrapped (w ∷ []) entries c (Stayed 0 0) found is
+
+-- one wrap is what a keyring of one key makes
+pub wraps_one : (w : WrapKeyValue) (c : List KeyValue) (random : List ℕ) (handed : Option (List ℕ)) (wrapped : WrappedValue) (iv : List ℕ) → wrapped.key ≡ key_in handed random → iv ≡ ivs_in handed random → length iv ≡ 12
+    → wrapped.entries ≡ wrap w c iv wrapped.key ∷ [] → Wraps (raw_meaning w) c random handed wrapped
+wraps_one w c random handed wrapped iv key iv_is twelve entries = record {
+  key = key;
+  count = ap length entries;
+  told = entries ∙ ap (λ (i : List ℕ). wrap w c i wrapped.key ∷ []) (sym (take_all 12 iv (omega (arith, twelve))) ∙ ap (take 12) iv_is);
+}

@@ -1,0 +1,75 @@
+//! One wrapping key as a keyring. AWS Encryption SDK Specification, "Keyring Interface" and "Raw AES Keyring".
+
+ghost use Rattle.std.specs.Prelude.{◌≡◌, length, is_some};
+ghost use Rattle.std.specs.Option.{option_copied};
+ghost use Rattle.keyring_trait.specs.Keyring.{wanted, key_in, ivs_in};
+ghost use Rattle.raw_aes_keyring.specs.Keyring.{raw_meaning};
+
+use crate::raw_aes::RawAes;
+use context_codec::Context;
+use edk_codec::DataKeyEntry;
+use keyring_trait::{DataKey, Keyring, RingError, RingRefusal, Wrapped};
+use std::alloc::Global;
+
+/// The keyring of one wrapping key makes one entry, refuses nothing, and fails only where memory runs out.
+impl Keyring for RawAes {
+    ghost meaning = { raw_meaning };
+
+    fn wraps(&self) -> u32 {
+        1
+    }
+
+    fn refuses(&self, _has_key: bool) -> Option<RingRefusal> {
+        None
+    }
+
+    #[tactic(auto, using(crate::proofs::OneKey::wraps_one))]
+    fn on_encrypt(
+        &mut self,
+        alloc: Global,
+        context: &Context,
+        random: &[u8],
+        key: Option<&DataKey>,
+    ) -> Result<Wrapped, RingError> {
+        let (key, iv) = key_and_iv(random, key);
+        let entry = self.wrap(alloc, context, &iv, &key)?;
+        let mut entries = Vec::new(alloc);
+        entries.push(entry)?;
+        Ok(Wrapped::new(key, entries))
+    }
+
+    #[tactic(auto, using(crate::proofs::OneKey::opens_one))]
+    fn on_decrypt(
+        &mut self,
+        alloc: Global,
+        context: &Context,
+        entries: &[DataKeyEntry],
+    ) -> Result<Option<DataKey>, RingError> {
+        Ok(self.unwrap(alloc, context, entries)?)
+    }
+}
+
+/// The data key that is wrapped, which is the one handed over or the first 32 random bytes, and the IV, which is the 12 bytes that are left.
+fn key_and_iv(random: &[u8], key: Option<&DataKey>) -> (DataKey, [u8; 12])
+    requires { length random.now ≡ wanted (is_some key) 1 }
+    ensures key { result.0 ≡ key_in (option_copied key.entry) random.now }
+    ensures iv { result.1 ≡ ivs_in (option_copied key.entry) random.now }
+{
+    match key {
+        Some(key) => (*key, array_of(random)),
+        None => {
+            let (drawn, iv) = random.split_at(32);
+            (DataKey::new(array_of(drawn)), array_of(iv))
+        }
+    }
+}
+
+/// The bytes as an array of their number.
+fn array_of<const N: usize>(bytes: &[u8]) -> [u8; N]
+    requires { length bytes.now ≡ N }
+    ensures { result ≡ bytes.now }
+{
+    let mut array = [0; N];
+    array.copy_from_slice(bytes);
+    array
+}
