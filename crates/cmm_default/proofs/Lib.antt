@@ -1,0 +1,5 @@
+mod Passing
+pub mod Refusals
+pub mod Drawn
+pub mod Faults
+pub mod Found

@@ -1,0 +1,9 @@
+-- The keyring drew the data key, and the materials are the request's.
+use Rattle.std.proofs.Common.{rules}
+use Rattle.cmm_default.proofs.Drawn.{gives_drawn}
+use Rattle.cmm_default.proofs.default_cmm.DefaultCmmManager.for_encryption.Goals as goal
+
+pub returns-clause-gives : goal.returns-clause-gives
+returns-clause-gives g c =
+    gives_drawn (g.K.Keyring.meaning c.args.self.now) (Unit {0}) c.args.request.now c.args.random.now c.in_ok-wrapped.wrapped c.in_ok-enc_materials.field-0
+    (search rules) (search rules) (search rules) (search rules) (search rules)

@@ -1,0 +1,2 @@
+pub mod DefaultCmm
+pub mod Steps

@@ -1,0 +1,16 @@
+-- What the inner manager answers, where all keys are there; else Q4.
+use Rattle.std.proofs.Common.{rules}
+use Rattle.cmm_required.proofs.Encrypting.{refuses_absent, gives_required, gives_none_required}
+use Rattle.cmm_required.proofs.required_cmm.RequiredCmmManager.for_encryption.Goals as goal
+
+pub returns-in-Ok-clause-gives : goal.returns-in-Ok-clause-gives
+returns-in-Ok-clause-gives g c = rw (← c.self.view_is) (gives_required _ _ _ _ _ _ _ _ c.in-Ok.ensures.request c.in-Ok.ensures.taken c.for_encryption.ensures.gives)
+
+pub returns-in-Ok-clause-cause : goal.returns-in-Ok-clause-cause
+returns-in-Ok-clause-cause g c =
+    rw (← c.self.view_is)
+    (gives_none_required _ (g.M.Manager.meaning c.self.inside.inner) (g.M.Manager.meaning c.for_encryption.new.self) _ _ _ _ c.in-Ok.ensures.request c.in-Ok.ensures.taken
+    c.for_encryption.ensures.cause)
+
+pub returns-in-Err-Refusal-clause-cause : goal.returns-in-Err-Refusal-clause-cause
+returns-in-Err-Refusal-clause-cause g c = refuses_absent c.args.self.now.1 (g.M.Manager.meaning c.args.self.now.0) _ c.args.request.now.context _ (search rules)
