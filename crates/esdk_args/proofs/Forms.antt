@@ -1,166 +1,224 @@
 -- Which words are of which form.
-use Rattle.std.proofs.Common.{◌≡◌, ℕ, Bool, true, false, List, [], ◌∷◌, get_or, refl, ap, subst, ◌∙◌}
-use Rattle.std.specs.Prelude.{◌&&◌, ◌==◌, Option, Some, None, codes, if◌then◌else◌}
+use Rattle.std.proofs.Common.{◌≡◌, ◌≢◌, ℕ, Bool, true, false, List, [], ◌∷◌, ◌++◌, drop, get_or, refl, sym, ap, subst, ◌∙◌, arith}
+use Rattle.std.specs.Prelude.{All, ◌==◌, Option, Some, None, IfSome, codes, if◌then◌else◌}
+use Rattle.std.specs.List.{list_all}
 use Rattle.std.specs.Option.{option_map}
 use Rattle.std.specs.Str.{bytes_eq}
-use Rattle.std.proofs.lemmas.Bool.{and_parts, and_from, eqb-false, ne_eqb, not-true}
+use Rattle.std.proofs.lemmas.Bool.{and_parts, eqb-false, false_from_ne_true, ne_eqb, not-true}
+use Rattle.std.proofs.lemmas.List.{append_assoc}
+use Rattle.std.proofs.lemmas.List.Sums.{AllPass-from_list_all, list_all-from_AllPass}
 use Rattle.std.proofs.lemmas.Slice.Eq.{bytes_eq-Decides}
 use Rattle.esdk_args.specs.declared.options.OptionName.{OptionName}
-use Rattle.esdk_args.specs.declared.options.OptionName.TheVariants.{Frame, MaxUnit}
+use Rattle.esdk_args.specs.declared.options.OptionName.TheVariants.{Frame, MaxKeys, MaxUnit}
 use Rattle.esdk_args.specs.Options.{option_text}
-use Rattle.esdk_args.specs.Form.{OptionsValue, FormValue, list, encrypt, decrypt, is_value, gives, options_of, list_form, form_of}
-use Rattle.esdk_args.specs.Spelling.{IsValue, command_text}
+use Rattle.esdk_args.specs.Form.{OptionsValue, FormValue, list, encrypt, decrypt, is_value, gives, option_at, options_of, list_form, form_of}
+use Rattle.esdk_args.specs.Spelling.{AreForm, Command, IsValue, command_text, decryption, encryption, first_of, option_words, second_of}
 
--- ---- two words
+-- ---- words and their values
 
-pub value_of : (word : List ℕ) → is_value word ≡ true → IsValue word
+value_of : (word : List ℕ) → is_value word ≡ true → IsValue word
 value_of [] e rest is = absurd cc
 value_of (b ∷ word) e rest is = eqb-false b 45 (not-true (b == 45) e) (ap (λ w. get_or w 0 0) is)
 
-pub value_is : (word : List ℕ) → IsValue word → is_value word ≡ true
+value_is : (word : List ℕ) → IsValue word → is_value word ≡ true
 value_is [] v = refl
 value_is (b ∷ word) v = rw (ne_eqb b 45 (λ e. v word (ap (λ c. c ∷ word) e))) refl
+
+values_of : (words : List (List ℕ)) → list_all is_value words ≡ true → All IsValue words
+values_of words e k d lt = value_of (get_or words k d) (AllPass-from_list_all is_value words e k d lt)
+
+values_are : (words : List (List ℕ)) → All IsValue words → list_all is_value words ≡ true
+values_are words values = list_all-from_AllPass is_value words (λ k d lt. value_is (get_or words k d) (values k d lt))
 
 same_word : (word text : List ℕ) → bytes_eq word text ≡ true → word ≡ text
 same_word word text e = (bytes_eq-Decides word text).0 e
 
-eq_self : (text : List ℕ) → bytes_eq text text ≡ true
-eq_self text = (bytes_eq-Decides text text).1 refl
-
-pub given_value : (option word value : List ℕ) → gives option word value ≡ true → (word ≡ option) × IsValue value
+given_value : (option word value : List ℕ) → gives option word value ≡ true → (word ≡ option) × IsValue value
 given_value option word value e =
     let t = and_parts (bytes_eq word option) (is_value value) e in
     (same_word word option t.0, value_of value t.1)
 
-pub gives_value : (option value : List ℕ) → IsValue value → gives option option value ≡ true
-gives_value option value v = and_from (bytes_eq option option) (is_value value) (eq_self option) (value_is value v)
+gives_value : (option value : List ℕ) → IsValue value → gives option option value ≡ true
+gives_value option value v = rw ((bytes_eq-Decides option option).1 refl, value_is value v) refl
 
--- ---- the options
+-- ---- one option
 
--- the words of the number's option
-abbrev pub number_words : OptionName → Option (List ℕ) → List (List ℕ)
-number_words name None = []
-number_words name (Some word) = option_text name ∷ word ∷ []
+-- the words are the option with its value, if it stands there, and the words behind it
+record StandsAt (option : List ℕ) (words : List (List ℕ)) (found : Option (List ℕ) × List (List ℕ)) : Type 0 where
+  are : words ≡ option_words option found.0 ++ found.1
+  value : IfSome found.0 IsValue
 
-abbrev pub IsNumberValue : Option (List ℕ) → Type 0
-IsNumberValue None = Unit {0}
-IsNumberValue (Some word) = IsValue word
+two_words : (option word value : List ℕ) (rest : List (List ℕ)) (b : Bool) → gives option word value ≡ b
+    → StandsAt option (word ∷ value ∷ rest) (if b then (Some value, rest) else (None, word ∷ value ∷ rest))
+two_words option word value rest true e =
+    let t = given_value option word value e in
+    record { are = ap (λ w. w ∷ value ∷ rest) t.0; value = t.1 }
+two_words option word value rest false e = record { are = refl; value = tt }
 
--- the words are these options
-pub record AreOptions (name : OptionName) (words : List (List ℕ)) (options : OptionsValue) : Type 0 where
-  pub are : words ≡ codes "--keyring" ∷ options.keyring ∷ number_words name options.number
-  pub keyring : IsValue options.keyring
-  pub number : IsNumberValue options.number
+stands : (option : List ℕ) (words : List (List ℕ)) → StandsAt option words (option_at option words)
+stands option [] = record { are = refl; value = tt }
+stands option (word ∷ []) = record { are = refl; value = tt }
+stands option (word ∷ value ∷ rest) = two_words option word value rest (gives option word value) refl
 
-picked : (b : Bool) (one options : OptionsValue) → (if b then Some one else None) ≡ Some options → (b ≡ true) × (one ≡ options)
-picked true one options e = (refl, cc)
-picked false one options e = absurd cc
+-- the words don't begin with the option
+abbrev IsOther : List ℕ → List (List ℕ) → Type 0
+IsOther option words = (rest : List (List ℕ)) → words ≢ option ∷ rest
+
+-- an option that doesn't stand there has no value
+at_none : (option : List ℕ) (words : List (List ℕ)) → IsOther option words → option_at option words ≡ (None, words)
+at_none option [] other = refl
+at_none option (word ∷ []) other = refl
+at_none option (word ∷ value ∷ rest) other =
+    rw (false_from_ne_true (gives option word value) (λ e. other (value ∷ rest) (ap (λ w. w ∷ value ∷ rest) (given_value option word value e).0))) refl
+
+-- an option is read back
+at_front : (option : List ℕ) (value : Option (List ℕ)) (rest : List (List ℕ)) → IfSome value IsValue → IsOther option rest → option_at option (option_words option value ++ rest) ≡ (value, rest)
+at_front option None rest v other = at_none option rest other
+at_front option (Some value) rest v other = rw (gives_value option value v) refl
+
+dash : (name : OptionName) → option_text name ≡ 45 ∷ drop 1 (option_text name)
+dash Frame = refl
+dash MaxKeys = refl
+dash MaxUnit = refl
+
+-- pair words begin with no option
+no_option : (name : OptionName) (words : List (List ℕ)) → All IsValue words → IsOther (option_text name) words
+no_option name [] values rest is = absurd cc
+no_option name (word ∷ words) values rest is = values 0 [] (omega arith) (drop 1 (option_text name)) (ap (λ l. get_or l 0 []) is ∙ dash name)
+
+other_option : (one two : List ℕ) (value : Option (List ℕ)) (rest : List (List ℕ)) → one ≢ two → IsOther one rest → IsOther one (option_words two value ++ rest)
+other_option one two None rest unlike other more is = other more is
+other_option one two (Some value) rest unlike other more is = unlike (sym (ap (λ l. get_or l 0 []) is))
+
+unlike_options : (command : Command) → option_text (first_of command) ≢ option_text (second_of command)
+unlike_options encryption e = absurd (omega (arith, ap (λ l. get_or l 2 0) e))
+unlike_options decryption e = absurd (omega (arith, ap (λ l. get_or l 6 0) e))
+
+-- ---- the options of a command
 
 abbrev keyring_text : List ℕ
 keyring_text = codes "--keyring"
 
-two_words : (name : OptionName) (first keyring : List ℕ) → gives keyring_text first keyring ≡ true
-    → AreOptions name (first ∷ keyring ∷ []) (record { keyring = keyring; number = None })
-two_words name first keyring e =
-    let t = given_value keyring_text first keyring e in
-    record { are = ap (λ w. w ∷ keyring ∷ []) t.0; keyring = t.1; number = tt }
+-- the words behind the value of `--keyring`
+abbrev behind_keyring : Command → OptionsValue → List (List ℕ)
+behind_keyring command options =
+    option_words (option_text (first_of command)) options.first ++ option_words (option_text (second_of command)) options.second ++ options.pairs
 
-four_words : (name : OptionName) (first keyring second number : List ℕ) → (gives keyring_text first keyring && gives (option_text name) second number) ≡ true
-    → AreOptions name (first ∷ keyring ∷ second ∷ number ∷ []) (record { keyring = keyring; number = Some number })
-four_words name first keyring second number e =
-    let both = and_parts (gives keyring_text first keyring) (gives (option_text name) second number) e in
-    let t = given_value keyring_text first keyring both.0 in
-    let u = given_value (option_text name) second number both.1 in
-    record { are = ap (λ w. w ∷ keyring ∷ second ∷ number ∷ []) t.0 ∙ ap (λ w. keyring_text ∷ keyring ∷ w ∷ number ∷ []) u.0; keyring = t.1; number = u.1 }
+-- what the value of `--keyring` and the words behind it are read as
+abbrev options_with : Command → Option (List ℕ) → List (List ℕ) → Option OptionsValue
+options_with command keyring behind =
+    let one = option_at (option_text (first_of command)) behind in
+    let two = option_at (option_text (second_of command)) one.1 in
+    if list_all is_value two.1 then option_map (λ name. record { keyring = name; first = one.0; second = two.0; pairs = two.1 }) keyring else None
 
-pub options_are : (name : OptionName) (words : List (List ℕ)) (options : OptionsValue) → options_of name words ≡ Some options → AreOptions name words options
+picked : (b : Bool) (found : Option OptionsValue) (options : OptionsValue) → (if b then found else None) ≡ Some options → (b ≡ true) × (found ≡ Some options)
+picked true found options e = (refl, e)
+picked false found options e = absurd cc
+
+found_behind : (command : Command) (words behind : List (List ℕ)) (keyring : Option (List ℕ)) (options : OptionsValue) → StandsAt keyring_text words (keyring, behind)
+    → options_with command keyring behind ≡ Some options → AreForm command (command_text command ∷ words) options
+found_behind command words behind None options at e = absurd (none (picked _ None options e).1)
+  where
+    none : ◌≡◌ {A = Option OptionsValue} None (Some options) → ⊥
+    none other = cc
+found_behind command words behind (Some name) options at e =
+    let one = option_at (option_text (first_of command)) behind in
+    let two = option_at (option_text (second_of command)) one.1 in
+    let read : OptionsValue = record { keyring = name; first = one.0; second = two.0; pairs = two.1 } in
+    let t = picked (list_all is_value two.1) (Some read) options e in
+    let first = stands (option_text (first_of command)) behind in
+    let second = stands (option_text (second_of command)) one.1 in
+    let one_words = option_words (option_text (first_of command)) one.0 in
+    let two_words = option_words (option_text (second_of command)) two.0 in
+    subst (AreForm command (command_text command ∷ words)) (cc t.1) (record {
+      are = ap (λ l. command_text command ∷ l) (at.are
+          ∙ ap (λ l. keyring_text ∷ name ∷ l) (first.are ∙ ap (λ l. one_words ++ l) second.are ∙ sym (append_assoc one_words two_words two.1)));
+      keyring = at.value;
+      first = first.value;
+      second = second.value;
+      pairs = values_of two.1 t.0;
+    })
+
+-- what the words behind a command are read as is what stands there
+options_found : (command : Command) (words : List (List ℕ)) (options : OptionsValue) → options_of (first_of command) (second_of command) words ≡ Some options
+    → AreForm command (command_text command ∷ words) options
 unfolding options_of
-options_are name [] options e = absurd cc
-options_are name (a ∷ []) options e = absurd cc
-options_are name (first ∷ keyring ∷ []) options e =
-    let t = picked (gives keyring_text first keyring) (record { keyring = keyring; number = None }) options e in
-    subst (AreOptions name (first ∷ keyring ∷ [])) t.1 (two_words name first keyring t.0)
-options_are name (a ∷ b ∷ c ∷ []) options e = absurd cc
-options_are name (first ∷ keyring ∷ second ∷ number ∷ []) options e =
-    let t = picked (gives keyring_text first keyring && gives (option_text name) second number) (record { keyring = keyring; number = Some number }) options e in
-    subst (AreOptions name (first ∷ keyring ∷ second ∷ number ∷ [])) t.1 (four_words name first keyring second number t.0)
-options_are name (a ∷ b ∷ c ∷ d ∷ f ∷ words) options e = absurd cc
+options_found command words options e =
+    let keyring = option_at keyring_text words in
+    found_behind command words keyring.1 keyring.0 options (stands keyring_text words) e
 
-read_two : (name : OptionName) (keyring : List ℕ) → IsValue keyring → options_of name (keyring_text ∷ keyring ∷ []) ≡ Some (record { keyring = keyring; number = None })
+-- the words of options are read as these
+options_read : (command : Command) (words : List (List ℕ)) (options : OptionsValue) → AreForm command words options
+    → options_of (first_of command) (second_of command) (keyring_text ∷ options.keyring ∷ behind_keyring command options) ≡ Some options
 unfolding options_of
-read_two name keyring v = rw (gives_value keyring_text keyring v) refl
-
-read_four : (name : OptionName) (keyring number : List ℕ) → IsValue keyring → IsValue number
-    → options_of name (keyring_text ∷ keyring ∷ option_text name ∷ number ∷ []) ≡ Some (record { keyring = keyring; number = Some number })
-unfolding options_of
-read_four name keyring number v w = rw (gives_value keyring_text keyring v, gives_value (option_text name) number w) refl
-
-pub options_read : (name : OptionName) (keyring : List ℕ) (number : Option (List ℕ)) → IsValue keyring → IsNumberValue number
-    → options_of name (keyring_text ∷ keyring ∷ number_words name number) ≡ Some (record { keyring = keyring; number = number })
-options_read name keyring None v w = read_two name keyring v
-options_read name keyring (Some number) v w = read_four name keyring number v w
+options_read command words options form =
+    let first = option_text (first_of command) in
+    let second = option_text (second_of command) in
+    let behind = option_words second options.second ++ options.pairs in
+    let one = at_front first options.first behind form.first (other_option first second options.second options.pairs (unlike_options command) (no_option (first_of command) options.pairs form.pairs)) in
+    let two = at_front second options.second options.pairs form.second (no_option (second_of command) options.pairs form.pairs) in
+    rw (gives_value keyring_text options.keyring form.keyring, append_assoc (option_words first options.first) (option_words second options.second) options.pairs, one, two, values_are options.pairs form.pairs) refl
 
 -- ---- the form
 
+-- the form of a command's words
+abbrev pub form_with : Command → OptionsValue → FormValue
+form_with encryption options = encrypt options
+form_with decryption options = decrypt options
+
 -- the words are of this form
-abbrev pub AreForm : List (List ℕ) → FormValue → Type 0
-AreForm words list = words ≡ codes "list" ∷ []
-AreForm words (encrypt options) = (rest : List (List ℕ)) × (words ≡ codes "encrypt" ∷ rest) × AreOptions Frame rest options
-AreForm words (decrypt options) = (rest : List (List ℕ)) × (words ≡ codes "decrypt" ∷ rest) × AreOptions MaxUnit rest options
+abbrev pub IsFormOf : List (List ℕ) → FormValue → Type 0
+IsFormOf words list = words ≡ codes "list" ∷ []
+IsFormOf words (encrypt options) = AreForm encryption words options
+IsFormOf words (decrypt options) = AreForm decryption words options
 
-at_list : (command : List ℕ) (rest : List (List ℕ)) (form : FormValue) → command ≡ codes "list" → list_form rest ≡ Some form → AreForm (command ∷ rest) form
-at_list command [] list is e = ap (λ w. w ∷ []) is
-at_list command [] (encrypt options) is e = absurd cc
-at_list command [] (decrypt options) is e = absurd cc
-at_list command (a ∷ rest) form is e = absurd cc
+at_list : (word : List ℕ) (rest : List (List ℕ)) (form : FormValue) → word ≡ codes "list" → list_form rest ≡ Some form → IsFormOf (word ∷ rest) form
+at_list word [] list is e = ap (λ w. w ∷ []) is
+at_list word [] (encrypt options) is e = absurd cc
+at_list word [] (decrypt options) is e = absurd cc
+at_list word (next ∷ rest) form is e = absurd cc
 
-at_encrypt : (command : List ℕ) (rest : List (List ℕ)) (found : Option OptionsValue) (form : FormValue) → command ≡ codes "encrypt" → options_of Frame rest ≡ found
-    → option_map encrypt found ≡ Some form → AreForm (command ∷ rest) form
-at_encrypt command rest None form is f e = absurd cc
-at_encrypt command rest (Some options) form is f e =
-    let same : encrypt options ≡ form = cc in
-    subst (AreForm (command ∷ rest)) same (rest, ap (λ w. w ∷ rest) is, options_are Frame rest options f)
+pub with_command : (command : Command) (words : List (List ℕ)) (options : OptionsValue) → AreForm command words options → IsFormOf words (form_with command options)
+with_command encryption words options form = form
+with_command decryption words options form = form
 
-at_decrypt : (command : List ℕ) (rest : List (List ℕ)) (found : Option OptionsValue) (form : FormValue) → command ≡ codes "decrypt" → options_of MaxUnit rest ≡ found
-    → option_map decrypt found ≡ Some form → AreForm (command ∷ rest) form
-at_decrypt command rest None form is f e = absurd cc
-at_decrypt command rest (Some options) form is f e =
-    let same : decrypt options ≡ form = cc in
-    subst (AreForm (command ∷ rest)) same (rest, ap (λ w. w ∷ rest) is, options_are MaxUnit rest options f)
+at_command : (command : Command) (word : List ℕ) (rest : List (List ℕ)) (found : Option OptionsValue) (form : FormValue) → word ≡ command_text command
+    → options_of (first_of command) (second_of command) rest ≡ found → option_map (form_with command) found ≡ Some form → IsFormOf (word ∷ rest) form
+at_command command word rest None form is f e = absurd cc
+at_command command word rest (Some options) form is f e =
+    let same : form_with command options ≡ form = cc in
+    subst (IsFormOf (word ∷ rest)) same (with_command command (word ∷ rest) options
+    (subst (λ w. AreForm command (w ∷ rest) options) (sym is) (options_found command rest options f)))
 
-by_command : (command : List ℕ) (rest : List (List ℕ)) (form : FormValue) (a b c : Bool) → bytes_eq command (codes "list") ≡ a → bytes_eq command (codes "encrypt") ≡ b
-    → bytes_eq command (codes "decrypt") ≡ c
-    → (if a then list_form rest else if b then option_map encrypt (options_of Frame rest) else if c then option_map decrypt (options_of MaxUnit rest) else None) ≡ Some form
-    → AreForm (command ∷ rest) form
-by_command command rest form true b c is_a is_b is_c e = at_list command rest form (same_word command (codes "list") is_a) e
-by_command command rest form false true c is_a is_b is_c e = at_encrypt command rest (options_of Frame rest) form (same_word command (codes "encrypt") is_b) refl e
-by_command command rest form false false true is_a is_b is_c e = at_decrypt command rest (options_of MaxUnit rest) form (same_word command (codes "decrypt") is_c) refl e
-by_command command rest form false false false is_a is_b is_c e = absurd cc
+by_word : (word : List ℕ) (rest : List (List ℕ)) (form : FormValue) (a b c : Bool) → bytes_eq word (codes "list") ≡ a → bytes_eq word (codes "encrypt") ≡ b → bytes_eq word (codes "decrypt") ≡ c
+    → (if a then list_form rest else if b then option_map encrypt (options_of Frame MaxKeys rest) else if c then option_map decrypt (options_of MaxKeys MaxUnit rest) else None) ≡ Some form
+    → IsFormOf (word ∷ rest) form
+by_word word rest form true b c is_a is_b is_c e = at_list word rest form (same_word word (codes "list") is_a) e
+by_word word rest form false true c is_a is_b is_c e = at_command encryption word rest (options_of Frame MaxKeys rest) form (same_word word (codes "encrypt") is_b) refl e
+by_word word rest form false false true is_a is_b is_c e = at_command decryption word rest (options_of MaxKeys MaxUnit rest) form (same_word word (codes "decrypt") is_c) refl e
+by_word word rest form false false false is_a is_b is_c e = absurd cc
 
-pub form_are : (words : List (List ℕ)) (form : FormValue) → form_of words ≡ Some form → AreForm words form
+-- what the words are read as is their form
+pub form_found : (words : List (List ℕ)) (form : FormValue) → form_of words ≡ Some form → IsFormOf words form
 unfolding form_of
-form_are [] form e = absurd cc
-form_are (command ∷ rest) form e =
-    by_command command rest form (bytes_eq command (codes "list")) (bytes_eq command (codes "encrypt")) (bytes_eq command (codes "decrypt")) refl refl refl e
+form_found [] form e = absurd cc
+form_found (word ∷ rest) form e = by_word word rest form (bytes_eq word (codes "list")) (bytes_eq word (codes "encrypt")) (bytes_eq word (codes "decrypt")) refl refl refl e
 
-pub list_read : form_of (codes "list" ∷ []) ≡ Some list
+list_read : form_of (codes "list" ∷ []) ≡ Some list
 unfolding form_of
 list_read = refl
 
-encrypt_read : (rest : List (List ℕ)) → form_of (codes "encrypt" ∷ rest) ≡ option_map encrypt (options_of Frame rest)
+command_read : (command : Command) (rest : List (List ℕ)) → form_of (command_text command ∷ rest) ≡ option_map (form_with command) (options_of (first_of command) (second_of command) rest)
 unfolding form_of
-encrypt_read rest = refl
+command_read encryption rest = refl
+command_read decryption rest = refl
 
-decrypt_read : (rest : List (List ℕ)) → form_of (codes "decrypt" ∷ rest) ≡ option_map decrypt (options_of MaxUnit rest)
-unfolding form_of
-decrypt_read rest = refl
+options_form : (command : Command) (words : List (List ℕ)) (options : OptionsValue) → AreForm command words options → form_of words ≡ Some (form_with command options)
+options_form command words options form =
+    ap form_of form.are ∙ command_read command (keyring_text ∷ options.keyring ∷ behind_keyring command options) ∙ ap (option_map (form_with command)) (options_read command words options form)
 
--- the form of a command's words
-abbrev pub form_with : OptionName → OptionsValue → FormValue
-form_with Frame options = encrypt options
-form_with MaxUnit options = decrypt options
-
-pub command_read : (name : OptionName) (keyring : List ℕ) (number : Option (List ℕ)) → IsValue keyring → IsNumberValue number
-    → form_of (command_text name ∷ keyring_text ∷ keyring ∷ number_words name number) ≡ Some (form_with name (record { keyring = keyring; number = number }))
-command_read Frame keyring number v w = encrypt_read (keyring_text ∷ keyring ∷ number_words Frame number) ∙ ap (option_map encrypt) (options_read Frame keyring number v w)
-command_read MaxUnit keyring number v w = decrypt_read (keyring_text ∷ keyring ∷ number_words MaxUnit number) ∙ ap (option_map decrypt) (options_read MaxUnit keyring number v w)
+-- words of a form are read as that form
+pub form_read : (words : List (List ℕ)) (form : FormValue) → IsFormOf words form → form_of words ≡ Some form
+form_read words list is = ap form_of is ∙ list_read
+form_read words (encrypt options) is = options_form encryption words options is
+form_read words (decrypt options) is = options_form decryption words options is

@@ -1,4 +1,10 @@
 pub mod Numerals
 pub mod Parsed
+pub mod Splits
+pub mod Given
 pub mod Forms
+pub mod OnePair
+pub mod Pairs
+pub mod Steps
 pub mod Requests
+pub mod Faults

@@ -6,7 +6,7 @@ use Rattle.std.specs.declared.num.ParseIntError.{ParseIntError}
 use Rattle.std.proofs.lemmas.Bool.{cases_lt}
 use Rattle.std.proofs.lemmas.Str.Parse.{parse_digits}
 use Rattle.esdk_args.specs.declared.options.OptionName.{OptionName}
-use Rattle.esdk_args.specs.declared.options.OptionName.TheVariants.{Frame, MaxUnit}
+use Rattle.esdk_args.specs.declared.options.OptionName.TheVariants.{Frame, MaxKeys, MaxUnit}
 use Rattle.esdk_args.specs.declared.request.WordsFault.TheVariants.{BadNumber}
 use Rattle.esdk_args.specs.Options.{greatest}
 use Rattle.esdk_args.specs.Numbers.{decimal_value, is_numeral, number_of}
@@ -15,6 +15,7 @@ use Rattle.esdk_args.proofs.Numerals.{own, writes, are_digits, number_read, numb
 
 greatest_fits : (name : OptionName) → greatest name < 2 ^ 64
 greatest_fits Frame = omega arith
+greatest_fits MaxKeys = omega arith
 greatest_fits MaxUnit = omega arith
 
 -- the number is the numeral's value

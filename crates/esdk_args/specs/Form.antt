@@ -1,18 +1,22 @@
--- The form of the words: a command, then its options in this order, each as two words and at most once, and nothing after.
+-- The form of the words: a command, then its options in this order, each as two words and at most once, and then pair words. A word that begins with `-` is
+-- neither a pair word nor an option's value.
 --     list
---     encrypt --keyring NAME [--frame N]
---     decrypt --keyring NAME [--max-unit N]
+--     encrypt --keyring NAME [--frame N] [--max-keys N] PAIR..
+--     decrypt --keyring NAME [--max-keys N] [--max-unit N] PAIR..
 use Rattle.std.specs.Prelude.{ℕ, Bool, not, ◌&&◌, ◌==◌, List, [], ◌∷◌, Option, Some, None, codes, slice_index, if◌then◌else◌}
+use Rattle.std.specs.List.{list_all}
 use Rattle.std.specs.Option.{option_map}
 use Rattle.std.specs.Str.{bytes_eq}
 use Rattle.esdk_args.specs.declared.options.OptionName.{OptionName}
-use Rattle.esdk_args.specs.declared.options.OptionName.TheVariants.{Frame, MaxUnit}
+use Rattle.esdk_args.specs.declared.options.OptionName.TheVariants.{Frame, MaxKeys, MaxUnit}
 use Rattle.esdk_args.specs.Options.{option_text}
 
--- What stands behind a command: the value of `--keyring`, and the word of the number where its option is given.
+-- What stands behind a command: the value of `--keyring`, the words of its two numbers where their options are given, and the pair words.
 pub record OptionsValue : Type 0 where
   pub keyring : List ℕ
-  pub number : Option (List ℕ)
+  pub first : Option (List ℕ)
+  pub second : Option (List ℕ)
+  pub pairs : List (List ℕ)
 
 -- A command and what stands behind it.
 pub data FormValue : Type 0 where
@@ -20,7 +24,7 @@ pub data FormValue : Type 0 where
   encrypt : OptionsValue → FormValue
   decrypt : OptionsValue → FormValue
 
--- an option's value doesn't begin with `-` (45); the empty word is one
+-- an option's value or a pair word doesn't begin with `-` (45); the empty word is one
 abbrev pub is_value : List ℕ → Bool
 is_value word = not (slice_index word 0 == 45)
 
@@ -28,13 +32,18 @@ is_value word = not (slice_index word 0 == 45)
 abbrev pub gives : List ℕ → List ℕ → List ℕ → Bool
 gives option word value = bytes_eq word option && is_value value
 
--- `--keyring` with its value, and then nothing or this option with its value
-unfoldable pub options_of : OptionName → List (List ℕ) → Option OptionsValue
-options_of name (first ∷ keyring ∷ []) =
-    if gives (codes "--keyring") first keyring then Some (record { keyring = keyring; number = None }) else None
-options_of name (first ∷ keyring ∷ second ∷ number ∷ []) =
-    if gives (codes "--keyring") first keyring && gives (option_text name) second number then Some (record { keyring = keyring; number = Some number }) else None
-options_of name others = None
+-- an option's value at the front of the words, if it stands there, and the words behind it
+abbrev pub option_at : List ℕ → List (List ℕ) → Option (List ℕ) × List (List ℕ)
+option_at option (word ∷ value ∷ rest) = if gives option word value then (Some value, rest) else (None, word ∷ value ∷ rest)
+option_at option words = (None, words)
+
+-- `--keyring` with its value, then nothing or these two options with their values, then pair words
+unfoldable pub options_of : OptionName → OptionName → List (List ℕ) → Option OptionsValue
+options_of first second words =
+    let keyring = option_at (codes "--keyring") words in
+    let one = option_at (option_text first) keyring.1 in
+    let two = option_at (option_text second) one.1 in
+    if list_all is_value two.1 then option_map (λ name. record { keyring = name; first = one.0; second = two.0; pairs = two.1 }) keyring.0 else None
 
 -- behind `list` stands nothing
 abbrev pub list_form : List (List ℕ) → Option FormValue
@@ -46,6 +55,6 @@ unfoldable pub form_of : List (List ℕ) → Option FormValue
 form_of [] = None
 form_of (command ∷ rest) =
     if bytes_eq command (codes "list") then list_form rest
-    else if bytes_eq command (codes "encrypt") then option_map encrypt (options_of Frame rest)
-    else if bytes_eq command (codes "decrypt") then option_map decrypt (options_of MaxUnit rest)
+    else if bytes_eq command (codes "encrypt") then option_map encrypt (options_of Frame MaxKeys rest)
+    else if bytes_eq command (codes "decrypt") then option_map decrypt (options_of MaxKeys MaxUnit rest)
     else None

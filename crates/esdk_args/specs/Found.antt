@@ -1,16 +1,22 @@
--- The form of the words where it stands among them.
+-- What is found among the words, where it stands there.
 use Rattle.std.specs.Option.{option_copied}
 use Rattle.esdk_args.specs.declared.form.Options.{Options}
 use Rattle.esdk_args.specs.declared.form.Form.{Form}
 use Rattle.esdk_args.specs.declared.form.Form.TheVariants as found
+use Rattle.esdk_args.specs.declared.pair_words.PairWord.{PairWord}
+use Rattle.esdk_args.specs.declared.pair_words.PairParts.{PairParts}
 use Rattle.esdk_args.specs.Form.{OptionsValue, FormValue, list, encrypt, decrypt}
 
 -- the options
 abbrev pub options_value : Options → OptionsValue
-options_value options = record { keyring = options.keyring.now; number = option_copied options.number }
+options_value options = record { keyring = options.keyring.now; first = option_copied options.first; second = option_copied options.second; pairs = options.pairs.now }
 
 -- the form
 abbrev pub form_value : Form → FormValue
 form_value found.List = list
 form_value (found.Encrypt options) = encrypt (options_value options)
 form_value (found.Decrypt options) = decrypt (options_value options)
+
+-- the pair
+abbrev pub pair_value : PairParts → PairWord
+pair_value parts = record { key = parts.key.now; value = option_copied parts.value; required = parts.required }

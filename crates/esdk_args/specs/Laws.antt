@@ -4,9 +4,9 @@ use Rattle.esdk_args.specs.declared.options.OptionName.{OptionName}
 use Rattle.esdk_args.specs.declared.request.Request.TheVariants as requests
 use Rattle.esdk_args.specs.declared.request.EncryptWords.{EncryptWords}
 use Rattle.esdk_args.specs.declared.request.DecryptWords.{DecryptWords}
-use Rattle.esdk_args.specs.declared.request.WordsFault.TheVariants.{BadNumber, Memory}
+use Rattle.esdk_args.specs.declared.request.WordsFault.TheVariants.{NotBuilt, BadNumber, BadPair, Memory}
 use Rattle.esdk_args.specs.Words.{words_of}
-use Rattle.esdk_args.specs.Spelling.{AsksEncrypt, AsksDecrypt, HasBadNumber, Writes}
+use Rattle.esdk_args.specs.Spelling.{AsksEncrypt, AsksDecrypt, AreNoForm, HasBadNumber, HasBadPair, Writes}
 
 -- The one word `list` asks for a listing, and no other words do.
 abbrev pub ReadsList : Type 0
@@ -20,11 +20,19 @@ ReadsEncrypt = (words : List (List ℕ)) (asked : EncryptWords) → (words_of wo
 abbrev pub ReadsDecrypt : Type 0
 ReadsDecrypt = (words : List (List ℕ)) (asked : DecryptWords) → (words_of words ≡ Ok (requests.Decrypt asked)) ↔ AsksDecrypt words asked
 
--- A bad number of an option is named exactly where the words have one.
+-- Words are not built exactly where they are of no form.
+abbrev pub BuildsNoOthers : Type 0
+BuildsNoOthers = (words : List (List ℕ)) → (words_of words ≡ Err NotBuilt) ↔ AreNoForm words
+
+-- A bad number of an option is named exactly where the words have one, and it is the first.
 abbrev pub NamesBadNumbers : Type 0
 NamesBadNumbers = (words : List (List ℕ)) (name : OptionName) → (words_of words ≡ Err (BadNumber name)) ↔ HasBadNumber words name
 
--- No words mean want of memory. So all others are not built.
+-- A bad pair word is named exactly where the words have one and no bad number, and it is the first.
+abbrev pub NamesBadPairs : Type 0
+NamesBadPairs = (words : List (List ℕ)) (n : ℕ) → (words_of words ≡ Err (BadPair n)) ↔ HasBadPair words n
+
+-- No words mean want of memory. So each list of words is one of those above.
 abbrev pub NeverMemory : Type 0
 NeverMemory = (words : List (List ℕ)) → words_of words ≢ Err Memory
 

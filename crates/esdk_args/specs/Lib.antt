@@ -1,7 +1,9 @@
 pub mod Options
 pub mod Form
-pub mod Found
+pub mod Faults
 pub mod Numbers
+pub mod PairWords
+pub mod Found
 pub mod Words
 pub mod Spelling
 pub mod Laws

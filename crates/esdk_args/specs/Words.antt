@@ -1,39 +1,29 @@
--- What the words ask for: the form first, then the number.
-use Rattle.std.specs.Prelude.{◌≡◌, ◌≤◌, ℕ, List, Option, Some, None, Result, Ok, Err}
-use Rattle.std.specs.Option.{unwrap_or}
-use Rattle.esdk_args.specs.declared.options.OptionName.{OptionName}
-use Rattle.esdk_args.specs.declared.options.OptionName.TheVariants.{Frame, MaxUnit}
+-- What the words ask for: the form first, then the numbers in their order, then the pairs.
+use Rattle.std.specs.Prelude.{◌≤◌, ℕ, List, Option, Some, None, Result, Ok, Err}
+use Rattle.esdk_args.specs.declared.options.OptionName.TheVariants.{MaxKeys, MaxUnit}
 use Rattle.esdk_args.specs.declared.request.Request.{Request}
 use Rattle.esdk_args.specs.declared.request.Request.TheVariants as requests
 use Rattle.esdk_args.specs.declared.request.WordsFault.{WordsFault}
-use Rattle.esdk_args.specs.declared.request.WordsFault.TheVariants.{NotBuilt, BadNumber, Memory}
+use Rattle.esdk_args.specs.declared.request.WordsFault.TheVariants.{NotBuilt}
 use Rattle.esdk_args.specs.Form.{OptionsValue, FormValue, list, encrypt, decrypt, form_of}
-use Rattle.esdk_args.specs.Numbers.{number_of}
-
--- the number, where its option is given
-abbrev pub given : Result ℕ WordsFault → Result (Option ℕ) WordsFault
-given (Ok n) = Ok (Some n)
-given (Err fault) = Err fault
-
-abbrev pub given_number : OptionName → Option (List ℕ) → Result (Option ℕ) WordsFault
-given_number name None = Ok None
-given_number name (Some word) = given (number_of name word)
-
--- a frame length that isn't given is 4,096
-abbrev pub encrypt_with : List ℕ → Result (Option ℕ) WordsFault → Result Request WordsFault
-encrypt_with keyring (Ok frame) = Ok (requests.Encrypt (record { keyring = keyring; frame = unwrap_or frame 4096 }))
-encrypt_with keyring (Err fault) = Err fault
-
-abbrev pub decrypt_with : List ℕ → Result (Option ℕ) WordsFault → Result Request WordsFault
-decrypt_with keyring (Ok max_unit) = Ok (requests.Decrypt (record { keyring = keyring; max_unit = max_unit }))
-decrypt_with keyring (Err fault) = Err fault
+use Rattle.esdk_args.specs.Faults.{◌>>=◌}
+use Rattle.esdk_args.specs.Numbers.{frame_given, number_given}
+use Rattle.esdk_args.specs.PairWords.{pairs_of}
 
 -- the request of a command's options
 abbrev pub encrypt_of : OptionsValue → Result Request WordsFault
-encrypt_of options = encrypt_with options.keyring (given_number Frame options.number)
+encrypt_of options = do
+  frame ← frame_given options.first
+  max_keys ← number_given MaxKeys options.second
+  pairs ← pairs_of options.pairs
+  Ok (requests.Encrypt (record { keyring = options.keyring; frame = frame; max_keys = max_keys; pairs = pairs }))
 
 abbrev pub decrypt_of : OptionsValue → Result Request WordsFault
-decrypt_of options = decrypt_with options.keyring (given_number MaxUnit options.number)
+decrypt_of options = do
+  max_keys ← number_given MaxKeys options.first
+  max_unit ← number_given MaxUnit options.second
+  pairs ← pairs_of options.pairs
+  Ok (requests.Decrypt (record { keyring = options.keyring; max_keys = max_keys; max_unit = max_unit; pairs = pairs }))
 
 -- the request of a form
 abbrev pub request_of : Option FormValue → Result Request WordsFault
@@ -45,13 +35,6 @@ request_of (Some (decrypt options)) = decrypt_of options
 -- what the words ask for
 unfoldable pub words_of : List (List ℕ) → Result Request WordsFault
 words_of words = request_of (form_of words)
-
--- This request, or this fault; want of memory may come at any time.
-abbrev pub Answers : Result Request WordsFault → Result Request WordsFault → Type 0
-Answers (Ok request) reading = reading ≡ Ok request
-Answers (Err NotBuilt) reading = reading ≡ Err NotBuilt
-Answers (Err (BadNumber name)) reading = reading ≡ Err (BadNumber name)
-Answers (Err Memory) reading = Unit {0}
 
 -- A frame length is at least 1.
 abbrev pub HasFrame : Request → Type 0

@@ -1,10 +1,12 @@
-//! The form of the words, before their numbers are read.
+//! The form of the words, before their numbers and pairs are read.
 
 ghost use Rattle.std.specs.Prelude.{◌≡◌};
-ghost use Rattle.std.specs.Option.{option_map};
-ghost use Rattle.esdk_args.specs.Form.{form_of, options_of, gives, is_value};
+ghost use Rattle.std.specs.List.{list_all};
+ghost use Rattle.std.specs.Option.{option_map, option_copied};
+ghost use Rattle.esdk_args.specs.Form.{form_of, options_of, option_at, gives, is_value};
 ghost use Rattle.esdk_args.specs.Found.{form_value, options_value};
 
+use crate::options::OptionName::{Frame, MaxKeys, MaxUnit};
 use crate::options::{OptionName, option_text};
 use esdk_fields::Text;
 
@@ -16,11 +18,13 @@ pub(crate) enum Form<'a> {
     Decrypt(Options<'a>),
 }
 
-/// What stands behind a command: the value of `--keyring`, and the word of the number where its option is given.
+/// What stands behind a command: the value of `--keyring`, the words of its two numbers where their options are given, and the pair words.
 #[derive(Clone, Copy)]
 pub(crate) struct Options<'a> {
     pub(crate) keyring: &'a Text,
-    pub(crate) number: Option<&'a Text>,
+    pub(crate) first: Option<&'a Text>,
+    pub(crate) second: Option<&'a Text>,
+    pub(crate) pairs: &'a [Text],
 }
 
 /// The form of the words. None exactly where they are of none.
@@ -31,30 +35,40 @@ pub(crate) fn form_of(words: &[Text]) -> Option<Form<'_>>
     let (command, rest) = words.split_first()?;
     match command.as_str() {
         "list" if rest.is_empty() => Some(Form::List),
-        "encrypt" => Some(Form::Encrypt(options_of(OptionName::Frame, rest)?)),
-        "decrypt" => Some(Form::Decrypt(options_of(OptionName::MaxUnit, rest)?)),
+        "encrypt" => Some(Form::Encrypt(options_of(Frame, MaxKeys, rest)?)),
+        "decrypt" => Some(Form::Decrypt(options_of(MaxKeys, MaxUnit, rest)?)),
         _ => None,
     }
 }
 
-/// The options behind a command: `--keyring` with its value, and then nothing or this option with its value. None exactly where other words stand there.
+/// What stands behind a command: `--keyring` with its value, then nothing or these two options with their values, then pair words. None exactly where other
+/// words stand there.
 #[tactic(auto, unfolding(crate::specs::Form::options_of))]
-fn options_of(name: OptionName, words: &[Text]) -> Option<Options<'_>>
-    ensures { option_map options_value result ≡ options_of name words.now }
+fn options_of(first: OptionName, second: OptionName, words: &[Text]) -> Option<Options<'_>>
+    ensures { option_map options_value result ≡ options_of first second words.now }
+{
+    let (keyring, behind) = option_at("--keyring", words);
+    let (first, behind) = option_at(option_text(first), behind);
+    let (second, pairs) = option_at(option_text(second), behind);
+    if !are_values(pairs) {
+        return None;
+    }
+    Some(Options {
+        keyring: keyring?,
+        first,
+        second,
+        pairs,
+    })
+}
+
+/// The option's value at the front of the words, if it stands there, and the words behind it.
+fn option_at<'a>(option: &str, words: &'a [Text]) -> (Option<&'a Text>, &'a [Text])
+    ensures value { option_copied result.0 ≡ (option_at option.now words.now).0 }
+    ensures behind { result.1.now ≡ (option_at option.now words.now).1 }
 {
     match words {
-        [first, keyring] if gives("--keyring", first, keyring) => Some(Options {
-            keyring,
-            number: None,
-        }),
-        [first, keyring, second, number]
-            if gives("--keyring", first, keyring) && gives(option_text(name), second, number) => {
-            Some(Options {
-                keyring,
-                number: Some(number),
-            })
-        }
-        _ => None,
+        [word, value, behind @ ..] if gives(option, word, value) => (Some(value), behind),
+        _ => (None, words),
     }
 }
 
@@ -65,7 +79,14 @@ fn gives(option: &str, word: &Text, value: &Text) -> bool
     word.as_str() == option && is_value(value)
 }
 
-/// Whether the word can be an option's value: it doesn't start with `-`.
+/// Whether each of the words can be an option's value or a pair word.
+fn are_values(words: &[Text]) -> bool
+    ensures { result ≡ list_all is_value words.now }
+{
+    words.iter().all(|word| is_value(word))
+}
+
+/// Whether the word can be an option's value or a pair word: it doesn't start with `-`.
 fn is_value(word: &Text) -> bool
     ensures { result ≡ is_value word.now }
 {

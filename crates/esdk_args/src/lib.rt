@@ -1,24 +1,31 @@
-//! The words of the command line: what they ask for. The words are read in one narrow form: the command, then its options in a fixed order, each as two
-//! words, and nothing after.
+//! The words of the command line: what they ask for. The words are read in one narrow form: the command, then its options in a fixed order, each as two words and
+//! at most once, and then pair words.
 //!
 //! ```text
 //! list
-//! encrypt --keyring NAME [--frame N]
-//! decrypt --keyring NAME [--max-unit N]
+//! encrypt --keyring NAME [--frame N] [--max-keys N] PAIR..
+//! decrypt --keyring NAME [--max-keys N] [--max-unit N] PAIR..
 //! ```
 //!
-//! `specs/Words.antt` says what words ask for, `specs/Spelling.antt` the same without reading.
+//! A pair word is `KEY=VALUE`, `KEY:=VALUE` where the key is required, or `KEY:` where it is required and no pair is given.
+//!
+//! `specs/Words.antt` says what words ask for, `specs/PairWords.antt` what a pair word says, `specs/Spelling.antt` the same without reading.
 #![tactic(auto)]
 
 mod form;
 mod laws;
 mod numbers;
 mod options;
+mod pair_words;
 mod request;
 mod words;
 
-pub use laws::{bad_numbers_are_named, requests_are_read, written_numbers_are_read};
+pub use laws::{
+    bad_numbers_are_named, bad_pairs_are_named, other_words_are_not_built, requests_are_read,
+    written_numbers_are_read,
+};
 pub use options::{OptionName, option_text};
+pub use pair_words::{PairWord, PairWords};
 pub use request::{DecryptWords, EncryptWords, Request, WordsFault};
 pub use words::read_words;
 

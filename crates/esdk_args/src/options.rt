@@ -8,6 +8,8 @@ ghost use Rattle.esdk_args.specs.Options.{option_text, greatest};
 pub enum OptionName {
     /// `--frame` of `encrypt`: the frame length in bytes, 1 to 4,294,967,295.
     Frame,
+    /// `--max-keys` of `encrypt` and `decrypt`: the greatest number of encrypted data keys, 1 to 65,535.
+    MaxKeys,
     /// `--max-unit` of `decrypt`: the greatest length in bytes of a frame or a single block, 1 to 68,719,476,704.
     MaxUnit,
 }
@@ -18,6 +20,7 @@ pub fn option_text(name: OptionName) -> &'static str
 {
     match name {
         OptionName::Frame => "--frame",
+        OptionName::MaxKeys => "--max-keys",
         OptionName::MaxUnit => "--max-unit",
     }
 }
@@ -28,6 +31,7 @@ pub(crate) fn greatest(name: OptionName) -> u64
 {
     match name {
         OptionName::Frame => 4_294_967_295,
+        OptionName::MaxKeys => 65_535,
         OptionName::MaxUnit => 68_719_476_704,
     }
 }

@@ -1,8 +1,9 @@
 //! What the words can ask for, and why they may ask for nothing.
 
 use crate::options::OptionName;
+use crate::pair_words::PairWords;
 use esdk_fields::Text;
-use std::alloc::AllocError;
+use std::alloc::{AllocError, AllocFailed};
 
 /// What the words ask for.
 #[derive(Drop)]
@@ -22,6 +23,10 @@ pub struct EncryptWords {
     pub keyring: Text,
     /// The frame length in bytes, at least 1; 4,096 where the words give none.
     pub frame: u32,
+    /// The greatest number of encrypted data keys, 1 to 65,535; None where the words give none.
+    pub max_keys: Option<u16>,
+    /// The pairs of the context, and the keys that are required.
+    pub pairs: PairWords,
 }
 
 /// What the words say of a decryption.
@@ -29,8 +34,12 @@ pub struct EncryptWords {
 pub struct DecryptWords {
     /// The name of the keyring file.
     pub keyring: Text,
+    /// The greatest number of encrypted data keys, 1 to 65,535; None where the words give none.
+    pub max_keys: Option<u16>,
     /// The greatest length in bytes of a frame or a single block, 1 to 68,719,476,704; None where the words give none.
     pub max_unit: Option<u64>,
+    /// The given pairs of the context, and the keys that are required.
+    pub pairs: PairWords,
 }
 
 /// Why the words ask for nothing.
@@ -38,8 +47,11 @@ pub struct DecryptWords {
 pub enum WordsFault {
     /// The words aren't of the form, or name no command.
     NotBuilt,
-    /// The words are of the form, and this option's word isn't 1 to 20 digits that write a number of its range.
+    /// The words are of the form, and this option is the first whose word isn't 1 to 20 digits that write a number of its range.
     BadNumber(OptionName),
+    /// The words are of the form, the numbers are good, and the pair word of this number is the first that has neither form or whose key is empty. Pair words
+    /// are counted from 1, and the count stands still at 4,294,967,295.
+    BadPair(u32),
     /// Memory ran out.
     Memory,
 }
@@ -51,6 +63,17 @@ impl From<AllocError> for WordsFault {
     ghost from_gives = { λ _ e. e ≡ Memory };
 
     fn from(_: AllocError) -> WordsFault {
+        WordsFault::Memory
+    }
+}
+
+impl<T: Drop> From<AllocFailed<T>> for WordsFault {
+    ghost use Rattle.std.specs.Prelude.{◌≡◌};
+    ghost use Rattle.esdk_args.specs.declared.request.WordsFault.TheVariants.{Memory};
+
+    ghost from_gives = { λ _ e. e ≡ Memory };
+
+    fn from(_: AllocFailed<T>) -> WordsFault {
         WordsFault::Memory
     }
 }

@@ -1,238 +1,258 @@
+//! Lists of words of each form, and what they ask for. The words of a line stand between bars.
+
 use super::*;
 use esdk_fields::Text;
-use std::alloc::{AllocError, Global};
-use std::test::Fail;
+use std::alloc::Global;
 
-/// What these words ask for, in one line. The words stand between bars.
-fn reading(alloc: Global, line: &str) -> Result<String, AllocError> {
+/// What the words of the line ask for.
+fn read(alloc: Global, line: &str) -> Result<Request, WordsFault> {
     let mut words = Vec::new(alloc);
     for word in line.split('|') {
         words.push(Text::new(alloc, word)?)?;
     }
-    shown(alloc, read_words(alloc, &words))
+    read_words(alloc, &words)
 }
 
-/// What was read, in one line: a request with its fields, or a fault.
-fn shown(alloc: Global, read: Result<Request, WordsFault>) -> Result<String, AllocError> {
-    match read {
-        Ok(Request::List) => String::from_str(alloc, "list"),
+/// What is asked for with this pair word.
+fn read_pair(alloc: Global, word: &str) -> Result<Request, WordsFault> {
+    let line = ["encrypt|--keyring|k|", word].concat(alloc)?;
+    read(alloc, line.as_str())
+}
+
+/// Whether the line isn't built.
+fn is_not_built(alloc: Global, line: &str) -> bool {
+    matches!(read(alloc, line), Err(WordsFault::NotBuilt))
+}
+
+/// Whether this option's number is the bad one in the line.
+fn is_bad_number(alloc: Global, name: OptionName, line: &str) -> bool {
+    match read(alloc, line) {
+        Err(WordsFault::BadNumber(bad)) => bad == name,
+        _other => false,
+    }
+}
+
+/// Whether the pair word of this number is the bad one in the line.
+fn is_bad_pair(alloc: Global, n: u32, line: &str) -> bool {
+    match read(alloc, line) {
+        Err(WordsFault::BadPair(bad)) => bad == n,
+        _other => false,
+    }
+}
+
+/// Whether the line asks for an encryption with this frame length, this greatest number of keys, and so many pairs.
+fn encrypts(alloc: Global, line: &str, frame: u32, max_keys: Option<u16>, pairs: usize) -> bool {
+    match read(alloc, line) {
         Ok(Request::Encrypt(asked)) => {
-            let keyring = asked.keyring.as_str();
-            let frame = asked.frame;
-            format!(in alloc; "encrypt [{keyring}] {frame}")
+            asked.keyring.as_str() == "k"
+                && asked.frame == frame
+                && asked.max_keys == max_keys
+                && asked.pairs.words().len() == pairs
         }
+        _other => false,
+    }
+}
+
+/// Whether the line asks for a decryption with this greatest number of keys, this greatest unit, and so many pairs.
+fn decrypts(
+    alloc: Global,
+    line: &str,
+    max_keys: Option<u16>,
+    max_unit: Option<u64>,
+    pairs: usize,
+) -> bool {
+    match read(alloc, line) {
         Ok(Request::Decrypt(asked)) => {
-            let keyring = asked.keyring.as_str();
-            match asked.max_unit {
-                Some(most) => format!(in alloc; "decrypt [{keyring}] {most}"),
-                None => format!(in alloc; "decrypt [{keyring}]"),
-            }
+            asked.keyring.as_str() == "k"
+                && asked.max_keys == max_keys
+                && asked.max_unit == max_unit
+                && asked.pairs.words().len() == pairs
         }
-        Err(WordsFault::NotBuilt) => String::from_str(alloc, "NotBuilt"),
-        Err(WordsFault::BadNumber(name)) => {
-            let option = option_text(name);
-            format!(in alloc; "BadNumber {option}")
+        _other => false,
+    }
+}
+
+/// Whether the pair word says this of the key.
+fn says(alloc: Global, word: &str, key: &str, value: Option<&str>, required: bool) -> bool {
+    match read_pair(alloc, word) {
+        Ok(Request::Encrypt(asked)) => says_only(asked.pairs.words(), key, value, required),
+        _other => false,
+    }
+}
+
+/// Whether there is one pair word, and it says this.
+fn says_only(words: &[PairWord], key: &str, value: Option<&str>, required: bool) -> bool {
+    match words {
+        [only] => {
+            only.key.as_str() == key && is_value(&only.value, value) && only.required == required
         }
-        Err(WordsFault::Memory) => Err(AllocError),
+        _others => false,
     }
 }
 
-#[test]
-fn each_form_is_read(rt: HostRuntime) -> Result<(), Fail> {
-    let alloc = rt.alloc();
-    for (line, want) in [
-        ("list", "list"),
-        ("encrypt|--keyring|keys", "encrypt [keys] 4096"),
-        ("encrypt|--keyring|keys|--frame|512", "encrypt [keys] 512"),
-        ("decrypt|--keyring|keys", "decrypt [keys]"),
-        (
-            "decrypt|--keyring|keys|--max-unit|65536",
-            "decrypt [keys] 65536",
-        ),
-    ] {
-        assert_eq!(rt; reading(alloc, line)?.as_str(), want, "at {line}");
+/// Whether the value is this one, or there is none where none is wanted.
+fn is_value(value: &Option<Text>, want: Option<&str>) -> bool {
+    match (value, want) {
+        (Some(value), Some(want)) => value.as_str() == want,
+        (None, None) => true,
+        _other => false,
     }
-    Ok(())
+}
+
+/// Whether the only pair word is bad.
+fn is_bad(alloc: Global, word: &str) -> bool {
+    matches!(read_pair(alloc, word), Err(WordsFault::BadPair(1)))
 }
 
 #[test]
-fn a_value_is_any_word_that_starts_with_no_dash(rt: HostRuntime) -> Result<(), Fail> {
-    let alloc = rt.alloc();
-    for (line, want) in [
-        ("encrypt|--keyring|", "encrypt [] 4096"),
-        ("decrypt|--keyring||--max-unit|1", "decrypt [] 1"),
-        ("encrypt|--keyring|a=b", "encrypt [a=b] 4096"),
-        ("encrypt|--keyring|list", "encrypt [list] 4096"),
-        ("decrypt|--keyring|a-b c-", "decrypt [a-b c-]"),
-        (
-            "decrypt|--keyring|\u{e9}\u{4e16}",
-            "decrypt [\u{e9}\u{4e16}]",
-        ),
-        ("encrypt|--keyring|-x", "NotBuilt"),
-        ("encrypt|--keyring|-", "NotBuilt"),
-        ("encrypt|--keyring|--frame", "NotBuilt"),
-        ("decrypt|--keyring|--keyring", "NotBuilt"),
-        ("encrypt|--keyring|keys|--frame|-1", "NotBuilt"),
-        ("decrypt|--keyring|keys|--max-unit|-", "NotBuilt"),
-    ] {
-        assert_eq!(rt; reading(alloc, line)?.as_str(), want, "at {line}");
-    }
-    Ok(())
+fn a_listing_is_read(rt: HostRuntime) {
+    assert!(rt; matches!(read(rt.alloc(), "list"), Ok(Request::List)));
 }
 
 #[test]
-fn other_words_are_not_built(rt: HostRuntime) -> Result<(), Fail> {
+fn encryptions_are_read(rt: HostRuntime) {
     let alloc = rt.alloc();
-    let none = shown(alloc, read_words(alloc, &[]))?;
-    assert_eq!(rt; none.as_str(), "NotBuilt", "at no words");
-    for line in [
-        "",
-        "List",
-        "lists",
-        " list",
-        "list|x",
-        "list|list",
-        "list|--keyring|keys",
-        "|list",
-        "batch",
-        "batch|--jobs|jobs",
-        "gen|--seed|1|--size|1",
-        "--keyring|keys",
-        "--keyring|keys|encrypt",
-        "encrypt",
-        "decrypt",
-        "encrypt|keys",
-        "encrypt|--keyring",
-        "encrypt|--keyring=keys",
-        "encrypt|--keyrin|keys",
-        "Encrypt|--keyring|keys",
-        "encrypt|--frame|1",
-        "encrypt|--frame|1|--keyring|keys",
-        "encrypt|--keyring|keys|--frame",
-        "encrypt|--keyring|keys|--frame=1",
-        "encrypt|--keyring|keys|--frame|1|--frame|1",
-        "encrypt|--keyring|keys|--keyring|keys",
-        "encrypt|--keyring|keys|x",
-        "encrypt|--keyring|keys|",
-        "encrypt|--keyring|keys|a=b",
-        "encrypt|--keyring|keys|--frame|1|a=b",
-        "encrypt|--keyring|keys|--max-keys|1",
-        "encrypt|--keyring|keys|--max-unit|1",
-        "decrypt|--keyring|keys|--frame|1",
-        "decrypt|--keyring|keys|--max-keys|1",
-        "decrypt|--max-unit|1|--keyring|keys",
-        "decrypt|--keyring|keys|--max-unit",
-        "decrypt|--keyring|keys|--max-unit|1|--max-unit|1",
-        "decrypt|--keyring|keys|--max-unit|1|x",
-    ] {
-        assert_eq!(rt; reading(alloc, line)?.as_str(), "NotBuilt", "at {line}");
-    }
-    Ok(())
+    assert!(rt; encrypts(alloc, "encrypt|--keyring|k", 4096, None, 0));
+    let line = "encrypt|--keyring|k|--frame|512|a=1";
+    assert!(rt; encrypts(alloc, line, 512, None, 1));
+    let line = "encrypt|--keyring|k|--max-keys|2";
+    assert!(rt; encrypts(alloc, line, 4096, Some(2), 0));
+    let line = "encrypt|--keyring|k|--frame|1|--max-keys|2|a=1|b:=2|c:";
+    assert!(rt; encrypts(alloc, line, 1, Some(2), 3));
 }
 
 #[test]
-fn a_frame_length_is_1_to_4294967295(rt: HostRuntime) -> Result<(), Fail> {
+fn decryptions_are_read(rt: HostRuntime) {
     let alloc = rt.alloc();
-    for (number, want) in [
-        ("1", "encrypt [keys] 1"),
-        ("4096", "encrypt [keys] 4096"),
-        ("4294967295", "encrypt [keys] 4294967295"),
-        ("00000000000000000001", "encrypt [keys] 1"),
-        ("00000000004294967295", "encrypt [keys] 4294967295"),
-        ("0", "BadNumber --frame"),
-        ("00000000000000000000", "BadNumber --frame"),
-        ("4294967296", "BadNumber --frame"),
-        ("00000000004294967296", "BadNumber --frame"),
-        ("68719476704", "BadNumber --frame"),
-        ("18446744073709551616", "BadNumber --frame"),
-        ("18446744073709551617", "BadNumber --frame"),
-        ("99999999999999999999", "BadNumber --frame"),
-    ] {
-        let line = format!(in alloc; "encrypt|--keyring|keys|--frame|{number}")?;
-        assert_eq!(rt;
-            reading(alloc, line.as_str())?.as_str(),
-            want,
-            "at {number}"
-        );
-    }
-    Ok(())
+    assert!(rt; decrypts(alloc, "decrypt|--keyring|k", None, None, 0));
+    let line = "decrypt|--keyring|k|--max-keys|1|a=1";
+    assert!(rt; decrypts(alloc, line, Some(1), None, 1));
+    let line = "decrypt|--keyring|k|--max-unit|4095";
+    assert!(rt; decrypts(alloc, line, None, Some(4095), 0));
+    let line = "decrypt|--keyring|k|--max-keys|1|--max-unit|4095|a=1|b:=2|c:";
+    assert!(rt; decrypts(alloc, line, Some(1), Some(4095), 3));
 }
 
 #[test]
-fn a_greatest_unit_is_1_to_68719476704(rt: HostRuntime) -> Result<(), Fail> {
-    let alloc = rt.alloc();
-    for (number, want) in [
-        ("1", "decrypt [keys] 1"),
-        ("4294967296", "decrypt [keys] 4294967296"),
-        ("68719476704", "decrypt [keys] 68719476704"),
-        ("00000000068719476704", "decrypt [keys] 68719476704"),
-        ("0", "BadNumber --max-unit"),
-        ("68719476705", "BadNumber --max-unit"),
-        ("18446744073709551615", "BadNumber --max-unit"),
-        ("18446744073709551617", "BadNumber --max-unit"),
-        ("99999999999999999999", "BadNumber --max-unit"),
-    ] {
-        let line = format!(in alloc; "decrypt|--keyring|keys|--max-unit|{number}")?;
-        assert_eq!(rt;
-            reading(alloc, line.as_str())?.as_str(),
-            want,
-            "at {number}"
-        );
-    }
-    Ok(())
+fn greatest_numbers_are_read(rt: HostRuntime) {
+    let line = "encrypt|--keyring|k|--frame|4294967295|--max-keys|65535";
+    assert!(rt; encrypts(rt.alloc(), line, 4294967295, Some(65535), 0));
+    let line = "decrypt|--keyring|k|--max-keys|00000000000000065535|--max-unit|68719476704";
+    assert!(rt; decrypts(rt.alloc(), line, Some(65535), Some(68719476704), 0));
 }
 
 #[test]
-fn a_number_is_1_to_20_digits_and_nothing_else(rt: HostRuntime) -> Result<(), Fail> {
+fn pair_words_are_read(rt: HostRuntime) {
     let alloc = rt.alloc();
-    for number in [
-        "",
-        "000000000000000000001",
-        "100000000000000000000",
-        "+1",
-        " 1",
-        "1 ",
-        "1a",
-        "a",
-        "0x1",
-        "1.0",
-        "1_000",
-        "1e3",
-        "\u{661}",
-        "\u{ff11}",
-        "1\u{0}",
-        "/",
-        ":",
-    ] {
-        let frame = format!(in alloc; "encrypt|--keyring|keys|--frame|{number}")?;
-        assert_eq!(rt;
-            reading(alloc, frame.as_str())?.as_str(),
-            "BadNumber --frame",
-            "at {number}"
-        );
-        let unit = format!(in alloc; "decrypt|--keyring|keys|--max-unit|{number}")?;
-        assert_eq!(rt;
-            reading(alloc, unit.as_str())?.as_str(),
-            "BadNumber --max-unit",
-            "at {number}"
-        );
-    }
-    Ok(())
+    assert!(rt; says(alloc, "tenant=acme", "tenant", Some("acme"), false));
+    assert!(rt; says(alloc, "tenant:=acme", "tenant", Some("acme"), true));
+    assert!(rt; says(alloc, "tenant:", "tenant", None, true));
 }
 
 #[test]
-fn a_bad_number_comes_only_where_the_words_are_of_the_form(rt: HostRuntime) -> Result<(), Fail> {
+fn pair_words_are_split_at_the_first_equals_sign(rt: HostRuntime) {
     let alloc = rt.alloc();
-    for line in [
-        "encrypt|--keyring|keys|--frame|0|x",
-        "encrypt|--keyring|-k|--frame|0",
-        "encrypt|--frame|0",
-        "encrypt|--keyring|keys|--max-unit|0",
-        "decrypt|--keyring|keys|--frame|0",
-        "decrypt|--keyring|-k|--max-unit|x",
-        "list|--frame|0",
-    ] {
-        assert_eq!(rt; reading(alloc, line)?.as_str(), "NotBuilt", "at {line}");
-    }
-    Ok(())
+    assert!(rt; says(alloc, "a=b=c:", "a", Some("b=c:"), false));
+    assert!(rt; says(alloc, "a=", "a", Some(""), false));
+    assert!(rt; says(alloc, "\u{e9}:b=-", "\u{e9}:b", Some("-"), false));
+}
+
+#[test]
+fn one_colon_is_taken_off(rt: HostRuntime) {
+    let alloc = rt.alloc();
+    assert!(rt; says(alloc, "a::=b", "a:", Some("b"), true));
+    assert!(rt; says(alloc, "::", ":", None, true));
+}
+
+#[test]
+fn words_without_a_key_are_bad(rt: HostRuntime) {
+    let alloc = rt.alloc();
+    assert!(rt; is_bad(alloc, "=x") && is_bad(alloc, ":=x") && is_bad(alloc, ":"));
+}
+
+#[test]
+fn words_of_neither_form_are_bad(rt: HostRuntime) {
+    let alloc = rt.alloc();
+    assert!(rt; is_bad(alloc, "abc") && is_bad(alloc, "a:b") && is_bad(alloc, ""));
+}
+
+#[test]
+fn the_first_bad_pair_is_named(rt: HostRuntime) {
+    let line = "decrypt|--keyring|k|--max-keys|1|a=1|b:|abc|:";
+    assert!(rt; is_bad_pair(rt.alloc(), 3, line));
+}
+
+#[test]
+fn options_out_of_order_are_not_built(rt: HostRuntime) {
+    let alloc = rt.alloc();
+    assert!(rt; is_not_built(alloc, "encrypt|--frame|1|--keyring|k"));
+    assert!(rt; is_not_built(alloc, "encrypt|--keyring|k|--max-keys|1|--frame|1"));
+    assert!(rt; is_not_built(alloc, "decrypt|--keyring|k|--max-unit|1|--max-keys|1"));
+    assert!(rt; is_not_built(alloc, "encrypt|--keyring|k|--frame|1|--frame|1"));
+    assert!(rt; is_not_built(alloc, "encrypt|--keyring|k|a=1|--frame|1"));
+}
+
+#[test]
+fn options_of_another_command_are_not_built(rt: HostRuntime) {
+    let alloc = rt.alloc();
+    assert!(rt; is_not_built(alloc, "encrypt|--keyring|k|--max-unit|1"));
+    assert!(rt; is_not_built(alloc, "decrypt|--keyring|k|--frame|1"));
+    assert!(rt; is_not_built(alloc, "list|--keyring|k"));
+}
+
+#[test]
+fn other_words_are_not_built(rt: HostRuntime) {
+    let alloc = rt.alloc();
+    assert!(rt; matches!(read_words(alloc, &[]), Err(WordsFault::NotBuilt)));
+    assert!(rt; is_not_built(alloc, "List") && is_not_built(alloc, "list|a=1"));
+    assert!(rt; is_not_built(alloc, "encrypt") && is_not_built(alloc, "encrypt|--keyring"));
+    assert!(rt; is_not_built(alloc, "encrypt|k") && is_not_built(alloc, "encrypt|--keyring=k"));
+    assert!(rt; is_not_built(alloc, "batch|--keyring|k"));
+}
+
+#[test]
+fn words_with_a_dash_are_no_values(rt: HostRuntime) {
+    let alloc = rt.alloc();
+    assert!(rt; is_not_built(alloc, "encrypt|--keyring|-"));
+    assert!(rt; is_not_built(alloc, "encrypt|--keyring|k|--frame|-1"));
+    assert!(rt; is_not_built(alloc, "encrypt|--keyring|k|a=1|-a=1"));
+}
+
+#[test]
+fn numbers_beyond_their_ranges_are_bad(rt: HostRuntime) {
+    let alloc = rt.alloc();
+    let line = "encrypt|--keyring|k|--frame|00000000004294967296";
+    assert!(rt; is_bad_number(alloc, OptionName::Frame, line));
+    let line = "decrypt|--keyring|k|--max-unit|68719476705";
+    assert!(rt; is_bad_number(alloc, OptionName::MaxUnit, line));
+}
+
+#[test]
+fn a_greatest_number_of_keys_is_1_to_65535(rt: HostRuntime) {
+    let alloc = rt.alloc();
+    let none = "encrypt|--keyring|k|--max-keys|0";
+    assert!(rt; is_bad_number(alloc, OptionName::MaxKeys, none));
+    let more = "decrypt|--keyring|k|--max-keys|65536";
+    assert!(rt; is_bad_number(alloc, OptionName::MaxKeys, more));
+}
+
+#[test]
+fn words_that_are_no_numbers_are_bad(rt: HostRuntime) {
+    let alloc = rt.alloc();
+    let long = "encrypt|--keyring|k|--frame|000000000000000000001";
+    assert!(rt; is_bad_number(alloc, OptionName::Frame, long));
+    let sign = "encrypt|--keyring|k|--frame|+1";
+    assert!(rt; is_bad_number(alloc, OptionName::Frame, sign));
+    let none = "encrypt|--keyring|k|--frame|";
+    assert!(rt; is_bad_number(alloc, OptionName::Frame, none));
+}
+
+#[test]
+fn the_first_fault_is_named(rt: HostRuntime) {
+    let alloc = rt.alloc();
+    let both = "encrypt|--keyring|k|--frame|0|--max-keys|0|=";
+    assert!(rt; is_bad_number(alloc, OptionName::Frame, both));
+    let second = "encrypt|--keyring|k|--frame|1|--max-keys|0|=";
+    assert!(rt; is_bad_number(alloc, OptionName::MaxKeys, second));
+    assert!(rt; is_not_built(alloc, "encrypt|--keyring|k|--frame|0|=|-"));
 }

@@ -1,24 +1,28 @@
 //! Reading the words.
 
-ghost use Rattle.std.specs.Prelude.{◌≡◌, ◌≤◌, IfOk};
-ghost use Rattle.esdk_args.specs.Words.{words_of, encrypt_of, decrypt_of, Answers, HasFrame};
+ghost use Rattle.std.specs.Prelude.{IfOk};
+ghost use Rattle.esdk_args.specs.Faults.{Answers};
 ghost use Rattle.esdk_args.specs.Found.{options_value};
+ghost use Rattle.esdk_args.specs.Words.{words_of, encrypt_of, decrypt_of, HasFrame};
 
 use crate::form::{Form, Options, form_of};
-use crate::numbers::number_of;
-use crate::options::OptionName;
+use crate::numbers::{frame_given, max_keys_given, max_unit_given};
+use crate::pair_words::pairs_of;
 use crate::request::{DecryptWords, EncryptWords, Request, WordsFault};
 use esdk_fields::Text;
 use std::alloc::Global;
 
-/// The frame length where the words give none.
-const DEFAULT_FRAME: u32 = 4096;
-
 /// What the words ask for. The program's own name isn't among them.
 ///
-/// `NotBuilt` where they are not `list`, not `encrypt --keyring NAME` with `--frame N` or nothing behind it, and not `decrypt --keyring NAME` with
-/// `--max-unit N` or nothing behind it, where no NAME and no N starts with `-`. Else `BadNumber` with the option where N isn't 1 to 20 digits, or the number
-/// isn't in the option's range. `Memory` where memory runs out.
+/// ```text
+/// list
+/// encrypt --keyring NAME [--frame N] [--max-keys N] PAIR..
+/// decrypt --keyring NAME [--max-keys N] [--max-unit N] PAIR..
+/// ```
+///
+/// `NotBuilt` where the words are of none of these forms; no NAME, N and PAIR starts with `-`. Else `BadNumber` with the first option whose N isn't 1 to 20
+/// digits that write a number of its range. Else `BadPair` with the number of the first PAIR that is none of `KEY=VALUE`, `KEY:=VALUE` and `KEY:`, where KEY
+/// isn't empty and has no `=`; they are counted from 1. `Memory` where memory runs out.
 #[tactic(auto, unfolding(crate::specs::Words::words_of))]
 pub fn read_words(alloc: Global, words: &[Text]) -> Result<Request, WordsFault>
     ensures read { Answers result (words_of words.now) }
@@ -37,12 +41,16 @@ fn encrypt_words(alloc: Global, options: Options<'_>) -> Result<Request, WordsFa
     ensures read { Answers result (encrypt_of (options_value options.entry)) }
     ensures frame { IfOk result HasFrame }
 {
-    let frame = match options.number {
-        Some(word) => number_of(OptionName::Frame, word.as_str())? as u32,
-        None => DEFAULT_FRAME,
-    };
+    let frame = frame_given(options.first)?;
+    let max_keys = max_keys_given(options.second)?;
+    let pairs = pairs_of(alloc, options.pairs)?;
     let keyring = Text::new(alloc, options.keyring.as_str())?;
-    Ok(Request::Encrypt(EncryptWords { keyring, frame }))
+    Ok(Request::Encrypt(EncryptWords {
+        keyring,
+        frame,
+        max_keys,
+        pairs,
+    }))
 }
 
 /// The decryption that these options ask for.
@@ -50,10 +58,14 @@ fn decrypt_words(alloc: Global, options: Options<'_>) -> Result<Request, WordsFa
     ensures read { Answers result (decrypt_of (options_value options.entry)) }
     ensures frame { IfOk result HasFrame }
 {
-    let max_unit = match options.number {
-        Some(word) => Some(number_of(OptionName::MaxUnit, word.as_str())?),
-        None => None,
-    };
+    let max_keys = max_keys_given(options.first)?;
+    let max_unit = max_unit_given(options.second)?;
+    let pairs = pairs_of(alloc, options.pairs)?;
     let keyring = Text::new(alloc, options.keyring.as_str())?;
-    Ok(Request::Decrypt(DecryptWords { keyring, max_unit }))
+    Ok(Request::Decrypt(DecryptWords {
+        keyring,
+        max_keys,
+        max_unit,
+        pairs,
+    }))
 }

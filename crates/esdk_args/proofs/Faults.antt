@@ -1,0 +1,137 @@
+-- Which words have which fault.
+use Rattle.std.proofs.Common.{◌≡◌, ◌≢◌, ℕ, List, sym, subst, refl, ◌∙◌, inl, inr}
+use Rattle.std.specs.Prelude.{Some, None, Err}
+use Rattle.esdk_args.specs.declared.options.OptionName.{OptionName}
+use Rattle.esdk_args.specs.declared.request.WordsFault.{WordsFault}
+use Rattle.esdk_args.specs.declared.request.WordsFault.TheVariants.{NotBuilt, BadNumber, BadPair, Memory}
+use Rattle.esdk_args.specs.Form.{FormValue, OptionsValue, list, form_of}
+use Rattle.esdk_args.specs.PairWords.{pairs_of}
+use Rattle.esdk_args.specs.Numbers.{number_given}
+use Rattle.esdk_args.specs.Words.{words_of}
+use Rattle.esdk_args.specs.Spelling.{AreForm, AreNoForm, Command, HasBadNumber, HasBadPair, first_of, second_of}
+use Rattle.esdk_args.proofs.Given.{bad_is, bad_read, good_is, good_read}
+use Rattle.esdk_args.proofs.Pairs.{first_bad_is, first_bad_named}
+use Rattle.esdk_args.proofs.Forms.{form_read, form_with, with_command}
+use Rattle.esdk_args.proofs.Steps.{HasFault, Kind, command_words, faulty, in_first, in_pairs, in_second, kind, made, of_command, of_list, of_none, request_with, steps_fail}
+
+-- the steps of a command with options
+abbrev StepsFail : Command → OptionsValue → WordsFault → Type 0
+StepsFail command options fault = HasFault (number_given (first_of command) options.first) (number_given (second_of command) options.second) (pairs_of options.pairs) fault
+
+step_named : (command : Command) (words : List (List ℕ)) (options : OptionsValue) (fault : WordsFault) → AreForm command words options → StepsFail command options fault → words_of words ≡ Err fault
+step_named command words options fault form fails =
+    command_words command words options form
+    ∙ steps_fail (number_given (first_of command) options.first) (number_given (second_of command) options.second) (pairs_of options.pairs) (made command options.keyring) fault fails
+
+-- the fault that words of a command have
+data HaveFault (words : List (List ℕ)) (fault : WordsFault) : Type 0 where
+  bad_number : (name : OptionName) → BadNumber name ≡ fault → HasBadNumber words name → HaveFault words fault
+  bad_pair : (n : ℕ) → BadPair n ≡ fault → HasBadPair words n → HaveFault words fault
+
+by_step : (command : Command) (words : List (List ℕ)) (options : OptionsValue) (fault : WordsFault) → AreForm command words options
+    → StepsFail command options fault → HaveFault words fault
+by_step command words options fault form (in_first e) =
+    let bad = bad_is (first_of command) options.first fault e in
+    bad_number (first_of command) bad.0 (record { command = command; options = options; form = form; first_bad = inl (refl, bad.1) })
+by_step command words options fault form (in_second one first e) =
+    let bad = bad_is (second_of command) options.second fault e in
+    bad_number (second_of command) bad.0 (record { command = command; options = options; form = form; first_bad = inr (good_is (first_of command) options.first one first, refl, bad.1) })
+by_step command words options fault form (in_pairs one two first second e) =
+    let bad = first_bad_is options.pairs fault form.pairs e in
+    bad_pair bad.0 bad.1 (record {
+      command = command;
+      options = options;
+      form = form;
+      first = good_is (first_of command) options.first one first;
+      second = good_is (second_of command) options.second two second;
+      bad = bad.2;
+    })
+
+fault_of : (command : Command) (words : List (List ℕ)) (options : OptionsValue) (fault : WordsFault) → AreForm command words options → request_with command options ≡ Err fault → HaveFault words fault
+fault_of command words options fault form e =
+    by_step command words options fault form
+    (faulty (number_given (first_of command) options.first) (number_given (second_of command) options.second) (pairs_of options.pairs) (made command options.keyring) fault e)
+
+-- what words with a fault are
+data AreFaulty (words : List (List ℕ)) (fault : WordsFault) : Type 0 where
+  not_built : form_of words ≡ None → NotBuilt ≡ fault → AreFaulty words fault
+  built : HaveFault words fault → AreFaulty words fault
+
+are_faulty : (words : List (List ℕ)) (fault : WordsFault) → words_of words ≡ Err fault → AreFaulty words fault
+are_faulty words fault e = by_kind (kind words)
+  where
+    by_kind : Kind words → AreFaulty words fault
+    by_kind (of_list are is) = absurd cc
+    by_kind (of_command command options form is) = built (fault_of command words options fault form (sym is ∙ e))
+    by_kind (of_none none is) = not_built none (cc (sym is ∙ e))
+
+-- ---- no form
+
+none_read : (words : List (List ℕ)) (form : FormValue) → form_of words ≡ None → form_of words ≡ Some form → ⊥
+none_read words form none some = cc
+
+no_form : (words : List (List ℕ)) → form_of words ≡ None → AreNoForm words
+no_form words none = (
+  λ is. none_read words list none (form_read words list is),
+  λ command options form. none_read words (form_with command options) none (form_read words (form_with command options) (with_command command words options form)),
+)
+
+pub not_built_is : (words : List (List ℕ)) → words_of words ≡ Err NotBuilt → AreNoForm words
+not_built_is words e = by_fault (are_faulty words NotBuilt e)
+  where
+    by_fault : AreFaulty words NotBuilt → AreNoForm words
+    by_fault (not_built none is) = no_form words none
+    by_fault (built (bad_number name is has)) = absurd cc
+    by_fault (built (bad_pair n is has)) = absurd cc
+
+pub not_built_when : (words : List (List ℕ)) → AreNoForm words → words_of words ≡ Err NotBuilt
+not_built_when words other = by_kind (kind words)
+  where
+    by_kind : Kind words → words_of words ≡ Err NotBuilt
+    by_kind (of_list are is) = absurd (other.0 are)
+    by_kind (of_command command options form is) = absurd (other.1 command options form)
+    by_kind (of_none none is) = is
+
+-- ---- a bad number
+
+pub bad_number_is : (words : List (List ℕ)) (name : OptionName) → words_of words ≡ Err (BadNumber name) → HasBadNumber words name
+bad_number_is words name e = by_fault (are_faulty words (BadNumber name) e)
+  where
+    by_fault : AreFaulty words (BadNumber name) → HasBadNumber words name
+    by_fault (not_built none is) = absurd cc
+    by_fault (built (bad_number other is has)) = let same : other ≡ name = cc in subst (HasBadNumber words) same has
+    by_fault (built (bad_pair n is has)) = absurd cc
+
+pub bad_number_named : (words : List (List ℕ)) (name : OptionName) → HasBadNumber words name → words_of words ≡ Err (BadNumber name)
+bad_number_named words name h = step_named h.command words h.options (BadNumber name) h.form (elim h.first_bad [
+  | inl bad ↦ in_first (subst (λ k. number_given k h.options.first ≡ Err (BadNumber name)) bad.0 (bad_read name h.options.first bad.1))
+  | inr bad ↦
+      let first = good_read (first_of h.command) h.options.first bad.0 in
+      in_second first.0 first.1 (subst (λ k. number_given k h.options.second ≡ Err (BadNumber name)) bad.1 (bad_read name h.options.second bad.2))
+])
+
+-- ---- a bad pair
+
+pub bad_pair_is : (words : List (List ℕ)) (n : ℕ) → words_of words ≡ Err (BadPair n) → HasBadPair words n
+bad_pair_is words n e = by_fault (are_faulty words (BadPair n) e)
+  where
+    by_fault : AreFaulty words (BadPair n) → HasBadPair words n
+    by_fault (not_built none is) = absurd cc
+    by_fault (built (bad_number name is has)) = absurd cc
+    by_fault (built (bad_pair m is has)) = let same : m ≡ n = cc in subst (HasBadPair words) same has
+
+pub bad_pair_named : (words : List (List ℕ)) (n : ℕ) → HasBadPair words n → words_of words ≡ Err (BadPair n)
+bad_pair_named words n h =
+    let first = good_read (first_of h.command) h.options.first h.first in
+    let second = good_read (second_of h.command) h.options.second h.second in
+    step_named h.command words h.options (BadPair n) h.form (in_pairs first.0 second.0 first.1 second.1 (first_bad_named h.options.pairs n h.form.pairs h.bad))
+
+-- ---- want of memory
+
+pub never_memory : (words : List (List ℕ)) → words_of words ≢ Err Memory
+never_memory words e = by_fault (are_faulty words Memory e)
+  where
+    by_fault : AreFaulty words Memory → ⊥
+    by_fault (not_built none is) = cc
+    by_fault (built (bad_number name is has)) = cc
+    by_fault (built (bad_pair n is has)) = cc
