@@ -2,9 +2,10 @@
 use Rattle.std.proofs.Common.{◌≡◌, ◌∙◌, ℕ, List, ◌++◌, length, take, Option, Some, None, refl, sym, ap, subst, append-nil, take_at}
 use Rattle.std.specs.Io.KnownBytes.{Appends, Consumes, IsAtEnd}
 use Rattle.esdk_base.specs.Streams.{EntropyState, OnTold, SinkState, SourceState}
-use Rattle.keyring_trait.specs.Wrapping.{WrapKeyValue}
-use Rattle.esdk_encrypt.specs.Encrypt.{Encrypts, message_of}
+use Rattle.esdk_fields.specs.declared.refusals.Refusal.{Refusal}
+use Rattle.esdk_encrypt.specs.Encrypt.{Encrypts, drawn_id, message_of}
 use Rattle.esdk_encrypt.specs.Laws.{GainsMessage}
+use Rattle.esdk_encrypt.specs.Told.{Writer, asked_by, message_by}
 
 -- what was consumed of told bytes is their front
 consumed_first : (old new : Option (List ℕ)) (bytes : List ℕ) → Consumes old new bytes → OnTold old (λ coming. bytes ≡ take (length bytes) coming)
@@ -22,19 +23,22 @@ appended_told : (now : Option (List ℕ)) (before bytes : List ℕ) → Appends 
 appended_told None before bytes appended = absurd appended
 appended_told (Some written) before bytes appended = ap Some appended
 
-pub gains_message : (w : WrapKeyValue) (size : ℕ) (text before : List ℕ) (input taken : SourceState) (output put : SinkState) (entropy spent : EntropyState)
-    → input.left ≡ Some text → output.written ≡ Some before → Encrypts w size input taken output put entropy spent → GainsMessage w size text before entropy put
-gains_message w size text before input taken output put entropy spent left written encrypts =
+pub gains_message : (writer : Writer) (refusal : Option Refusal) (old new : ℕ) (text before : List ℕ) (input taken : SourceState) (output put : SinkState) (entropy spent : EntropyState)
+    → input.left ≡ Some text → output.written ≡ Some before → Encrypts (asked_by writer refusal old new) input taken output put entropy spent
+    → GainsMessage writer text before entropy put
+gains_message writer refusal old new text before input taken output put entropy spent left written encrypts =
     let drawn : List ℕ = encrypts.drawn in
     let writes = encrypts.writes in
+    let drew = encrypts.started.drew in
     let all : writes.text ≡ text =
     consumed_all taken.left writes.text text (subst (λ bytes. Consumes bytes taken.left writes.text) left writes.came.consumed) writes.end.end in
-    let gained : Appends (Some before) put.written (message_of w size drawn writes.text) =
-    subst (λ bytes. Appends bytes put.written (message_of w size drawn writes.text)) written writes.gained in
+    let message_is : message_of encrypts.materials writer.size (drawn_id drawn) writes.text ≡ message_by writer drawn text =
+    λ i. message_of (encrypts.started.given.1 i) writer.size (drawn_id drawn) (all i) in
+    let gained : Appends (Some before) put.written (message_by writer drawn text) =
+    subst (λ b. Appends (Some before) put.written b) message_is (subst (λ first. Appends first put.written (message_of encrypts.materials writer.size (drawn_id drawn) writes.text)) written writes.gained) in
     record {
       drawn = drawn;
-      count = encrypts.drew.count;
-      first = subst (λ (n : ℕ). OnTold entropy.to_come (λ coming. drawn ≡ take n coming)) encrypts.drew.count
-          (consumed_first entropy.to_come spent.to_come drawn encrypts.drew.consumed);
-      gained = appended_told put.written before (message_of w size drawn writes.text) gained ∙ ap (λ (t : List ℕ). Some (before ++ message_of w size drawn t)) all;
+      count = drew.count;
+      first = subst (λ (n : ℕ). OnTold entropy.to_come (λ coming. drawn ≡ take n coming)) drew.count (consumed_first entropy.to_come spent.to_come drawn drew.consumed);
+      gained = appended_told put.written before (message_by writer drawn text) gained;
     }

@@ -3,4 +3,5 @@ pub mod Fitting
 pub mod Gaining
 mod Laying
 mod Starting
+mod Telling
 mod Writing

@@ -1,7 +1,7 @@
 -- What encrypting an input comes to. Standard: AWS Encryption SDK Specification, "Encrypt".
-use Rattle.std.specs.Prelude.{◌≡◌, ℕ, ◌*◌, ◌-◌, ◌^◌, ◌<◌, ◌≤◌, List, [], ◌∷◌, ◌++◌, length, take, drop, ⊤, ◌⊎◌, Option, Some, None, Result, Ok, Err}
+use Rattle.std.specs.Prelude.{◌≡◌, ℕ, ◌+◌, ◌*◌, ◌-◌, ◌^◌, ◌<◌, ◌≤◌, List, ◌++◌, length, take, drop, ⊤, ◌⊎◌, Option, Some, None, Result, Ok, Err}
 use Rattle.std.specs.Io.KnownBytes.{Appends, Consumes, Keeps}
-use Rattle.esdk_base.specs.Counts.{Rose}
+use Rattle.esdk_fields.specs.Counts.{Rose}
 use Rattle.esdk_base.specs.Sink.{AppendsFront}
 use Rattle.esdk_base.specs.Streams.{EntropyState, SinkState, SourceState}
 use Rattle.esdk_fields.specs.declared.refusals.Outside.TheVariants as outsides
@@ -9,8 +9,14 @@ use Rattle.esdk_fields.specs.declared.refusals.Refusal.{Refusal}
 use Rattle.esdk_fields.specs.declared.refusals.Refusal.TheVariants as refusals
 use Rattle.context_codec.specs.declared.insert.PairError.{PairError}
 use Rattle.context_codec.specs.declared.insert.PairError.TheVariants as pairs
+use Rattle.context_codec.specs.Parts.{only_of, stored_of}
 use Rattle.header_codec.specs.Written.{header_refusal}
-use Rattle.keyring_trait.specs.Wrapping.{WrapKeyValue, made, wrap}
+use Rattle.keyring_trait.specs.declared.manager_errors.ManagerError.{ManagerError}
+use Rattle.keyring_trait.specs.declared.manager_errors.ManagerError.TheVariants as managers
+use Rattle.keyring_trait.specs.Manager.{ManagerMeaning, GivesMaterials, GivesNone}
+use Rattle.keyring_trait.specs.Materials.{EncMaterialsValue}
+use Rattle.keyring_trait.specs.Requests.{EncRequestValue}
+use Rattle.keyring_trait.specs.Wrapping.{WrapKeyValue}
 use Rattle.message_format.specs.Message.{header_body, header_tag, message}
 use Rattle.whole_input.specs.declared.taken.End.{End}
 use Rattle.whole_input.specs.declared.taken.End.TheVariants as ends
@@ -18,45 +24,37 @@ use Rattle.whole_input.specs.Taken.{Came, EndSeen, MostTaken}
 use Rattle.esdk_encrypt.specs.declared.errors.EncryptError.{EncryptError}
 use Rattle.esdk_encrypt.specs.declared.errors.EncryptError.TheVariants as errors
 
--- how many bytes are drawn: 32 of message id, 32 of data key, and 12 of the IV that wraps the data key
-abbrev pub draws : ℕ
-draws = 76
+-- how many bytes are drawn: 32 of message id, 32 of data key, and 12 of IV for each wrap of the data key
+abbrev pub draws : ℕ → ℕ
+draws wraps = 64 + 12 * wraps
 
--- the message id, the data key and the IV among the bytes drawn
+-- the message id among the bytes drawn, and what the materials are made with
 abbrev pub drawn_id : List ℕ → List ℕ
 drawn_id drawn = take 32 drawn
 
-abbrev pub drawn_key : List ℕ → List ℕ
-drawn_key drawn = take 32 (drop 32 drawn)
+abbrev pub drawn_rest : List ℕ → List ℕ
+drawn_rest drawn = drop 32 drawn
 
-abbrev pub drawn_iv : List ℕ → List ℕ
-drawn_iv drawn = drop 64 drawn
+-- the message of a text with these materials, in frames of this length, under this id
+abbrev pub message_of : EncMaterialsValue → ℕ → List ℕ → List ℕ → List ℕ
+message_of m size id text = message text m.context m.required size m.key m.entries id
 
--- The message of a text under one wrapping key, with this frame length, made with the bytes drawn. It has no encryption context.
-unfoldable pub message_of : WrapKeyValue → ℕ → List ℕ → List ℕ → List ℕ
-message_of w size drawn text =
-    message text [] [] size (drawn_key drawn) (made (w ∷ []) [] (drawn_key drawn) (drawn_iv drawn ∷ [])) (drawn_id drawn)
+-- what the message begins with: its header and the header's tag
+unfoldable pub start_of : EncMaterialsValue → ℕ → List ℕ → List ℕ
+start_of m size id =
+    let raw = header_body m.context m.required size m.key m.entries id in raw ++ header_tag raw (only_of m.required m.context) m.key id
 
--- what the message begins with: its header and the header's tag, with this message id, this data key, and this IV for its wrap
-unfoldable pub start_of : WrapKeyValue → ℕ → List ℕ → List ℕ → List ℕ → List ℕ
-start_of w size id key iv =
-    let raw = header_body [] [] size key (wrap w [] iv key ∷ []) id in raw ++ header_tag raw [] key id
-
--- why such a message can't begin: its header would be too long
-abbrev pub start_refusal : WrapKeyValue → List ℕ → List ℕ → List ℕ → Option Refusal
-start_refusal w id key iv = header_refusal id [] (wrap w [] iv key ∷ []) None
-
--- the same, of the bytes drawn
-abbrev pub refusal_of : WrapKeyValue → List ℕ → Option Refusal
-refusal_of w drawn = start_refusal w (drawn_id drawn) (drawn_key drawn) (drawn_iv drawn)
+-- why such a message can't begin: there are more entries than the limit (Q7), or its header would be too long (Q8)
+abbrev pub start_refusal : EncMaterialsValue → Option ℕ → List ℕ → Option Refusal
+start_refusal m max_keys id = header_refusal id (stored_of m.required m.context) m.entries max_keys
 
 -- how many bytes a message has room for: each frame's number has four bytes, and the greatest number is the mark of the final frame
 abbrev pub most_text : ℕ → ℕ
 most_text size = (2 ^ 32 - 1) * size
 
 -- Just these bytes came from the entropy, and no fill failed.
-pub record Drew (old new : EntropyState) (drawn : List ℕ) : Type 0 where
-  pub count : length drawn ≡ draws
+pub record Drew (wraps : ℕ) (old new : EntropyState) (drawn : List ℕ) : Type 0 where
+  pub count : length drawn ≡ draws wraps
   pub consumed : Consumes old.to_come new.to_come drawn
   pub faults : new.faults ≡ old.faults
 
@@ -108,48 +106,87 @@ StopsSo whole size input taken output put error = ⊥
 
 -- ---- the whole run
 
--- Bytes were drawn, the whole input was taken, and the output gained the message of it.
-pub record Encrypts (w : WrapKeyValue) (size : ℕ) (input taken : SourceState) (output put : SinkState) (entropy spent : EntropyState) : Type 0 where
-  pub drawn : List ℕ
-  pub drew : Drew entropy spent drawn
-  pub begins : refusal_of w drawn ≡ None
-  pub writes : Writes (message_of w size drawn) size input taken output put
+-- What a run is about: how many wraps the manager makes, what it gives for random bytes, and why it gives nothing; the frame length and the limit on entries.
+pub record Asked : Type 1 where
+  pub wraps : ℕ
+  pub gives : List ℕ → EncMaterialsValue → Type 0
+  pub gives_none : ManagerError → Type 0
+  pub size : ℕ
+  pub max_keys : Option ℕ
 
--- Bytes were drawn, and the message of the input wasn't written, or not whole.
-pub record EndsAfter (w : WrapKeyValue) (size : ℕ) (input taken : SourceState) (output put : SinkState) (entropy spent : EntropyState) (error : EncryptError) : Type 0 where
-  pub drawn : List ℕ
-  pub drew : Drew entropy spent drawn
-  pub begins : refusal_of w drawn ≡ None
-  pub stops : StopsSo (message_of w size drawn) size input taken output put error
+-- what is asked of a manager that means this before and that after it, tells these keys, and is exact or not
+abbrev pub asked_of : ManagerMeaning → ManagerMeaning → (List WrapKeyValue → Type 0) → Type 0 → EncRequestValue → ℕ → Option ℕ → Asked
+asked_of old new tells exact request size max_keys = record {
+  wraps = old.wraps;
+  gives = GivesMaterials old tells exact request;
+  gives_none = GivesNone old new exact request;
+  size = size;
+  max_keys = max_keys;
+}
 
--- A fill failed: nothing was drawn, taken or written.
-pub record EntropyFails (entropy spent : EntropyState) (untouched : Type 0) : Type 0 where
+-- Bytes were drawn, the manager gave materials for them, and a message can begin with these.
+pub record Begins (asked : Asked) (entropy spent : EntropyState) (drawn : List ℕ) (materials : EncMaterialsValue) : Type 0 where
+  pub drew : Drew asked.wraps entropy spent drawn
+  pub given : asked.gives (drawn_rest drawn) materials
+  pub begins : start_refusal materials asked.max_keys (drawn_id drawn) ≡ None
+
+-- Then the whole input was taken, and the output gained the message of it.
+pub record Encrypts (asked : Asked) (input taken : SourceState) (output put : SinkState) (entropy spent : EntropyState) : Type 0 where
+  pub drawn : List ℕ
+  pub materials : EncMaterialsValue
+  pub started : Begins asked entropy spent drawn materials
+  pub writes : Writes (message_of materials asked.size (drawn_id drawn)) asked.size input taken output put
+
+-- Then the message of the input wasn't written, or not whole.
+pub record EndsAfter (asked : Asked) (input taken : SourceState) (output put : SinkState) (entropy spent : EntropyState) (error : EncryptError) : Type 0 where
+  pub drawn : List ℕ
+  pub materials : EncMaterialsValue
+  pub started : Begins asked entropy spent drawn materials
+  pub stops : StopsSo (message_of materials asked.size (drawn_id drawn)) asked.size input taken output put error
+
+-- A fill failed: nothing was drawn, taken or written, and the manager wasn't asked.
+pub record EntropyFails (entropy spent : EntropyState) (untouched unasked : Type 0) : Type 0 where
   pub rose : Rose entropy.faults spent.faults
   pub kept : Keeps entropy.to_come spent.to_come
   pub same : untouched
+  pub manager : unasked
 
--- These bytes were drawn, and no header can be made of them; nothing was taken or written.
-pub record RefusesStart (w : WrapKeyValue) (entropy spent : EntropyState) (refusal : Refusal) (untouched : Type 0) : Type 0 where
+-- Bytes were drawn, and the manager gave nothing, for this reason; nothing was taken or written.
+pub record GivesNothing (asked : Asked) (entropy spent : EntropyState) (error : ManagerError) (untouched : Type 0) : Type 0 where
   pub drawn : List ℕ
-  pub drew : Drew entropy spent drawn
-  pub cause : refusal_of w drawn ≡ Some refusal
+  pub drew : Drew asked.wraps entropy spent drawn
+  pub cause : asked.gives_none error
+  pub same : untouched
+
+-- Bytes were drawn, the manager gave materials, and no header can be made of these; nothing was taken or written.
+pub record RefusesStart (asked : Asked) (entropy spent : EntropyState) (refusal : Refusal) (untouched : Type 0) : Type 0 where
+  pub drawn : List ℕ
+  pub materials : EncMaterialsValue
+  pub drew : Drew asked.wraps entropy spent drawn
+  pub given : asked.gives (drawn_rest drawn) materials
+  pub cause : start_refusal materials asked.max_keys (drawn_id drawn) ≡ Some refusal
   pub same : untouched
 
 -- Bytes were drawn, and memory ran out before anything was taken or written.
-pub record HasNoMemory (entropy spent : EntropyState) (untouched : Type 0) : Type 0 where
+pub record HasNoMemory (asked : Asked) (entropy spent : EntropyState) (untouched : Type 0) : Type 0 where
   pub drawn : List ℕ
-  pub drew : Drew entropy spent drawn
+  pub drew : Drew asked.wraps entropy spent drawn
   pub same : untouched
 
--- why an input wasn't encrypted, and what that left; `untouched` says that the input and the output are as before. Want of memory is free.
-abbrev pub EndsSo : WrapKeyValue → ℕ → SourceState → SourceState → SinkState → SinkState → EntropyState → EntropyState → Type 0 → EncryptError → Type 0
-EndsSo w size input taken output put entropy spent untouched (errors.Outside outsides.EntropyFault) = EntropyFails entropy spent untouched
-EndsSo w size input taken output put entropy spent untouched (errors.Outside outside) = EndsAfter w size input taken output put entropy spent (errors.Outside outside)
-EndsSo w size input taken output put entropy spent untouched (errors.Refusal refusals.TooManyFrames) =
-    EndsAfter w size input taken output put entropy spent (errors.Refusal refusals.TooManyFrames)
-EndsSo w size input taken output put entropy spent untouched (errors.Refusal refusal) = RefusesStart w entropy spent refusal untouched
-EndsSo w size input taken output put entropy spent untouched errors.Memory =
-    HasNoMemory entropy spent untouched ⊎ EndsAfter w size input taken output put entropy spent errors.Memory
+-- Why an input wasn't encrypted, and what that left. `untouched` says that the input and the output are as before, `unasked` that the manager is. Want of memory is free.
+abbrev pub EndsSo : Asked → SourceState → SourceState → SinkState → SinkState → EntropyState → EntropyState → Type 0 → Type 0 → EncryptError → Type 0
+EndsSo asked input taken output put entropy spent untouched unasked (errors.Outside outsides.EntropyFault) = EntropyFails entropy spent untouched unasked
+EndsSo asked input taken output put entropy spent untouched unasked (errors.Outside outsides.KeyringFault) = GivesNothing asked entropy spent managers.KeyringFault untouched
+EndsSo asked input taken output put entropy spent untouched unasked (errors.Outside outside) = EndsAfter asked input taken output put entropy spent (errors.Outside outside)
+EndsSo asked input taken output put entropy spent untouched unasked (errors.Refusal refusals.TooManyFrames) =
+    EndsAfter asked input taken output put entropy spent (errors.Refusal refusals.TooManyFrames)
+EndsSo asked input taken output put entropy spent untouched unasked (errors.Refusal (refusals.TooManyDataKeys n)) =
+    RefusesStart asked entropy spent (refusals.TooManyDataKeys n) untouched
+EndsSo asked input taken output put entropy spent untouched unasked (errors.Refusal (refusals.HeaderTooLong n)) =
+    RefusesStart asked entropy spent (refusals.HeaderTooLong n) untouched
+EndsSo asked input taken output put entropy spent untouched unasked (errors.Refusal refusal) = GivesNothing asked entropy spent (managers.Refusal refusal) untouched
+EndsSo asked input taken output put entropy spent untouched unasked errors.Memory =
+    HasNoMemory asked entropy spent untouched ⊎ EndsAfter asked input taken output put entropy spent errors.Memory
 
 -- a message has room for so many bytes and they are all of the input, or the reason why not
 abbrev pub Fits : {T : Type 0} → ℕ → ℕ → End → Result T EncryptError → Type 0
@@ -158,6 +195,18 @@ Fits size count end (Err (errors.Refusal refusals.TooManyFrames)) = most_text si
 Fits size count end (Err (errors.Outside outsides.SourceFault)) = (count ≤ most_text size) × (end ≡ ends.Failed)
 Fits size count end (Err (errors.Outside outsides.InputTooLong)) = (count ≤ most_text size) × (end ≡ ends.TooLong)
 Fits size count end (Err error) = ⊥
+
+-- a manager's error that is no fault of a header
+abbrev pub IsNoFault : ManagerError → Type 0
+IsNoFault (managers.Fault fault) = ⊥
+IsNoFault error = ⊤
+
+-- there are no materials for the reason that the manager has
+abbrev pub GivesNot : ManagerError → EncryptError → Type 0
+GivesNot (managers.Refusal refusal) error = error ≡ errors.Refusal refusal
+GivesNot managers.KeyringFault error = error ≡ errors.Outside outsides.KeyringFault
+GivesNot (managers.Fault fault) error = ⊥
+GivesNot managers.Memory error = error ≡ errors.Memory
 
 -- a message can't be begun for the reason that no header is written
 abbrev pub StartsNot : PairError → EncryptError → Type 0

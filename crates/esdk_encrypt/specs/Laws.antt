@@ -1,11 +1,29 @@
--- What the laws of this crate say of an encryption.
-use Rattle.std.specs.Prelude.{◌≡◌, ℕ, ◌^◌, ◌<◌, ◌≤◌, List, ◌++◌, length, take, ⊤, Some}
-use Rattle.esdk_base.specs.Counts.{Stayed}
+-- What the laws of this crate say of an encryption over a manager that is exact and plain, and tells its wrapping keys.
+use Rattle.std.specs.Prelude.{◌≡◌, ℕ, ◌^◌, ◌<◌, ◌≤◌, List, [], ◌∷◌, ◌++◌, length, take, ⊤, IfSome, None, Option, Some}
+use Rattle.esdk_fields.specs.Counts.{Stayed}
+use Rattle.esdk_fields.specs.declared.refusals.Refusal.{Refusal}
 use Rattle.esdk_base.specs.Streams.{EntropyState, OnTold, SinkState, SourceState}
+use Rattle.context_codec.specs.Context.{IsContext}
 use Rattle.keyring_trait.specs.Wrapping.{WrapKeyValue}
 use Rattle.esdk_encrypt.specs.declared.errors.EncryptError.{EncryptError}
 use Rattle.esdk_encrypt.specs.declared.errors.EncryptError.TheVariants.{Memory}
-use Rattle.esdk_encrypt.specs.Encrypt.{Encrypts, EndsSo, draws, message_of, most_text}
+use Rattle.esdk_encrypt.specs.Encrypt.{Encrypts, EndsSo, draws, most_text}
+use Rattle.esdk_encrypt.specs.Told.{Writer, asked_by, message_by, wraps_of}
+
+-- ---- what is written
+
+-- The output gained the message of this text behind what it had. It was made with the first bytes to come, where the entropy tells them.
+pub record GainsMessage (writer : Writer) (text before : List ℕ) (entropy : EntropyState) (put : SinkState) : Type 0 where
+  pub drawn : List ℕ
+  pub count : length drawn ≡ draws (wraps_of writer)
+  pub first : OnTold entropy.to_come (λ coming. drawn ≡ take (draws (wraps_of writer)) coming)
+  pub gained : put.written ≡ Some (before ++ message_by writer drawn text)
+
+-- An encryption of told bytes to a told output writes their message.
+abbrev pub GainsTheMessage : Type 0
+GainsTheMessage = (writer : Writer) (refusal : Option Refusal) (old new : ℕ) (text before : List ℕ) (input taken : SourceState) (output put : SinkState) (entropy spent : EntropyState)
+    → input.left ≡ Some text → output.written ≡ Some before → Encrypts (asked_by writer refusal old new) input taken output put entropy spent
+    → GainsMessage writer text before entropy put
 
 -- ---- what is encrypted
 
@@ -21,28 +39,16 @@ pub record FitsMessage (size : ℕ) (input : SourceState) (text : List ℕ) : Ty
   pub few : length text < 2 ^ 62
 
 -- No count of faults rose.
-pub record NothingFails (input taken : SourceState) (output put : SinkState) (entropy spent : EntropyState) : Type 0 where
+pub record NothingFails (old new : ℕ) (input taken : SourceState) (output put : SinkState) (entropy spent : EntropyState) : Type 0 where
   pub source : Stayed input.faults taken.faults
   pub sink : Stayed output.faults put.faults
   pub drawing : Stayed entropy.faults spent.faults
+  pub keyring : Stayed old new
 
--- Where the input fits and nothing fails, only want of memory ends an encryption. `⊤` stands for what the run left untouched, which plays no part.
+-- Where one wrapping key with short names writes, the request isn't refused, the input fits and nothing fails, only want of memory ends an encryption. `⊤` stands for
+-- what the run left untouched, which plays no part.
 abbrev pub EncryptsWhatFits : Type 0
-EncryptsWhatFits = (w : WrapKeyValue) (size : ℕ) (text : List ℕ) (input taken : SourceState) (output put : SinkState) (entropy spent : EntropyState) (error : EncryptError)
-    → HasShortNames w → FitsMessage size input text → NothingFails input taken output put entropy spent
-    → EndsSo w size input taken output put entropy spent ⊤ error → error ≡ Memory
-
--- ---- what is written
-
--- The output gained the message of this text behind what it had. It was made with 76 bytes: the first of those to come, where the entropy tells them.
-pub record GainsMessage (w : WrapKeyValue) (size : ℕ) (text before : List ℕ) (entropy : EntropyState) (put : SinkState) : Type 0 where
-  pub drawn : List ℕ
-  pub count : length drawn ≡ draws
-  pub first : OnTold entropy.to_come (λ coming. drawn ≡ take draws coming)
-  pub gained : put.written ≡ Some (before ++ message_of w size drawn text)
-
--- An encryption of told bytes to a told output writes their message.
-abbrev pub GainsTheMessage : Type 0
-GainsTheMessage = (w : WrapKeyValue) (size : ℕ) (text before : List ℕ) (input taken : SourceState) (output put : SinkState) (entropy spent : EntropyState)
-    → input.left ≡ Some text → output.written ≡ Some before → Encrypts w size input taken output put entropy spent
-    → GainsMessage w size text before entropy put
+EncryptsWhatFits = (writer : Writer) (w : WrapKeyValue) (old new : ℕ) (text : List ℕ) (input taken : SourceState) (output put : SinkState) (entropy spent : EntropyState) (error : EncryptError)
+    → writer.keys ≡ w ∷ [] → HasShortNames w → IsContext writer.context → IfSome writer.max_keys (λ most. 1 ≤ most)
+    → FitsMessage writer.size input text → NothingFails old new input taken output put entropy spent
+    → EndsSo (asked_by writer None old new) input taken output put entropy spent ⊤ ⊤ error → error ≡ Memory

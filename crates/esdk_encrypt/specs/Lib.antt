@@ -1,2 +1,3 @@
 pub mod Encrypt
+pub mod Told
 pub mod Laws

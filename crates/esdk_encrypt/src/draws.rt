@@ -1,60 +1,79 @@
 //! The bytes that a message is made with.
-ghost use Rattle.std.specs.Prelude.{◌≡◌, ◌++◌, length, IfOk, IfErr};
+
+ghost use Rattle.std.specs.Prelude.{◌≡◌, ◌≤◌, length, IfOk, IfErr};
 ghost use Rattle.std.specs.Io.KnownBytes.{Keeps};
-ghost use Rattle.esdk_base.specs.Counts.{HasCause};
-ghost use Rattle.esdk_base.specs.Entropy.{FillConsumes};
+ghost use Rattle.esdk_fields.specs.Counts.{HasCause};
 ghost use Rattle.esdk_base.specs.Streams.{entropy_state};
-ghost use Rattle.esdk_encrypt.specs.Encrypt.{Drew};
+ghost use Rattle.esdk_encrypt.specs.Encrypt.{Drew, drawn_id, drawn_rest};
 
 use esdk_base::{Entropy, Failed};
-use keyring_trait::DataKey;
+use std::marker::Model;
 
-/// The bytes that a message is made with.
-#[derive(Clone, Copy)]
+/// The most bytes that are drawn: 64 and 12 for each of 64 wraps.
+const MOST_DRAWN: usize = 832;
+
+/// The bytes that a message is made with, at least 64. A contract sees the list of the bytes.
+#[derive(Drop)]
 pub(crate) struct Draws {
-    /// The message id.
-    pub(crate) message_id: [u8; 32],
-    /// The data key.
-    pub(crate) key: DataKey,
-    /// The initialization vector under which the data key is wrapped.
-    pub(crate) iv: [u8; 12],
+    bytes: [u8; MOST_DRAWN],
+    count: usize,
 }
 
-/// Draws them by one fill of 76 bytes, in this order.
-pub(crate) fn draw<W: Entropy>(entropy: &mut W) -> Result<Draws, Failed>
-    ensures drew { IfOk result (λ d. Drew (entropy_state W.to_come W.faults entropy.old) (entropy_state W.to_come W.faults entropy.new)
-        (d.message_id ++ d.key ++ d.iv)) }
-    ensures id { IfOk result (λ d. length d.message_id ≡ 32) }
-    ensures key { IfOk result (λ d. length d.key ≡ 32) }
+impl Model for Draws {
+    ghost use Rattle.std.specs.Prelude.{◌≡◌, ◌≤◌, ℕ, List, length, take};
+
+    ghost Value = { List ℕ };
+
+    ghost view = { λ d. take d.count d.bytes };
+
+    ghost invariant = { λ d. (64 ≤ d.count) × (d.count ≤ 832) × (length d.bytes ≡ 832) };
+}
+
+impl Draws {
+    /// All of the bytes.
+    fn bytes(&self) -> &[u8]
+        ensures bytes { result.now ≡ self.now }
+        ensures some { 64 ≤ length self.now }
+    {
+        &self.bytes[..self.count]
+    }
+
+    /// The message id.
+    pub(crate) fn message_id(&self) -> [u8; 32]
+        ensures { result ≡ drawn_id self.now }
+    {
+        let (id, _rest) = self.bytes().split_at(32);
+        array_of(id)
+    }
+
+    /// The bytes that the materials are made with.
+    pub(crate) fn rest(&self) -> &[u8]
+        ensures { result.now ≡ drawn_rest self.now }
+    {
+        let (_id, rest) = self.bytes().split_at(32);
+        rest
+    }
+}
+
+/// Draws them by one fill: 32 of message id, 32 of data key, and 12 of IV for each wrap.
+pub(crate) fn draw<W: Entropy>(entropy: &mut W, wraps: u32) -> Result<Draws, Failed>
+    requires { wraps ≤ 64 }
+    ensures drew { IfOk result (λ drawn. Drew wraps (entropy_state W.to_come W.faults entropy.old) (entropy_state W.to_come W.faults entropy.new) drawn) }
     ensures kept { IfErr result (λ _. Keeps (W.to_come entropy.old) (W.to_come entropy.new)) }
     ensures cause { HasCause (W.faults entropy.old) (W.faults entropy.new) result }
 {
-    let mut bytes = [0; 76];
-    fill(entropy, &mut bytes)?;
-    let (message_id, rest) = bytes.split_at(32);
-    let (key, iv) = rest.split_at(32);
-    Ok(Draws {
-        message_id: array_of(message_id),
-        key: DataKey::new(array_of(key)),
-        iv: array_of(iv),
-    })
+    let count = 64 + 12 * wraps as usize;
+    let mut bytes = [0; MOST_DRAWN];
+    entropy.fill(&mut bytes[..count])?;
+    Ok(Draws { bytes, count })
 }
 
 /// The bytes as an array of their number.
-fn array_of<const N: usize>(bytes: &[u8]) -> [u8; N]
+pub(crate) fn array_of<const N: usize>(bytes: &[u8]) -> [u8; N]
     requires { length bytes.now ≡ N }
     ensures { result ≡ bytes.now }
 {
     let mut array = [0; N];
     array.copy_from_slice(bytes);
     array
-}
-
-/// Fills all the bytes at once.
-fn fill<W: Entropy>(entropy: &mut W, bytes: &mut [u8; 76]) -> Result<(), Failed>
-    ensures bytes { FillConsumes (W.to_come entropy.old) (W.to_come entropy.new) result bytes.new }
-    ensures count { length bytes.new ≡ 76 }
-    ensures cause { HasCause (W.faults entropy.old) (W.faults entropy.new) result }
-{
-    entropy.fill(bytes)
 }

@@ -1,21 +1,26 @@
 //! The encryption of an input.
-ghost use Rattle.std.specs.Prelude.{◌≡◌, ◌+◌, ◌≤◌, ◌^◌, ◌++◌, length, IfErr, OnErr, OnOk};
+
+ghost use Rattle.std.specs.Prelude.{◌≡◌, ◌+◌, ◌≤◌, ◌^◌, ◌++◌, true, List, length, IfErr, OnErr, OnOk};
 ghost use Rattle.std.specs.Io.KnownBytes.{Appends};
 ghost use Rattle.body_format.specs.Written.{framed_body};
 ghost use Rattle.esdk_base.specs.Sink.{AppendsFront};
-ghost use Rattle.message_format.specs.Message.{under};
 ghost use Rattle.esdk_base.specs.Streams.{entropy_state, sink_state, source_state};
-ghost use Rattle.esdk_encrypt.specs.Encrypt.{Encrypts, EndsSo, Fits, PutCause, StartsNot, StopsSo, Writes, most_text};
+ghost use Rattle.keyring_trait.specs.Manager.{ManagerGoes, TellsOn};
+ghost use Rattle.keyring_trait.specs.Wrapping.{WrapKeyValue};
+ghost use Rattle.message_format.specs.Message.{under};
+ghost use Rattle.esdk_encrypt.specs.Encrypt.{asked_of, Encrypts, EndsSo, Fits, GivesNot, IsNoFault, PutCause, StartsNot, StopsSo, Writes, most_text};
+ghost use Rattle.esdk_encrypt.specs.Told.{asked_told};
 
-use crate::draws::{Draws, draw};
+use crate::draws::draw;
 use crate::errors::EncryptError;
 use crate::frames::{put, put_frames};
+use crate::options::EncryptOptions;
 use crate::start::message_start;
 use aes_core::Key256;
 use context_codec::PairError;
 use esdk_base::{Entropy, Sink, Source};
 use esdk_fields::{Blob, Outside, Refusal};
-use raw_aes_keyring::RawAes;
+use keyring_trait::{DataKey, EncRequest, Manager, ManagerError};
 use std::alloc::Global;
 use suite_table::{Suite, derived};
 use whole_input::{End, take_all};
@@ -23,46 +28,99 @@ use whole_input::{End, take_all};
 /// How many frames a message has at the most.
 const MOST_FRAMES: u64 = 0xffff_ffff;
 
-/// Encrypts the whole input under a new data key, which the wrapping key wraps, in frames of this
-/// many bytes, and writes the message.
+/// Encrypts the whole input with materials of the manager, as the request asks for them, and writes the message.
 ///
-/// 76 bytes are drawn first: the message id, the data key and the IV that wraps it. Then the whole
-/// input is taken, and then the message is written, the header first and each frame by itself.
+/// First 64 bytes and 12 for each of the manager's wraps are drawn by one fill: 32 are the message id, and the manager is asked with the others. Of its materials the
+/// header is made: it stores the pairs of the context whose keys aren't required, and its tag authenticates the others too. Then the whole input is taken, and then
+/// the message is written, the header first and each frame by itself.
 ///
-/// `EntropyFault` leaves the input and the output as they were, and the bytes to come undrawn.
-/// `HeaderTooLong` can't come, since a wrapping key's names are short. After every other error the
-/// output has gained a front of the message of the bytes taken: `TooManyFrames`, where a message has
-/// no room for them; `SourceFault`, where a read failed; `InputTooLong`, where they are 2^62;
-/// `SinkFault`, where a write failed; `Memory`, at any time.
-pub fn encrypt<S: Source, O: Sink, W: Entropy>(
+/// `EntropyFault` leaves the manager, the input and the output as they were, and the bytes to come undrawn. The next errors leave the input and the output as they
+/// were: `RequiredAbsent` (Q4), `ReservedPrefix` (Q1), `NoGenerator` (Q5) and `GeneratorHasKey` (Q6), where the manager refuses the request, in this order where it is
+/// exact; `KeyringFault`, where one of its keyrings failed; then `TooManyDataKeys` (Q7), where it gives more entries than `max_keys`, and `HeaderTooLong` (Q8). After
+/// every other error the output has gained a front of the message of the bytes taken: `TooManyFrames` (Q9), where a message has no room for them; `SourceFault`, where
+/// a read failed; `InputTooLong`, where they are 2^62; `SinkFault`, where a write failed. `Memory` may come at any time, and no other error comes.
+/// AWS Encryption SDK Specification, "Encrypt".
+pub fn encrypt<M: Manager, S: Source, O: Sink, W: Entropy>(
     alloc: Global,
-    key: &RawAes,
-    frame_length: u32,
+    manager: &mut M,
+    request: &EncRequest,
+    options: EncryptOptions,
     input: &mut S,
     output: &mut O,
     entropy: &mut W,
 ) -> Result<(), EncryptError>
-    requires some { 1 ≤ frame_length }
-    ensures done { OnOk result (Encrypts key.now frame_length
+    requires some { 1 ≤ options.frame_length }
+
+    // Over any manager.
+    ensures done { OnOk result (Encrypts
+        (asked_of (M.meaning manager.old) (M.meaning manager.new) (M.tells manager.old) (M.exact manager.old) request.now options.frame_length options.max_keys)
         (source_state S.left S.given S.faults input.old) (source_state S.left S.given S.faults input.new)
         (sink_state O.written O.faults output.old) (sink_state O.written O.faults output.new)
         (entropy_state W.to_come W.faults entropy.old) (entropy_state W.to_come W.faults entropy.new)) }
-    ensures ends { IfErr result (λ error. EndsSo key.now frame_length
+    ensures ends { IfErr result (λ error. EndsSo
+        (asked_of (M.meaning manager.old) (M.meaning manager.new) (M.tells manager.old) (M.exact manager.old) request.now options.frame_length options.max_keys)
         (source_state S.left S.given S.faults input.old) (source_state S.left S.given S.faults input.new)
         (sink_state O.written O.faults output.old) (sink_state O.written O.faults output.new)
         (entropy_state W.to_come W.faults entropy.old) (entropy_state W.to_come W.faults entropy.new)
-        ((input.new ≡ input.old) × (output.new ≡ output.old)) error) }
+        ((input.new ≡ input.old) × (output.new ≡ output.old)) (manager.new ≡ manager.old) error) }
+
+    // Over a manager that is exact and plain, and tells its keys.
+    ensures writes { (keys : List WrapKeyValue) → M.tells manager.old keys → M.exact manager.old → (M.meaning manager.old).plain ≡ true
+        → OnOk result (Encrypts
+        (asked_told keys (M.meaning manager.old) (M.meaning manager.new) request.now options.frame_length options.max_keys)
+        (source_state S.left S.given S.faults input.old) (source_state S.left S.given S.faults input.new)
+        (sink_state O.written O.faults output.old) (sink_state O.written O.faults output.new)
+        (entropy_state W.to_come W.faults entropy.old) (entropy_state W.to_come W.faults entropy.new)) }
+    ensures stops { (keys : List WrapKeyValue) → M.tells manager.old keys → M.exact manager.old → (M.meaning manager.old).plain ≡ true
+        → IfErr result (λ error. EndsSo
+        (asked_told keys (M.meaning manager.old) (M.meaning manager.new) request.now options.frame_length options.max_keys)
+        (source_state S.left S.given S.faults input.old) (source_state S.left S.given S.faults input.new)
+        (sink_state O.written O.faults output.old) (sink_state O.written O.faults output.new)
+        (entropy_state W.to_come W.faults entropy.old) (entropy_state W.to_come W.faults entropy.new)
+        ((input.new ≡ input.old) × (output.new ≡ output.old)) (manager.new ≡ manager.old) error) }
+
+    ensures goes { ManagerGoes (M.meaning manager.old) (M.meaning manager.new) }
+    ensures tells { TellsOn (M.tells manager.old) (M.tells manager.new) }
+    ensures exact { M.exact manager.old → M.exact manager.new }
     ensures taken { S.given input.new ≤ S.given input.old + 2 ^ 62 }
 {
-    let draws = match draw(entropy) {
+    let wraps = manager.wraps();
+    let draws = match draw(entropy, wraps) {
         Ok(draws) => draws,
         Err(_) => return Err(EncryptError::Outside(Outside::EntropyFault)),
     };
-    let start = match message_start(alloc, key, frame_length, &draws) {
+    let materials = match manager.for_encryption(alloc, request, options.now, draws.rest()) {
+        Ok(materials) => materials,
+        Err(error) => return Err(ungiven(error)),
+    };
+    let id = draws.message_id();
+    let start = match message_start(alloc, &materials, options, &id) {
         Ok(start) => start,
         Err(error) => return Err(unstarted(error)),
     };
-    put_input(alloc, &start, frame_length, &draws, input, output)
+    put_input(
+        alloc,
+        &start,
+        options.frame_length,
+        materials.key(),
+        &id,
+        input,
+        output,
+    )
+}
+
+/// Why a run ends whose manager gives no materials.
+fn ungiven(error: ManagerError) -> EncryptError
+    requires { IsNoFault error }
+    ensures { GivesNot error result }
+{
+    match error {
+        ManagerError::Refusal(refusal) => EncryptError::Refusal(refusal),
+        ManagerError::KeyringFault => EncryptError::Outside(Outside::KeyringFault),
+        ManagerError::Memory => EncryptError::Memory,
+        // There is no header yet that could have a fault.
+        ManagerError::Fault(_) => unreachable!(),
+    }
 }
 
 /// Why a run ends whose message can't be begun.
@@ -80,15 +138,16 @@ fn put_input<S: Source, O: Sink>(
     alloc: Global,
     start: &Blob,
     frame_length: u32,
-    draws: &Draws,
+    key: &DataKey,
+    message_id: &[u8; 32],
     input: &mut S,
     output: &mut O,
 ) -> Result<(), EncryptError>
     requires some { 1 ≤ frame_length }
-    ensures done { OnOk result (Writes (λ text. start.now ++ framed_body (under frame_length draws.now.key draws.now.message_id) text) frame_length
+    ensures done { OnOk result (Writes (λ text. start.now ++ framed_body (under frame_length key.now message_id.now) text) frame_length
         (source_state S.left S.given S.faults input.old) (source_state S.left S.given S.faults input.new)
         (sink_state O.written O.faults output.old) (sink_state O.written O.faults output.new)) }
-    ensures stops { IfErr result (StopsSo (λ text. start.now ++ framed_body (under frame_length draws.now.key draws.now.message_id) text) frame_length
+    ensures stops { IfErr result (StopsSo (λ text. start.now ++ framed_body (under frame_length key.now message_id.now) text) frame_length
         (source_state S.left S.given S.faults input.old) (source_state S.left S.given S.faults input.new)
         (sink_state O.written O.faults output.old) (sink_state O.written O.faults output.new)) }
     ensures taken { S.given input.new ≤ S.given input.old + 2 ^ 62 }
@@ -102,7 +161,8 @@ fn put_input<S: Source, O: Sink>(
             alloc,
             start,
             frame_length,
-            draws,
+            key,
+            message_id,
             taken.bytes.bytes(),
             output,
         ),
@@ -130,23 +190,24 @@ fn put_message<O: Sink>(
     alloc: Global,
     start: &Blob,
     frame_length: u32,
-    draws: &Draws,
+    key: &DataKey,
+    message_id: &[u8; 32],
     text: &[u8],
     output: &mut O,
 ) -> Result<(), EncryptError>
     requires some { 1 ≤ frame_length }
     requires short { length text.now ≤ most_text frame_length }
     ensures whole { OnOk result (Appends (O.written output.old) (O.written output.new)
-        (start.now ++ framed_body (under frame_length draws.now.key draws.now.message_id) text.now)) }
+        (start.now ++ framed_body (under frame_length key.now message_id.now) text.now)) }
     ensures front { OnErr result (AppendsFront (O.written output.old) (O.written output.new)
-        (start.now ++ framed_body (under frame_length draws.now.key draws.now.message_id) text.now)) }
+        (start.now ++ framed_body (under frame_length key.now message_id.now) text.now)) }
     ensures cause { IfErr result (PutCause (O.faults output.old) (O.faults output.new)) }
 {
     match put(start, output) {
         Ok(()) => {}
         Err(error) => return Err(error),
     }
-    let derived_key = derived(Suite::Committing, draws.key.bytes(), &draws.message_id);
-    let key = Key256::new(&derived_key);
-    put_frames(alloc, &key, &draws.message_id, frame_length, text, output)
+    let derived_key = derived(Suite::Committing, key.bytes(), message_id);
+    let cipher_key = Key256::new(&derived_key);
+    put_frames(alloc, &cipher_key, message_id, frame_length, text, output)
 }

@@ -8,9 +8,9 @@ use std::alloc::{AllocError, AllocFailed};
 /// Why an input isn't encrypted.
 #[derive(Drop)]
 pub enum EncryptError {
-    /// The request is refused: no message can hold so many frames.
+    /// The request is refused: by the manager (Q1, Q4, Q5, Q6), or since no message can be made of the materials (Q7, Q8) or of the input (Q9).
     Refusal(Refusal),
-    /// The input, the output or the entropy failed, or the input is too long.
+    /// The input, the output, the entropy or a keyring failed, or the input is too long.
     Outside(Outside),
     /// Memory ran out.
     Memory,

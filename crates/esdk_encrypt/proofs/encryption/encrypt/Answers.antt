@@ -1,46 +1,62 @@
-use Rattle.std.proofs.Common.{◌∙◌, ◌++◌, List, ℕ, ap, refl, sym}
-use Rattle.body_format.specs.Written.{framed_body}
-use Rattle.message_format.specs.Message.{under}
-use Rattle.esdk_encrypt.proofs.Ending.{ends_done, ends_stopped, ends_unstarted}
-use Rattle.esdk_encrypt.proofs.Writing.{message_is, refusal_is}
+use Rattle.std.proofs.Common.{ℕ, ap, arith, length, length-drop, refl, Err}
+use Rattle.esdk_encrypt.specs.Encrypt.{Asked, asked_of}
+use Rattle.esdk_encrypt.proofs.Ending.{ends_done, ends_stopped, ends_unstarted, written_is}
+use Rattle.esdk_encrypt.proofs.Telling.{stops_told, writes_told}
 use Rattle.esdk_encrypt.proofs.encryption.encrypt.Goals as goal
 
-pub returns-clause-done : goal.returns-clause-done
-returns-clause-done g c =
-    let d = c.in-Ok.draws in
-    let drawn : List ℕ = d.message_id ++ d.key ++ d.iv in
-    let id_long = rw c.in-Ok.is at c.draw.ensures.id in
-    let key_long = rw c.in-Ok.is at c.draw.ensures.key in
-    let start = rw c.in-Ok-message_start.is at c.message_start.ensures.start in
-    let taken = rw c.in-Ok-message_start.is at c.message_start.ensures.taken in
-    let whole : List ℕ → List ℕ = λ text. c.in-Ok-message_start.start ++ framed_body (under c.args.frame_length d.key d.message_id) text in
-    ends_done c.args.key.now whole c.args.frame_length _ _ _ _ _ _ drawn c.put_input.result (rw c.in-Ok.is at c.draw.ensures.drew)
-    (sym (refusal_is c.args.key.now d.message_id d.key d.iv id_long key_long) ∙ taken)
-    (λ text. ap (λ (b : List ℕ). b ++ framed_body (under c.args.frame_length d.key d.message_id) text) start
-    ∙ message_is c.args.key.now c.args.frame_length d.message_id d.key d.iv text id_long key_long)
-    c.put_input.ensures.done
-
-pub returns-clause-ends : goal.returns-clause-ends
-returns-clause-ends g c =
-    let d = c.in-Ok.draws in
-    let drawn : List ℕ = d.message_id ++ d.key ++ d.iv in
-    let id_long = rw c.in-Ok.is at c.draw.ensures.id in
-    let key_long = rw c.in-Ok.is at c.draw.ensures.key in
-    let start = rw c.in-Ok-message_start.is at c.message_start.ensures.start in
-    let taken = rw c.in-Ok-message_start.is at c.message_start.ensures.taken in
-    let whole : List ℕ → List ℕ = λ text. c.in-Ok-message_start.start ++ framed_body (under c.args.frame_length d.key d.message_id) text in
-    ends_stopped c.args.key.now whole c.args.frame_length _ _ _ _ _ _ drawn _ c.put_input.result (rw c.in-Ok.is at c.draw.ensures.drew)
-    (sym (refusal_is c.args.key.now d.message_id d.key d.iv id_long key_long) ∙ taken)
-    (λ text. ap (λ (b : List ℕ). b ++ framed_body (under c.args.frame_length d.key d.message_id) text) start
-    ∙ message_is c.args.key.now c.args.frame_length d.message_id d.key d.iv text id_long key_long)
-    c.put_input.ensures.stops
+pub for_encryption-requires : goal.for_encryption-requires
+for_encryption-requires g c =
+    let drew = rw c.in-Ok.is at c.draw.ensures.drew in
+    omega (arith, ap (length {A = ℕ}) c.rest.ensures, length-drop 32 c.in-Ok.draws, drew.count, c.wraps-wraps.ensures.value)
 
 pub returns-in-Err-message_start-clause-ends : goal.returns-in-Err-message_start-clause-ends
 returns-in-Err-message_start-clause-ends g c =
-    let d = c.in-Ok.draws in
-    let drawn : List ℕ = d.message_id ++ d.key ++ d.iv in
-    let id_long = rw c.in-Ok.is at c.draw.ensures.id in
-    let key_long = rw c.in-Ok.is at c.draw.ensures.key in
-    let cause = rw (c.in-Err-message_start.is, refusal_is c.args.key.now d.message_id d.key d.iv id_long key_long) at c.message_start.ensures.cause in
-    ends_unstarted c.args.key.now c.args.frame_length _ _ _ _ drawn _ c.in-Err-message_start.error c.unstarted.result (rw c.in-Ok.is at c.draw.ensures.drew)
-    cause (refl {a = c.args.input.now}, refl {a = c.args.output.now}) c.unstarted.ensures
+    let asked : Asked = asked_of (g.M.Manager.meaning c.args.manager.now) (g.M.Manager.meaning c.for_encryption.new.self) (g.M.Manager.tells c.args.manager.now)
+    (g.M.Manager.exact c.args.manager.now) c.args.request.now c.args.options.frame_length c.args.options.max_keys in
+    let drew = rw (c.in-Ok.is, c.wraps-wraps.ensures.value) at c.draw.ensures.drew in
+    let given = rw (c.in-Ok-for_encryption.is, c.rest.ensures) at c.for_encryption.ensures.gives in
+    let cause = rw (c.in-Err-message_start.is, c.message_id-id.ensures) at c.message_start.ensures.cause in
+    ends_unstarted asked _ _ _ _ c.in-Ok.draws c.in-Ok-for_encryption.materials _ _ c.in-Err-message_start.error c.unstarted.result drew given cause
+    (refl {a = c.args.input.now}, refl {a = c.args.output.now}) c.unstarted.ensures
+
+pub returns-in-Err-message_start-clause-stops : goal.returns-in-Err-message_start-clause-stops
+returns-in-Err-message_start-clause-stops g c =
+    stops_told (g.M.Manager.meaning c.args.manager.now) (g.M.Manager.meaning c.for_encryption.new.self) _ _ c.args.request.now _ c.args.options.max_keys _ _ _ _ _ _ _ _ (Err c.unstarted.result)
+    (record { told = c.wraps-wraps.ensures.told; plain = c.wraps-wraps.ensures.plain })
+    (returns-in-Err-message_start-clause-ends g c)
+
+pub returns-clause-done : goal.returns-clause-done
+returns-clause-done g c =
+    let asked : Asked = asked_of (g.M.Manager.meaning c.args.manager.now) (g.M.Manager.meaning c.for_encryption.new.self) (g.M.Manager.tells c.args.manager.now)
+    (g.M.Manager.exact c.args.manager.now) c.args.request.now c.args.options.frame_length c.args.options.max_keys in
+    let drew = rw (c.in-Ok.is, c.wraps-wraps.ensures.value) at c.draw.ensures.drew in
+    let given = rw (c.in-Ok-for_encryption.is, c.rest.ensures) at c.for_encryption.ensures.gives in
+    let start = rw c.in-Ok-message_start.is at c.message_start.ensures.start in
+    let taken = rw (c.in-Ok-message_start.is, c.message_id-id.ensures) at c.message_start.ensures.taken in
+    let m = c.in-Ok-for_encryption.materials in
+    let written = written_is m c.args.options.frame_length c.in-Ok.draws c.in-Ok-message_start.start c.key.result.now c.message_id-id.result start c.key.ensures c.message_id-id.ensures in
+    ends_done asked _ _ _ _ _ _ _ c.in-Ok.draws m c.put_input.result (record { drew = drew; given = given; begins = taken }) written c.put_input.ensures.done
+
+pub returns-clause-ends : goal.returns-clause-ends
+returns-clause-ends g c =
+    let asked : Asked = asked_of (g.M.Manager.meaning c.args.manager.now) (g.M.Manager.meaning c.for_encryption.new.self) (g.M.Manager.tells c.args.manager.now)
+    (g.M.Manager.exact c.args.manager.now) c.args.request.now c.args.options.frame_length c.args.options.max_keys in
+    let drew = rw (c.in-Ok.is, c.wraps-wraps.ensures.value) at c.draw.ensures.drew in
+    let given = rw (c.in-Ok-for_encryption.is, c.rest.ensures) at c.for_encryption.ensures.gives in
+    let start = rw c.in-Ok-message_start.is at c.message_start.ensures.start in
+    let taken = rw (c.in-Ok-message_start.is, c.message_id-id.ensures) at c.message_start.ensures.taken in
+    let m = c.in-Ok-for_encryption.materials in
+    let written = written_is m c.args.options.frame_length c.in-Ok.draws c.in-Ok-message_start.start c.key.result.now c.message_id-id.result start c.key.ensures c.message_id-id.ensures in
+    ends_stopped asked _ _ _ _ _ _ _ c.in-Ok.draws m _ _ c.put_input.result (record { drew = drew; given = given; begins = taken }) written c.put_input.ensures.stops
+
+pub returns-clause-writes : goal.returns-clause-writes
+returns-clause-writes g c =
+    writes_told (g.M.Manager.meaning c.args.manager.now) (g.M.Manager.meaning c.for_encryption.new.self) _ _ c.args.request.now _ c.args.options.max_keys _ _ _ _ _ _ c.put_input.result
+    (record { told = c.wraps-wraps.ensures.told; plain = c.wraps-wraps.ensures.plain })
+    (returns-clause-done g c)
+
+pub returns-clause-stops : goal.returns-clause-stops
+returns-clause-stops g c =
+    stops_told (g.M.Manager.meaning c.args.manager.now) (g.M.Manager.meaning c.for_encryption.new.self) _ _ c.args.request.now _ c.args.options.max_keys _ _ _ _ _ _ _ _ c.put_input.result
+    (record { told = c.wraps-wraps.ensures.told; plain = c.wraps-wraps.ensures.plain })
+    (returns-clause-ends g c)

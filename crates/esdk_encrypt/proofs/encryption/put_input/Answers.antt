@@ -7,7 +7,7 @@ use Rattle.esdk_encrypt.proofs.encryption.put_input.Goals as goal
 
 pub returns-in-Ok-fits-clause-stops : goal.returns-in-Ok-fits-clause-stops
 returns-in-Ok-fits-clause-stops g c =
-    let whole : List ℕ → List ℕ = λ text. c.args.start.now ++ framed_body (under c.args.frame_length c.args.draws.now.key c.args.draws.now.message_id) text in
+    let whole : List ℕ → List ℕ = λ text. c.args.start.now ++ framed_body (under c.args.frame_length c.args.key.now c.args.message_id.now) text in
     let taken = rw c.in-Ok.is at c.take_all.ensures.taken in
     let fits = rw (c.in-Ok-fits.is, c.bytes.ensures) at c.fits.ensures in
     put_stops whole c.args.frame_length _ _

@@ -8,4 +8,4 @@ returns-in-Err-clause-front g c = front_longer _ _ c.args.start.now _ (rw c.in-E
 pub returns-clause-front : goal.returns-clause-front
 returns-clause-front g c =
     then_front _ _ _ c.args.start.now _ c.put_frames.result (rw c.in-Ok.is at c.put.ensures.whole)
-    (rw (c.new-key.ensures, c.derived-derived_key.ensures, c.bytes.ensures.bytes) at c.put_frames.ensures.front)
+    (rw (c.new-cipher_key.ensures, c.derived-derived_key.ensures, c.bytes.ensures.bytes) at c.put_frames.ensures.front)

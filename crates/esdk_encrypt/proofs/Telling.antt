@@ -1,0 +1,174 @@
+-- A run over an exact and plain manager that tells its keys: what is so over any manager, and what these keys make of it.
+use Rattle.std.proofs.Common.{◌≡◌, ◌∙◌, ℕ, true, List, length, take, drop, Option, Result, OnOk, IfErr, refl, sym, subst}
+use Rattle.std.proofs.Math.Logic.{⊎_map}
+use Rattle.std.proofs.lemmas.Result.{on_ok_weaker, IfErr-weaker}
+use Rattle.esdk_base.specs.Streams.{EntropyState, SinkState, SourceState}
+use Rattle.esdk_fields.specs.declared.refusals.Outside.TheVariants as outsides
+use Rattle.esdk_fields.specs.declared.refusals.Refusal.{Refusal}
+use Rattle.esdk_fields.specs.declared.refusals.Refusal.TheVariants as refusals
+use Rattle.keyring_trait.specs.declared.manager_errors.ManagerError.{ManagerError}
+use Rattle.keyring_trait.specs.declared.manager_errors.ManagerError.TheVariants as managers
+use Rattle.keyring_trait.specs.declared.served.Served.{Served}
+use Rattle.keyring_trait.specs.declared.served.Served.TheVariants.{Direct}
+use Rattle.keyring_trait.specs.Manager.{ManagerMeaning, AreDrawn, GivesMaterials, GivesNone, IsNew}
+use Rattle.keyring_trait.specs.Materials.{EncMaterialsValue}
+use Rattle.keyring_trait.specs.Requests.{EncRequestValue}
+use Rattle.keyring_trait.specs.Wrapping.{WrapKeyValue, active, ivs_of, made}
+use Rattle.esdk_encrypt.specs.declared.errors.EncryptError.{EncryptError}
+use Rattle.esdk_encrypt.specs.declared.errors.EncryptError.TheVariants as errors
+use Rattle.esdk_encrypt.specs.Encrypt.{Asked, Begins, Drew, Encrypts, EndsAfter, EndsSo, GivesNothing, HasNoMemory, RefusesStart, StopsSo, Writes, asked_of, drawn_id, drawn_rest, message_of}
+use Rattle.esdk_encrypt.specs.Told.{asked_told, materials_of, writer_of}
+
+-- ---- runs about the same, of which one says more
+
+-- What is given as the first says is given as the second says, and the rest is the same.
+record SaysMore (a b : Asked) : Type 0 where
+  wraps : a.wraps ≡ b.wraps
+  gives : (random : List ℕ) (m : EncMaterialsValue) → a.gives random m → b.gives random m
+  gives_none : (error : ManagerError) → a.gives_none error → b.gives_none error
+  size : a.size ≡ b.size
+  max_keys : a.max_keys ≡ b.max_keys
+
+drew_more : (a b : Asked) (entropy spent : EntropyState) (drawn : List ℕ) → SaysMore a b → Drew a.wraps entropy spent drawn → Drew b.wraps entropy spent drawn
+drew_more a b entropy spent drawn more drew = subst (λ (n : ℕ). Drew n entropy spent drawn) more.wraps drew
+
+begins_more : (a b : Asked) (entropy spent : EntropyState) (drawn : List ℕ) (m : EncMaterialsValue) → SaysMore a b → Begins a entropy spent drawn m → Begins b entropy spent drawn m
+begins_more a b entropy spent drawn m more started = record {
+  drew = drew_more a b entropy spent drawn more started.drew;
+  given = more.gives (drawn_rest drawn) m started.given;
+  begins = rw more.max_keys at started.begins;
+}
+
+-- the whole input was encrypted
+encrypts_more : (a b : Asked) (input taken : SourceState) (output put : SinkState) (entropy spent : EntropyState) → SaysMore a b
+    → Encrypts a input taken output put entropy spent → Encrypts b input taken output put entropy spent
+encrypts_more a b input taken output put entropy spent more encrypts = record {
+  drawn = encrypts.drawn;
+  materials = encrypts.materials;
+  started = begins_more a b entropy spent encrypts.drawn encrypts.materials more encrypts.started;
+  writes = subst (λ (n : ℕ). Writes (message_of encrypts.materials n (drawn_id encrypts.drawn)) n input taken output put) more.size encrypts.writes;
+}
+
+-- it was not, or not whole
+after_more : (a b : Asked) (input taken : SourceState) (output put : SinkState) (entropy spent : EntropyState) (error : EncryptError) → SaysMore a b
+    → EndsAfter a input taken output put entropy spent error → EndsAfter b input taken output put entropy spent error
+after_more a b input taken output put entropy spent error more ends = record {
+  drawn = ends.drawn;
+  materials = ends.materials;
+  started = begins_more a b entropy spent ends.drawn ends.materials more ends.started;
+  stops = subst (λ (n : ℕ). StopsSo (message_of ends.materials n (drawn_id ends.drawn)) n input taken output put error) more.size ends.stops;
+}
+
+nothing_more : (a b : Asked) (entropy spent : EntropyState) (error : ManagerError) (untouched : Type 0) → SaysMore a b
+    → GivesNothing a entropy spent error untouched → GivesNothing b entropy spent error untouched
+nothing_more a b entropy spent error untouched more ends = record {
+  drawn = ends.drawn;
+  drew = drew_more a b entropy spent ends.drawn more ends.drew;
+  cause = more.gives_none error ends.cause;
+  same = ends.same;
+}
+
+start_more : (a b : Asked) (entropy spent : EntropyState) (refusal : Refusal) (untouched : Type 0) → SaysMore a b
+    → RefusesStart a entropy spent refusal untouched → RefusesStart b entropy spent refusal untouched
+start_more a b entropy spent refusal untouched more ends = record {
+  drawn = ends.drawn;
+  materials = ends.materials;
+  drew = drew_more a b entropy spent ends.drawn more ends.drew;
+  given = more.gives (drawn_rest ends.drawn) ends.materials ends.given;
+  cause = rw more.max_keys at ends.cause;
+  same = ends.same;
+}
+
+memory_more : (a b : Asked) (entropy spent : EntropyState) (untouched : Type 0) → SaysMore a b → HasNoMemory a entropy spent untouched → HasNoMemory b entropy spent untouched
+memory_more a b entropy spent untouched more ends =
+    record { drawn = ends.drawn; drew = drew_more a b entropy spent ends.drawn more ends.drew; same = ends.same }
+
+ends_more : (a b : Asked) (input taken : SourceState) (output put : SinkState) (entropy spent : EntropyState) (untouched unasked : Type 0) (error : EncryptError) → SaysMore a b
+    → EndsSo a input taken output put entropy spent untouched unasked error → EndsSo b input taken output put entropy spent untouched unasked error
+ends_more a b input taken output put entropy spent untouched unasked (errors.Outside outsides.EntropyFault) more ends = ends
+ends_more a b input taken output put entropy spent untouched unasked (errors.Outside outsides.KeyringFault) more ends =
+    nothing_more a b entropy spent managers.KeyringFault untouched more ends
+ends_more a b input taken output put entropy spent untouched unasked (errors.Outside outside) more ends =
+    after_more a b input taken output put entropy spent (errors.Outside outside) more ends
+ends_more a b input taken output put entropy spent untouched unasked (errors.Refusal refusals.TooManyFrames) more ends =
+    after_more a b input taken output put entropy spent (errors.Refusal refusals.TooManyFrames) more ends
+ends_more a b input taken output put entropy spent untouched unasked (errors.Refusal (refusals.TooManyDataKeys n)) more ends =
+    start_more a b entropy spent (refusals.TooManyDataKeys n) untouched more ends
+ends_more a b input taken output put entropy spent untouched unasked (errors.Refusal (refusals.HeaderTooLong n)) more ends =
+    start_more a b entropy spent (refusals.HeaderTooLong n) untouched more ends
+ends_more a b input taken output put entropy spent untouched unasked (errors.Refusal refusal) more ends = nothing_more a b entropy spent (managers.Refusal refusal) untouched more ends
+ends_more a b input taken output put entropy spent untouched unasked errors.Memory more ends =
+    ⊎_map (memory_more a b entropy spent untouched more) (after_more a b input taken output put entropy spent errors.Memory more) ends
+
+-- ---- keys that are told
+
+-- The manager tells these keys, and is exact and plain.
+record IsTold (keys : List WrapKeyValue) (m : ManagerMeaning) (tells : List WrapKeyValue → Type 0) (exact : Type 0) : Type 0 where
+  told : tells keys
+  is_exact : exact
+  plain : m.plain ≡ true
+  fresh : m.fresh ≡ true
+  count : length (active keys) ≡ m.wraps
+
+-- its materials are those of the keys
+materials_told : (keys : List WrapKeyValue) (old : ManagerMeaning) (tells : List WrapKeyValue → Type 0) (exact : Type 0) (request : EncRequestValue) (size : ℕ) (max_keys : Option ℕ)
+    (random : List ℕ) (m : EncMaterialsValue) → IsTold keys old tells exact → GivesMaterials old tells exact request random m
+    → m ≡ materials_of (writer_of keys old request size max_keys) random
+materials_told keys old tells exact request size max_keys random m is given =
+    let direct : m.served ≡ Direct = given.plain is.plain in
+    let drawn : AreDrawn old.wraps tells random m = given.fresh is.fresh (subst (λ (s : Served). IsNew s) (sym direct) tt) in
+    let wraps : old.wraps ≡ length (active keys) = sym is.count in
+    let entries : m.entries ≡ made keys request.context (take 32 random) (ivs_of (length (active keys)) (drop 32 random)) =
+    drawn.entries keys is.told ∙ (λ i. made keys (given.context i) (drawn.key i) (ivs_of (wraps i) (drop 32 random))) in
+    λ i. record { context = given.context i; required = given.demanded is.is_exact i; key = drawn.key i; entries = entries i; served = direct i }
+
+-- and it gives none for the first refusal, or since a keyring failed
+none_told : (keys : List WrapKeyValue) (old new : ManagerMeaning) (exact : Type 0) (request : EncRequestValue) (size : ℕ) (max_keys : Option ℕ) (error : ManagerError) → exact
+    → GivesNone old new exact request error → (asked_told keys old new request size max_keys).gives_none error
+none_told keys old new exact request size max_keys (managers.Fault fault) is_exact cause = cause
+none_told keys old new exact request size max_keys (managers.Refusal refusal) is_exact cause = cause.1 is_exact
+none_told keys old new exact request size max_keys managers.KeyringFault is_exact cause = (cause.1 is_exact, cause.0)
+none_told keys old new exact request size max_keys managers.Memory is_exact cause = tt
+
+told_more : (keys : List WrapKeyValue) (old new : ManagerMeaning) (tells : List WrapKeyValue → Type 0) (exact : Type 0) (request : EncRequestValue) (size : ℕ) (max_keys : Option ℕ)
+    → IsTold keys old tells exact → SaysMore (asked_of old new tells exact request size max_keys) (asked_told keys old new request size max_keys)
+told_more keys old new tells exact request size max_keys is = record {
+  wraps = sym is.count;
+  gives = λ random m given. (given.unrefused is.is_exact, materials_told keys old tells exact request size max_keys random m is given);
+  gives_none = λ error cause. none_told keys old new exact request size max_keys error is.is_exact cause;
+  size = refl;
+  max_keys = refl;
+}
+
+-- What a manager's `wraps` says of it: as many of the keys that it tells wrap, and where it is plain it is fresh.
+pub record CountsWraps (m : ManagerMeaning) (tells : List WrapKeyValue → Type 0) : Type 0 where
+  pub told : (keys : List WrapKeyValue) → tells keys → length (active keys) ≡ m.wraps
+  pub plain : m.plain ≡ true → m.fresh ≡ true
+
+is_told : (keys : List WrapKeyValue) (m : ManagerMeaning) (tells : List WrapKeyValue → Type 0) (exact : Type 0) → CountsWraps m tells → tells keys → exact → m.plain ≡ true
+    → IsTold keys m tells exact
+is_told keys m tells exact counts told is_exact plain =
+    record { told = told; is_exact = is_exact; plain = plain; fresh = counts.plain plain; count = counts.told keys told }
+
+pub writes_told : (old new : ManagerMeaning) (tells : List WrapKeyValue → Type 0) (exact : Type 0) (request : EncRequestValue) (size : ℕ) (max_keys : Option ℕ)
+    (input taken : SourceState) (output put : SinkState) (entropy spent : EntropyState) (r : Result (Unit {0}) EncryptError) → CountsWraps old tells
+    → OnOk r (Encrypts (asked_of old new tells exact request size max_keys) input taken output put entropy spent)
+    → (keys : List WrapKeyValue) → tells keys → exact → old.plain ≡ true
+    → OnOk r (Encrypts (asked_told keys old new request size max_keys) input taken output put entropy spent)
+writes_told old new tells exact request size max_keys input taken output put entropy spent r counts done keys told is_exact plain =
+    let a : Asked = asked_of old new tells exact request size max_keys in
+    let b : Asked = asked_told keys old new request size max_keys in
+    let more : SaysMore a b = told_more keys old new tells exact request size max_keys (is_told keys old tells exact counts told is_exact plain) in
+    on_ok_weaker r (encrypts_more a b input taken output put entropy spent more) done
+
+pub stops_told : (old new : ManagerMeaning) (tells : List WrapKeyValue → Type 0) (exact : Type 0) (request : EncRequestValue) (size : ℕ) (max_keys : Option ℕ)
+    (input taken : SourceState) (output put : SinkState) (entropy spent : EntropyState) (untouched unasked : Type 0) (r : Result (Unit {0}) EncryptError) → CountsWraps old tells
+    → IfErr r (EndsSo (asked_of old new tells exact request size max_keys) input taken output put entropy spent untouched unasked)
+    → (keys : List WrapKeyValue) → tells keys → exact → old.plain ≡ true
+    → IfErr r (EndsSo (asked_told keys old new request size max_keys) input taken output put entropy spent untouched unasked)
+stops_told old new tells exact request size max_keys input taken output put entropy spent untouched unasked r counts ends keys told is_exact plain =
+    let a : Asked = asked_of old new tells exact request size max_keys in
+    let b : Asked = asked_told keys old new request size max_keys in
+    let more : SaysMore a b = told_more keys old new tells exact request size max_keys (is_told keys old tells exact counts told is_exact plain) in
+    IfErr-weaker r (EndsSo a input taken output put entropy spent untouched unasked) (EndsSo b input taken output put entropy spent untouched unasked)
+    (λ error why. ends_more a b input taken output put entropy spent untouched unasked error more why) ends
