@@ -1,82 +1,54 @@
--- What a wrapping key answers to a header.
-use Rattle.std.proofs.Common.{◌≡◌, ◌∙◌, ℕ, List, [], ◌∷◌, length, nat_lt, Option, Some, None, Result, Ok, Err, IfOk, sym, ap}
-use Rattle.std.proofs.lemmas.Bool.{lt-ltb}
-use Rattle.esdk_fields.specs.declared.faults.Fault.{Fault}
-use Rattle.esdk_fields.specs.declared.faults.Fault.TheVariants.{Truncated}
+-- What a manager answers to a header.
+use Rattle.std.proofs.Common.{◌≡◌, ℕ, List, Result, Ok, Err, IfOk, refl, sym, subst}
+use Rattle.std.specs.Prelude.{IfErr}
 use Rattle.esdk_fields.specs.Place.{Place, start}
 use Rattle.esdk_fields.specs.Reading.{Reading, Read, Refused, Wanting}
-use Rattle.esdk_fields.specs.declared.stops.Stop.{Stop}
-use Rattle.esdk_fields.specs.declared.stops.Stop.TheVariants as stops
-use Rattle.esdk_fields.specs.Gives.{StopsAt}
 use Rattle.context_codec.specs.Context.{KeyValue}
 use Rattle.header_codec.specs.declared.settings.Settings.{Settings}
 use Rattle.header_codec.specs.Header.{HeaderValue}
 use Rattle.header_codec.specs.Table.{Head, header, BeginsWith}
-use Rattle.keyring_trait.specs.Wrapping.{WrapKeyValue}
-use Rattle.keyring_trait.specs.Unlocking.{Refuses, unlock}
-use Rattle.keyring_trait.proofs.Stored.{stored_is}
-use Rattle.message_format.specs.Judgement.{judged}
-use Rattle.message_format.specs.Reading.{read, unlocking, unlock_header}
-use Rattle.message_format.proofs.ReadingOn.{unlocking_is}
-use Rattle.message_format.proofs.WrittenHeads.{header_found}
+use Rattle.keyring_trait.specs.declared.manager_errors.ManagerError.TheVariants.{KeyringFault}
+use Rattle.keyring_trait.specs.Unlocking.{Unlocking, Refuses, Unlocks}
+use Rattle.body_format.specs.declared.verdicts.Verdict.TheVariants.{Whole}
+use Rattle.message_format.specs.Judgement.{judged, judged_reading}
 use Rattle.message_format.specs.declared.answers.Answer.{Answer}
 use Rattle.message_format.specs.Answers.{unlocking_of}
-use Rattle.esdk_decrypt.specs.Decrypt.{AnswersHeader, AnswersTo, StandsFor, judged_by, stores, stores_pairs}
+use Rattle.message_format.proofs.Judging.{judged_is}
+use Rattle.message_format.proofs.WrittenHeads.{header_found}
+use Rattle.esdk_decrypt.specs.Decrypt.{Answering, AnswersReading, AnswersRequest, AnswersTo, FailsReading, FailsTo, HasKey, NoAnswer, request_of}
+use Rattle.esdk_decrypt.specs.declared.errors.DecryptError.{DecryptError}
+use Rattle.esdk_decrypt.specs.declared.errors.DecryptError.TheVariants as errors
+use Rattle.esdk_fields.specs.declared.refusals.Outside.TheVariants as outsides
 
--- what is said of pairs follows from what was read
-pub stores_is : (settings : Settings) (b : List ℕ) (r : Reading Head) → header settings (start b) ≡ r → stores_pairs settings b ≡ stores r
-stores_is settings b r read = ap stores read
+-- ---- a header that was found
 
--- a header that was found stores its pairs
-pub stores_found : (settings : Settings) (b : List ℕ) (h : HeaderValue) (end : Place) → BeginsWith settings b h end
-    → stores_pairs settings b ≡ nat_lt 0 (length h.stored)
-stores_found settings b h end begins =
-    stores_is settings b (Read begins.parts end) begins.read
-    ∙ ap (λ (c : List KeyValue). nat_lt 0 (length c)) (stored_is begins.parts.context h.stored begins.stored)
+-- the answer to it is the answer to the bytes
+pub answers_found : (manager : Answering) (settings : Settings) (given : List KeyValue) (b : List ℕ) (h : HeaderValue) (end : Place) (r : Result Answer DecryptError) → BeginsWith settings b h end
+    → IfOk r (λ answer. AnswersRequest manager (request_of given h) (unlocking_of answer)) → IfOk r (λ answer. AnswersTo manager settings given b (unlocking_of answer))
+answers_found manager settings given b h end (Err error) begins answers = tt
+answers_found manager settings given b h end (Ok answer) begins answers =
+    subst (λ (reading : Reading Head). AnswersReading manager given b reading (unlocking_of answer)) (sym begins.read)
+    (subst (λ (v : HeaderValue). AnswersRequest manager (request_of given v) (unlocking_of answer)) (sym (header_found settings b h end begins)) answers)
 
--- and is unlocked as what was found says
-pub unlocking_found : (settings : Settings) (b : List ℕ) (h : HeaderValue) (end : Place) (keys : List WrapKeyValue) → BeginsWith settings b h end
-    → unlocking b settings [] [] keys ≡ unlock h.stored h.entries [] [] keys
-unlocking_found settings b h end keys begins =
-    unlocking_is b settings [] [] keys (Read begins.parts end) begins.read
-    ∙ ap (λ (v : HeaderValue). unlock_header v [] [] keys) (header_found settings b h end begins)
+-- and a failure of the manager is one at the bytes
+pub fails_found : (manager : Answering) (settings : Settings) (given : List KeyValue) (b : List ℕ) (h : HeaderValue) (end : Place) (r : Result Answer DecryptError) → BeginsWith settings b h end
+    → IfErr r (NoAnswer (manager.finds_none (request_of given h) KeyringFault)) → IfErr r (NoAnswer (FailsTo manager settings given b))
+fails_found manager settings given b h end (Ok answer) begins fails = tt
+fails_found manager settings given b h end (Err (errors.Outside outsides.KeyringFault)) begins failed =
+    subst (λ (reading : Reading Head). FailsReading manager given b reading) (sym begins.read)
+    (subst (λ (v : HeaderValue). manager.finds_none (request_of given v) KeyringFault) (sym (header_found settings b h end begins)) failed)
+fails_found manager settings given b h end (Err (errors.Outside other)) begins none = none
+fails_found manager settings given b h end (Err (errors.Fault fault)) begins none = none
+fails_found manager settings given b h end (Err errors.Memory) begins free = tt
 
--- a header that has a fault, and one that isn't whole
-pub unlocking_refused : (settings : Settings) (b : List ℕ) (fault : Fault) (at : ℕ) (keys : List WrapKeyValue) → header settings (start b) ≡ Refused fault at
-    → unlocking b settings [] [] keys ≡ Refuses fault
-unlocking_refused settings b fault at keys refused = unlocking_is b settings [] [] keys (Refused fault at) refused
+-- ---- what is whole was unlocked
 
-pub unlocking_wanting : (settings : Settings) (b : List ℕ) (keys : List WrapKeyValue) → header settings (start b) ≡ Wanting
-    → unlocking b settings [] [] keys ≡ Refuses Truncated
-unlocking_wanting settings b keys wanting = unlocking_is b settings [] [] keys Wanting wanting
+opens_reading : (b : List ℕ) (settings : Settings) (answer : Unlocking) (r : Reading Head) → (judged_reading b settings answer r).verdict ≡ Whole → HasKey answer
+opens_reading b settings (Unlocks whole only key) r e = tt
+opens_reading b settings (Refuses fault) (Read parts body) e = absurd cc
+opens_reading b settings (Refuses fault) (Refused other at) e = absurd cc
+opens_reading b settings (Refuses fault) Wanting e = absurd cc
 
--- the answer to a header that was found is the answer to the bytes
-pub answer_found : (w : WrapKeyValue) (settings : Settings) (b : List ℕ) (h : HeaderValue) (end : Place) (answer : Option Answer) → BeginsWith settings b h end
-    → AnswersHeader w h answer → AnswersTo w settings b answer
-answer_found w settings b h end None begins some =
-    stores_found settings b h end begins ∙ lt-ltb 0 (length h.stored) some
-answer_found w settings b h end (Some answer) begins answers = (
-  stores_found settings b h end begins ∙ ap (λ (c : List KeyValue). nat_lt 0 (length c)) answers.0,
-  answers.1 ∙ ap (λ (c : List KeyValue). unlock c h.entries [] [] (w ∷ [])) (sym answers.0) ∙ sym (unlocking_found settings b h end (w ∷ []) begins),
-)
-
--- and so is the answer that stands where there is none
-pub answer_without : (w : WrapKeyValue) (settings : Settings) (b : List ℕ) (stop : Stop) (answer : Answer) → StopsAt stop (header settings (start b))
-    → StandsFor stop (unlocking_of answer) → AnswersTo w settings b (Some answer)
-answer_without w settings b (stops.Fault fault at) answer refused stands =
-    (stores_is settings b (Refused fault at) refused, stands ∙ sym (unlocking_refused settings b fault at (w ∷ []) refused))
-answer_without w settings b stops.Wanting answer wanting stands =
-    (stores_is settings b Wanting wanting, stands ∙ sym (unlocking_wanting settings b (w ∷ []) wanting))
-answer_without w settings b stops.Memory answer memory stands = absurd stands
-
--- the same of a call that may find no memory
-pub answered_found : {E : Type 0} (w : WrapKeyValue) (settings : Settings) (b : List ℕ) (h : HeaderValue) (end : Place) (r : Result (Option Answer) E)
-    → BeginsWith settings b h end → IfOk r (AnswersHeader w h) → IfOk r (AnswersTo w settings b)
-answered_found w settings b h end (Ok answer) begins answers = answer_found w settings b h end answer begins answers
-answered_found w settings b h end (Err error) begins answers = tt
-
--- the judgement under the key's answer is the key's judgement
-pub judged_answer : (w : WrapKeyValue) (settings : Settings) (b : List ℕ) (answer : Answer) → unlocking_of answer ≡ unlocking b settings [] [] (w ∷ [])
-    → judged b settings (unlocking_of answer) ≡ judged_by w settings b
-unfolding read
-judged_answer w settings b answer is = ap (judged b settings) is
+pub whole_opens : (b : List ℕ) (settings : Settings) (answer : Unlocking) → (judged b settings answer).verdict ≡ Whole → HasKey answer
+whole_opens b settings answer whole =
+    opens_reading b settings answer (header settings (start b)) (rw (judged_is b settings answer (header settings (start b)) refl) at whole)

@@ -1,4 +1,6 @@
 mod Answering
 mod Putting
+pub mod Told
+pub mod Readers
 pub mod WholeInputs
 pub mod RoundTrip

@@ -1,29 +1,25 @@
 -- What the bytes taken say of all the bytes that an input tells.
-use Rattle.std.proofs.Common.{◌≡◌, ◌∙◌, ℕ, ◌≤◌, List, [], ◌∷◌, ◌++◌, length, true, false, Option, Some, None, refl, sym, ap, subst, arith, append-nil, length-append, inl, inr}
+use Rattle.std.proofs.Common.{◌≡◌, ◌∙◌, ℕ, ◌≤◌, List, ◌++◌, length, Option, Some, None, refl, sym, ap, subst, arith, append-nil, length-append, inl, inr}
 use Rattle.std.specs.Io.KnownBytes.{Appends, Consumes, IsAtEnd}
-use Rattle.esdk_base.specs.Counts.{Stayed}
+use Rattle.esdk_fields.specs.Counts.{Stayed}
 use Rattle.esdk_base.specs.Streams.{SinkState, SourceState}
 use Rattle.esdk_fields.specs.declared.faults.Fault.{Fault}
 use Rattle.esdk_fields.specs.declared.refusals.Outside.TheVariants as outsides
-use Rattle.esdk_fields.specs.Place.{start, followed}
-use Rattle.esdk_fields.specs.Reading.{Reading, Read, Refused, Wanting}
-use Rattle.esdk_fields.proofs.Fronts.{value_stays}
-use Rattle.header_codec.specs.declared.settings.Settings.{Settings}
-use Rattle.header_codec.specs.Table.{Head, header}
-use Rattle.header_codec.proofs.Order.{IsSequential-header}
-use Rattle.keyring_trait.specs.Wrapping.{WrapKeyValue}
+use Rattle.context_codec.specs.Context.{KeyValue}
+use Rattle.keyring_trait.specs.Unlocking.{Unlocks}
 use Rattle.body_format.specs.declared.verdicts.Verdict.{Verdict}
 use Rattle.body_format.specs.declared.verdicts.Verdict.TheVariants.{Going, Whole, Faulty}
-use Rattle.message_format.specs.Judgement.{Judged, content}
-use Rattle.message_format.specs.Reading.{read}
+use Rattle.message_format.specs.Judgement.{Judged, content, judged}
+use Rattle.message_format.specs.Reading.{unlocking}
 use Rattle.message_format.proofs.Following.{faults_stay}
 use Rattle.message_format.proofs.ReadingOn.{read_goes_on}
 use Rattle.whole_input.specs.Taken.{Came, EndSeen}
-use Rattle.esdk_decrypt.specs.Decrypt.{judged_by, stores, stores_pairs, fault_of, fault_at_end, Decrypts, HasFault, HasPairs, EndsSo}
-use Rattle.esdk_decrypt.specs.Laws.{IsWholeInput}
+use Rattle.esdk_decrypt.specs.Decrypt.{fault_of, fault_at_end, Decrypts, HasFault, EndsSo}
+use Rattle.esdk_decrypt.specs.Told.{Reader, asked_by, judged_by}
+use Rattle.esdk_decrypt.specs.Laws.{IsWholeInput, IsWholeMessage}
 use Rattle.esdk_decrypt.specs.declared.errors.DecryptError.{DecryptError}
 use Rattle.esdk_decrypt.specs.declared.errors.DecryptError.TheVariants as errors
-use Rattle.esdk_decrypt.proofs.Answering.{stores_is}
+use Rattle.esdk_decrypt.proofs.Readers.{answers_unlocking, judged_reader, never_fails}
 
 -- ---- the bytes that came
 
@@ -64,74 +60,64 @@ fault_ends Whole fault e = absurd cc
 fault_ends (Faulty other) fault e = e
 
 -- a fault of a front is the fault of the whole, with what was released before it
-front_judged : (w : WrapKeyValue) (settings : Settings) (told bytes more : List ℕ) (fault : Fault) → told ≡ bytes ++ more
-    → fault_of (judged_by w settings bytes).verdict ≡ Some fault → judged_by w settings told ≡ judged_by w settings bytes
-front_judged w settings told bytes more fault is e =
-    ap (judged_by w settings) is
-    ∙ faults_stay (λ b. read b settings [] [] (w ∷ [])) (read_goes_on settings [] [] (w ∷ [])) bytes more fault
-    (faulty (judged_by w settings bytes).verdict fault e)
-
--- what follows a header that stores pairs leaves it so
-stored_stay : (settings : Settings) (b more : List ℕ) (r : Reading Head) → header settings (start b) ≡ r → stores r ≡ true → stores_pairs settings (b ++ more) ≡ true
-stored_stay settings b more (Read parts p) e some =
-    stores_is settings (b ++ more) (Read parts (followed p more)) (value_stays (header settings) b more parts p (IsSequential-header settings) e) ∙ some
-stored_stay settings b more (Refused fault at) e none = absurd cc
-stored_stay settings b more Wanting e none = absurd cc
+front_judged : (reader : Reader) (told bytes more : List ℕ) (fault : Fault) → told ≡ bytes ++ more
+    → fault_of (judged_by reader bytes).verdict ≡ Some fault → judged_by reader told ≡ judged_by reader bytes
+front_judged reader told bytes more fault is e =
+    ap (judged_by reader) is
+    ∙ faults_stay (judged_by reader) (read_goes_on reader.settings reader.given reader.required reader.keys) bytes more fault
+    (faulty (judged_by reader bytes).verdict fault e)
 
 -- ---- what ended a decryption
 
 -- a fault that is answered is that of all the bytes
-fault_judged : (w : WrapKeyValue) (settings : Settings) (input taken : SourceState) (output put : SinkState) (told : List ℕ) (fault : Fault)
-    → input.left ≡ Some told → (has : HasFault w settings input taken output put fault)
-    → (judged_by w settings told ≡ judged_by w settings has.bytes) × (fault_at_end (judged_by w settings has.bytes).verdict ≡ Some fault)
-fault_judged w settings input taken output put told fault is has =
+fault_judged : (reader : Reader) (input taken : SourceState) (output put : SinkState) (told : List ℕ) (fault : Fault)
+    → input.left ≡ Some told → (has : HasFault (asked_by reader) input taken output put fault)
+    → (judged_by reader told ≡ judged has.bytes reader.settings has.answer) × (fault_at_end (judged has.bytes reader.settings has.answer).verdict ≡ Some fault)
+fault_judged reader input taken output put told fault is has =
+    let same = judged_reader reader has.bytes has.answer has.releases.answered in
     elim has.cause [
       | inl early ↦
           let front = came_front input taken told has.bytes is has.releases.came in
-          (front_judged w settings told has.bytes front.0 fault front.1 early, fault_ends (judged_by w settings has.bytes).verdict fault early)
-      | inr late ↦ (ap (judged_by w settings) (came_all input taken told has.bytes is has.releases.came late.0), late.1)
+          (front_judged reader told has.bytes front.0 fault front.1 (rw same at early) ∙ sym same, fault_ends (judged has.bytes reader.settings has.answer).verdict fault early)
+      | inr late ↦ (ap (judged_by reader) (came_all input taken told has.bytes is has.releases.came late.0) ∙ sym same, late.1)
     ]
 
-pub first_fault : (w : WrapKeyValue) (settings : Settings) (input taken : SourceState) (output put : SinkState) (told : List ℕ) (fault : Fault)
-    → input.left ≡ Some told → HasFault w settings input taken output put fault
-    → (fault_at_end (judged_by w settings told).verdict ≡ Some fault) × Appends output.written put.written (content (judged_by w settings told))
-first_fault w settings input taken output put told fault is has =
-    let judged = fault_judged w settings input taken output put told fault is has in (
-      ap (λ (j : Judged). fault_at_end j.verdict) judged.0 ∙ judged.1,
-      subst (λ (j : Judged). Appends output.written put.written (content j)) (sym judged.0) has.releases.gained,
+pub first_fault : (reader : Reader) (input taken : SourceState) (output put : SinkState) (told : List ℕ) (fault : Fault)
+    → input.left ≡ Some told → HasFault (asked_by reader) input taken output put fault
+    → (fault_at_end (judged_by reader told).verdict ≡ Some fault) × Appends output.written put.written (content (judged_by reader told))
+first_fault reader input taken output put told fault is has =
+    let all = fault_judged reader input taken output put told fault is has in (
+      ap (λ (j : Judged). fault_at_end j.verdict) all.0 ∙ all.1,
+      subst (λ (j : Judged). Appends output.written put.written (content j)) (sym all.0) has.releases.gained,
     )
 
 -- what is decrypted is all the bytes
-pub all_decrypted : (w : WrapKeyValue) (settings : Settings) (input taken : SourceState) (output put : SinkState) (told : List ℕ)
-    → input.left ≡ Some told → Decrypts w settings input taken output put
-    → ((judged_by w settings told).verdict ≡ Whole) × Appends output.written put.written (content (judged_by w settings told))
-all_decrypted w settings input taken output put told is done =
-    let all = ap (judged_by w settings) (came_all input taken told done.bytes is done.releases.came done.end) in (
-      ap (λ (j : Judged). j.verdict) all ∙ done.whole,
-      subst (λ (j : Judged). Appends output.written put.written (content j)) (sym all) done.releases.gained,
-    )
-
--- pairs that aren't read yet are pairs of the input
-pub pairs_stored : (settings : Settings) (input taken : SourceState) (told : List ℕ) → input.left ≡ Some told → HasPairs settings input taken → stores_pairs settings told ≡ true
-pairs_stored settings input taken told is has =
-    let front = came_front input taken told has.bytes is has.came in
-    ap (stores_pairs settings) front.1 ∙ stored_stay settings has.bytes front.0 (header settings (start has.bytes)) refl has.pairs
+pub all_decrypted : (reader : Reader) (input taken : SourceState) (output put : SinkState) (context : List KeyValue) (told : List ℕ)
+    → input.left ≡ Some told → Decrypts (asked_by reader) input taken output put context → IsWholeMessage reader told output put context
+all_decrypted reader input taken output put context told is done =
+    let all = came_all input taken told done.bytes is done.releases.came done.end in
+    let same = ap (judged_by reader) all ∙ sym (judged_reader reader done.bytes (Unlocks context done.only done.key) done.releases.answered) in
+    record {
+      only = done.only;
+      key = done.key;
+      unlocked = ap (λ b. unlocking b reader.settings reader.given reader.required reader.keys) all
+          ∙ sym (answers_unlocking reader done.bytes (Unlocks context done.only done.key) done.releases.answered);
+      whole = ap (λ (j : Judged). j.verdict) same ∙ done.whole;
+      gained = subst (λ (j : Judged). Appends output.written put.written (content j)) (sym same) done.releases.gained;
+    }
 
 -- of a whole input only memory can be wanting
-pub memory_alone : (w : WrapKeyValue) (settings : Settings) (input taken : SourceState) (output put : SinkState) (told : List ℕ) (error : DecryptError)
-    → IsWholeInput w settings input told → Stayed input.faults taken.faults → Stayed output.faults put.faults
-    → EndsSo w settings input taken output put error → error ≡ errors.Memory
-memory_alone w settings input taken output put told (errors.Fault fault) whole source sink has =
-    let named = first_fault w settings input taken output put told fault whole.told has in
+pub memory_alone : (reader : Reader) (input taken : SourceState) (output put : SinkState) (unwritten : Type 0) (told : List ℕ) (error : DecryptError)
+    → IsWholeInput reader input told → Stayed input.faults taken.faults → Stayed output.faults put.faults
+    → EndsSo (asked_by reader) input taken output put unwritten error → error ≡ errors.Memory
+memory_alone reader input taken output put unwritten told (errors.Fault fault) whole source sink has =
+    let named = first_fault reader input taken output put told fault whole.told has in
     let none : None ≡ Some fault = sym (ap fault_at_end whole.whole) ∙ named.0 in
     absurd cc
-memory_alone w settings input taken output put told (errors.Outside outsides.SourceFault) whole source sink failed = absurd (omega (arith, source, failed.rose))
-memory_alone w settings input taken output put told (errors.Outside outsides.SinkFault) whole source sink failed = absurd (omega (arith, sink, failed.1))
-memory_alone w settings input taken output put told (errors.Outside outsides.InputTooLong) whole source sink failed =
+memory_alone reader input taken output put unwritten told (errors.Outside outsides.SourceFault) whole source sink failed = absurd (omega (arith, source, failed.rose))
+memory_alone reader input taken output put unwritten told (errors.Outside outsides.SinkFault) whole source sink failed = absurd (omega (arith, sink, failed.1))
+memory_alone reader input taken output put unwritten told (errors.Outside outsides.KeyringFault) whole source sink failed = absurd (never_fails reader failed.0.bytes failed.0.failed)
+memory_alone reader input taken output put unwritten told (errors.Outside outsides.InputTooLong) whole source sink failed =
     absurd (omega (arith, came_few input taken told failed.bytes whole.told failed.releases.came, failed.most.count, whole.few))
-memory_alone w settings input taken output put told (errors.Outside other) whole source sink none = absurd none
-memory_alone w settings input taken output put told errors.NotYet whole source sink has =
-    let some = pairs_stored settings input taken told whole.told has.0 in
-    let no : false ≡ true = sym whole.plain ∙ some in
-    absurd cc
-memory_alone w settings input taken output put told errors.Memory whole source sink free = refl
+memory_alone reader input taken output put unwritten told (errors.Outside other) whole source sink none = absurd none
+memory_alone reader input taken output put unwritten told errors.Memory whole source sink free = refl

@@ -1,7 +1,7 @@
 -- What decrypting an input comes to. Standard: AWS Encryption SDK Specification, "Decrypt".
-use Rattle.std.specs.Prelude.{◌≡◌, ◌⊎◌, ℕ, ◌<◌, List, [], ◌∷◌, length, Bool, true, false, nat_lt, Option, Some, None, Result, Ok, Err}
+use Rattle.std.specs.Prelude.{◌≡◌, ◌⊎◌, ℕ, List, ⊤, Option, Some, None, Result, Ok, Err}
 use Rattle.std.specs.Io.KnownBytes.{Appends}
-use Rattle.esdk_base.specs.Counts.{Rose}
+use Rattle.esdk_fields.specs.Counts.{Rose}
 use Rattle.esdk_base.specs.Sink.{AppendsFront}
 use Rattle.esdk_base.specs.Streams.{SinkState, SourceState}
 use Rattle.esdk_fields.specs.declared.faults.Fault.{Fault}
@@ -15,35 +15,66 @@ use Rattle.esdk_fields.specs.Reading.{Reading, Read, Refused, Wanting}
 use Rattle.header_codec.specs.declared.settings.Settings.{Settings}
 use Rattle.header_codec.specs.Header.{HeaderValue}
 use Rattle.header_codec.specs.Table.{Head, header}
-use Rattle.keyring_trait.specs.Parts.{stored_in}
+use Rattle.context_codec.specs.Context.{KeyValue}
+use Rattle.keyring_trait.specs.declared.manager_errors.ManagerError.{ManagerError}
+use Rattle.keyring_trait.specs.declared.manager_errors.ManagerError.TheVariants as managers
+use Rattle.keyring_trait.specs.declared.served.Served.{Served}
+use Rattle.keyring_trait.specs.Manager.{ManagerMeaning, FindsMaterials, FindsNone}
+use Rattle.keyring_trait.specs.Materials.{DecMaterialsValue}
+use Rattle.keyring_trait.specs.Requests.{DecRequestValue}
+use Rattle.keyring_trait.specs.Unlocking.{Unlocking, Refuses, Unlocks}
 use Rattle.keyring_trait.specs.Wrapping.{WrapKeyValue}
-use Rattle.keyring_trait.specs.Unlocking.{Unlocking, Refuses, unlock}
 use Rattle.body_format.specs.declared.verdicts.Verdict.{Verdict}
 use Rattle.body_format.specs.declared.verdicts.Verdict.TheVariants as verdicts
-use Rattle.message_format.specs.declared.answers.Answer.{Answer}
-use Rattle.message_format.specs.declared.judgements.Judgement.{Judgement}
-use Rattle.message_format.specs.Answers.{judged_of, unlocking_of}
-use Rattle.message_format.specs.Judgement.{Judged, content}
-use Rattle.message_format.specs.Reading.{read, unlocking}
+use Rattle.message_format.specs.Judgement.{content, header_of, judged}
 use Rattle.whole_input.specs.declared.taken.End.{End}
 use Rattle.whole_input.specs.declared.taken.End.TheVariants as ends
 use Rattle.whole_input.specs.Taken.{Came, EndSeen, MostTaken}
 use Rattle.esdk_decrypt.specs.declared.errors.DecryptError.{DecryptError}
 use Rattle.esdk_decrypt.specs.declared.errors.DecryptError.TheVariants as errors
 
--- the judgement of bytes by a reader with one wrapping key, to whom no pairs are given and who requires none
-abbrev pub judged_by : WrapKeyValue → Settings → List ℕ → Judged
-judged_by w settings bytes = read bytes settings [] [] (w ∷ [])
+-- ---- what a manager answers to a header
 
--- the header stores pairs
-abbrev pub stores : Reading Head → Bool
-stores (Read parts body) = nat_lt 0 (length (stored_in parts.context))
-stores (Refused fault at) = false
-stores Wanting = false
+-- what is asked of a manager about this header, when the caller gives these pairs
+abbrev pub request_of : List KeyValue → HeaderValue → DecRequestValue
+request_of given h = record { suite = h.suite; stored = h.stored; given = given; entries = h.entries }
 
--- a whole header stands at the front of the bytes, and stores pairs
-abbrev pub stores_pairs : Settings → List ℕ → Bool
-stores_pairs settings bytes = stores (header settings (start bytes))
+-- What a manager may answer: the materials that it finds, or why it finds none.
+pub record Answering : Type 1 where
+  pub finds : DecRequestValue → DecMaterialsValue → Type 0
+  pub finds_none : DecRequestValue → ManagerError → Type 0
+
+-- what a manager that was so and is so now may answer
+abbrev pub answering_of : ManagerMeaning → ManagerMeaning → (List WrapKeyValue → Type 0) → Type 0 → Answering
+answering_of old new tells exact = record { finds = FindsMaterials old new tells exact; finds_none = FindsNone old new tells exact }
+
+-- the answer is that of materials that the manager finds, or of the fault that it names
+abbrev pub AnswersRequest : Answering → DecRequestValue → Unlocking → Type 0
+AnswersRequest manager request (Unlocks whole only key) =
+    (served : Served) × manager.finds request (record { context = whole; only = only; key = key; served = served })
+AnswersRequest manager request (Refuses fault) = manager.finds_none request (managers.Fault fault)
+
+-- The answer is the manager's to the header that was read. Where there is none, nothing depends on the answer: it is the header's fault, or that bytes are missing.
+abbrev pub AnswersReading : Answering → List KeyValue → List ℕ → Reading Head → Unlocking → Type 0
+AnswersReading manager given bytes (Read parts body) answer = AnswersRequest manager (request_of given (header_of bytes parts)) answer
+AnswersReading manager given bytes (Refused fault at) answer = answer ≡ Refuses fault
+AnswersReading manager given bytes Wanting answer = answer ≡ Refuses Truncated
+
+-- the answer is the manager's to the header at the front of the bytes
+abbrev pub AnswersTo : Answering → Settings → List KeyValue → List ℕ → Unlocking → Type 0
+AnswersTo manager settings given bytes answer = AnswersReading manager given bytes (header settings (start bytes)) answer
+
+-- the manager failed when it was asked about the header that was read
+abbrev pub FailsReading : Answering → List KeyValue → List ℕ → Reading Head → Type 0
+FailsReading manager given bytes (Read parts body) = manager.finds_none (request_of given (header_of bytes parts)) managers.KeyringFault
+FailsReading manager given bytes (Refused fault at) = ⊥
+FailsReading manager given bytes Wanting = ⊥
+
+-- the manager failed when it was asked about the header at the front of the bytes
+abbrev pub FailsTo : Answering → Settings → List KeyValue → List ℕ → Type 0
+FailsTo manager settings given bytes = FailsReading manager given bytes (header settings (start bytes))
+
+-- ---- how bytes are judged
 
 -- the fault of bytes that are judged so, if no more follow
 abbrev pub fault_at_end : Verdict → Option Fault
@@ -57,89 +88,106 @@ fault_of verdicts.Going = None
 fault_of verdicts.Whole = None
 fault_of (verdicts.Faulty fault) = Some fault
 
--- These bytes were taken, their header stores no pairs, and the output gained what their judgement releases.
-pub record Releases (w : WrapKeyValue) (settings : Settings) (input taken : SourceState) (output put : SinkState) (bytes : List ℕ) : Type 0 where
-  pub came : Came input taken bytes
-  pub plain : stores_pairs settings bytes ≡ false
-  pub gained : Appends output.written put.written (content (judged_by w settings bytes))
+-- What a run is about: what the manager may answer, the limits, and the pairs that are given.
+pub record Asked : Type 1 where
+  pub manager : Answering
+  pub settings : Settings
+  pub given : List KeyValue
 
--- The whole input was taken, is a whole message, and the output gained its content.
-pub record Decrypts (w : WrapKeyValue) (settings : Settings) (input taken : SourceState) (output put : SinkState) : Type 0 where
+-- These bytes were taken, the manager answered so to their header, and the output gained what their judgement releases then.
+pub record Releases (asked : Asked) (input taken : SourceState) (output put : SinkState) (bytes : List ℕ) (answer : Unlocking) : Type 0 where
+  pub came : Came input taken bytes
+  pub answered : AnswersTo asked.manager asked.settings asked.given bytes answer
+  pub gained : Appends output.written put.written (content (judged bytes asked.settings answer))
+
+-- The whole input was taken, is a whole message, the output gained its content, and this is its whole context.
+pub record Decrypts (asked : Asked) (input taken : SourceState) (output put : SinkState) (context : List KeyValue) : Type 0 where
   pub bytes : List ℕ
-  pub releases : Releases w settings input taken output put bytes
+  pub only : List KeyValue
+  pub key : List ℕ
+  pub releases : Releases asked input taken output put bytes (Unlocks context only key)
   pub end : EndSeen input taken bytes
-  pub whole : (judged_by w settings bytes).verdict ≡ verdicts.Whole
+  pub whole : (judged bytes asked.settings (Unlocks context only key)).verdict ≡ verdicts.Whole
 
 -- The bytes taken have this fault, or the whole input was taken and has it. The output gained what was released before.
-pub record HasFault (w : WrapKeyValue) (settings : Settings) (input taken : SourceState) (output put : SinkState) (fault : Fault) : Type 0 where
+pub record HasFault (asked : Asked) (input taken : SourceState) (output put : SinkState) (fault : Fault) : Type 0 where
   pub bytes : List ℕ
-  pub releases : Releases w settings input taken output put bytes
-  pub cause : (fault_of (judged_by w settings bytes).verdict ≡ Some fault)
-      ⊎ (EndSeen input taken bytes × (fault_at_end (judged_by w settings bytes).verdict ≡ Some fault))
+  pub answer : Unlocking
+  pub releases : Releases asked input taken output put bytes answer
+  pub cause : (fault_of (judged bytes asked.settings answer).verdict ≡ Some fault)
+      ⊎ (EndSeen input taken bytes × (fault_at_end (judged bytes asked.settings answer).verdict ≡ Some fault))
 
 -- The bytes taken have no fault, and a read failed. The output gained what was released before.
-pub record SourceFails (w : WrapKeyValue) (settings : Settings) (input taken : SourceState) (output put : SinkState) : Type 0 where
+pub record SourceFails (asked : Asked) (input taken : SourceState) (output put : SinkState) : Type 0 where
   pub bytes : List ℕ
-  pub releases : Releases w settings input taken output put bytes
-  pub sound : fault_of (judged_by w settings bytes).verdict ≡ None
+  pub answer : Unlocking
+  pub releases : Releases asked input taken output put bytes answer
+  pub sound : fault_of (judged bytes asked.settings answer).verdict ≡ None
   pub rose : Rose input.faults taken.faults
 
 -- 2^62 bytes were taken, and have no fault. The output gained what was released before.
-pub record IsTooLong (w : WrapKeyValue) (settings : Settings) (input taken : SourceState) (output put : SinkState) : Type 0 where
+pub record IsTooLong (asked : Asked) (input taken : SourceState) (output put : SinkState) : Type 0 where
   pub bytes : List ℕ
-  pub releases : Releases w settings input taken output put bytes
-  pub sound : fault_of (judged_by w settings bytes).verdict ≡ None
+  pub answer : Unlocking
+  pub releases : Releases asked input taken output put bytes answer
+  pub sound : fault_of (judged bytes asked.settings answer).verdict ≡ None
   pub most : MostTaken input taken bytes
 
--- These bytes were taken, and the output gained a front of what their judgement releases.
-pub record ReleasesFront (w : WrapKeyValue) (settings : Settings) (input taken : SourceState) (output put : SinkState) : Type 0 where
+-- These bytes were taken, the manager answered so, and the output gained a front of what their judgement releases then.
+pub record ReleasesFront (asked : Asked) (input taken : SourceState) (output put : SinkState) : Type 0 where
+  pub bytes : List ℕ
+  pub answer : Unlocking
+  pub came : Came input taken bytes
+  pub answered : AnswersTo asked.manager asked.settings asked.given bytes answer
+  pub front : AppendsFront output.written put.written (content (judged bytes asked.settings answer))
+
+-- These bytes were taken, and the manager failed when it was asked about their header.
+pub record ManagerFails (asked : Asked) (input taken : SourceState) : Type 0 where
   pub bytes : List ℕ
   pub came : Came input taken bytes
-  pub front : AppendsFront output.written put.written (content (judged_by w settings bytes))
+  pub failed : FailsTo asked.manager asked.settings asked.given bytes
 
--- These bytes were taken, and their header stores pairs.
-pub record HasPairs (settings : Settings) (input taken : SourceState) : Type 0 where
+-- Bytes were taken, and memory ran out before anything was written.
+pub record HasNoMemory (input taken : SourceState) : Type 0 where
   pub bytes : List ℕ
   pub came : Came input taken bytes
-  pub pairs : stores_pairs settings bytes ≡ true
 
--- why an outside object ended the run, and what it left
-abbrev pub FailsOutside : WrapKeyValue → Settings → SourceState → SourceState → SinkState → SinkState → Outside → Type 0
-FailsOutside w settings input taken output put outsides.SourceFault = SourceFails w settings input taken output put
-FailsOutside w settings input taken output put outsides.SinkFault =
-    ReleasesFront w settings input taken output put × Rose output.faults put.faults
-FailsOutside w settings input taken output put outsides.InputTooLong = IsTooLong w settings input taken output put
-FailsOutside w settings input taken output put outside = ⊥
+-- Why an outside object ended the run, and what it left; `unwritten` says that the output is as before.
+abbrev pub FailsOutside : Asked → SourceState → SourceState → SinkState → SinkState → Type 0 → Outside → Type 0
+FailsOutside asked input taken output put unwritten outsides.SourceFault = SourceFails asked input taken output put
+FailsOutside asked input taken output put unwritten outsides.SinkFault = ReleasesFront asked input taken output put × Rose output.faults put.faults
+FailsOutside asked input taken output put unwritten outsides.KeyringFault = ManagerFails asked input taken × unwritten
+FailsOutside asked input taken output put unwritten outsides.InputTooLong = IsTooLong asked input taken output put
+FailsOutside asked input taken output put unwritten outside = ⊥
 
--- why an input wasn't decrypted, and what that left. Want of memory is free.
-abbrev pub EndsSo : WrapKeyValue → Settings → SourceState → SourceState → SinkState → SinkState → DecryptError → Type 0
-EndsSo w settings input taken output put (errors.Fault fault) = HasFault w settings input taken output put fault
-EndsSo w settings input taken output put (errors.Outside outside) = FailsOutside w settings input taken output put outside
-EndsSo w settings input taken output put errors.NotYet = HasPairs settings input taken × (put ≡ output)
-EndsSo w settings input taken output put errors.Memory = ReleasesFront w settings input taken output put
+-- Why an input wasn't decrypted, and what that left. Want of memory is free.
+abbrev pub EndsSo : Asked → SourceState → SourceState → SinkState → SinkState → Type 0 → DecryptError → Type 0
+EndsSo asked input taken output put unwritten (errors.Fault fault) = HasFault asked input taken output put fault
+EndsSo asked input taken output put unwritten (errors.Outside outside) = FailsOutside asked input taken output put unwritten outside
+EndsSo asked input taken output put unwritten errors.Memory = (HasNoMemory input taken × unwritten) ⊎ ReleasesFront asked input taken output put
 
--- the answer is that of the key to the header, or there is none, since the header stores pairs
-abbrev pub AnswersTo : WrapKeyValue → Settings → List ℕ → Option Answer → Type 0
-AnswersTo w settings bytes None = stores_pairs settings bytes ≡ true
-AnswersTo w settings bytes (Some answer) =
-    (stores_pairs settings bytes ≡ false) × (unlocking_of answer ≡ unlocking bytes settings [] [] (w ∷ []))
+-- ---- the steps of a run
 
--- the same of a header that was found
-abbrev pub AnswersHeader : WrapKeyValue → HeaderValue → Option Answer → Type 0
-AnswersHeader w h None = 0 < length h.stored
-AnswersHeader w h (Some answer) = (h.stored ≡ []) × (unlocking_of answer ≡ unlock [] h.entries [] [] (w ∷ []))
-
--- the answer that stands where there is no header: its fault, or that bytes are missing
+-- the answer where the search for a header stopped so
 abbrev pub StandsFor : Stop → Unlocking → Type 0
 StandsFor (stops.Fault fault at) answer = answer ≡ Refuses fault
 StandsFor stops.Wanting answer = answer ≡ Refuses Truncated
 StandsFor stops.Memory answer = ⊥
 
--- the judgement is that of the bytes, or there is none, since their header stores pairs
-abbrev pub Judges : WrapKeyValue → Settings → List ℕ → Option Judgement → Type 0
-Judges w settings bytes None = stores_pairs settings bytes ≡ true
-Judges w settings bytes (Some judgement) =
-    (stores_pairs settings bytes ≡ false) × (judged_of judgement ≡ judged_by w settings bytes)
+-- why there is no answer: the manager failed, or memory ran out
+abbrev pub NoAnswer : Type 0 → DecryptError → Type 0
+NoAnswer failed (errors.Outside outsides.KeyringFault) = failed
+NoAnswer failed errors.Memory = ⊤
+NoAnswer failed error = ⊥
+
+-- the answer has a data key
+abbrev pub HasKey : Unlocking → Type 0
+HasKey (Unlocks whole only key) = ⊤
+HasKey (Refuses fault) = ⊥
+
+-- the answer has this whole context
+abbrev pub HasContext : Unlocking → List KeyValue → Type 0
+HasContext answer context = (only : List KeyValue) × (key : List ℕ) × (answer ≡ Unlocks context only key)
 
 -- how a run ends whose input was judged so and ended so
 abbrev pub Concludes : {T : Type 0} → Verdict → End → Result T DecryptError → Type 0

@@ -1,78 +1,98 @@
--- What the laws of this crate say of decryptions whose input tells its bytes.
-use Rattle.std.specs.Prelude.{◌≡◌, ℕ, ◌^◌, ◌<◌, List, [], ◌∷◌, length, false, Some}
+-- What the laws of this crate say of decryptions by a reader, whose input tells its bytes.
+use Rattle.std.specs.Prelude.{◌≡◌, ℕ, ◌^◌, ◌<◌, false, List, length, ⊤, Some}
 use Rattle.std.specs.Io.KnownBytes.{Appends}
-use Rattle.esdk_base.specs.Counts.{Stayed}
+use Rattle.esdk_fields.specs.Counts.{Stayed}
 use Rattle.esdk_base.specs.Streams.{SinkState, SourceState}
 use Rattle.esdk_fields.specs.declared.faults.Fault.{Fault}
+use Rattle.context_codec.specs.Context.{KeyValue}
+use Rattle.context_codec.specs.Parts.{holds, only_of}
 use Rattle.edk_codec.specs.Entry.{Entry}
-use Rattle.header_codec.specs.declared.settings.Settings.{Settings}
+use Rattle.keyring_trait.specs.Laws.{AreGiven, AreWrapped, IsEnough}
+use Rattle.keyring_trait.specs.Unlocking.{Unlocks, reserved_key}
 use Rattle.keyring_trait.specs.Wrapping.{WrapKeyValue}
-use Rattle.keyring_trait.specs.Laws.{AreWrapped}
 use Rattle.body_format.specs.declared.verdicts.Verdict.TheVariants.{Whole}
 use Rattle.message_format.specs.Message.{message, IsWritable}
 use Rattle.message_format.specs.Judgement.{content}
+use Rattle.message_format.specs.Reading.{unlocking}
 use Rattle.message_format.specs.Laws.{IsWithinLimits, whole_of_text}
-use Rattle.esdk_decrypt.specs.Decrypt.{judged_by, stores_pairs, fault_at_end, Decrypts, HasFault, EndsSo}
+use Rattle.esdk_decrypt.specs.Decrypt.{fault_at_end, Decrypts, HasFault, EndsSo}
+use Rattle.esdk_decrypt.specs.Told.{Reader, asked_by, judged_by}
 use Rattle.esdk_decrypt.specs.declared.errors.DecryptError.{DecryptError}
 use Rattle.esdk_decrypt.specs.declared.errors.DecryptError.TheVariants.{Memory}
 
 -- ---- any input
 
--- The input tells these bytes, of which there are fewer than 2^62. They are a whole message, and its header stores no pairs.
-pub record IsWholeInput (w : WrapKeyValue) (settings : Settings) (input : SourceState) (bytes : List ℕ) : Type 0 where
+-- The input tells these bytes, of which there are fewer than 2^62, and they are a whole message.
+pub record IsWholeInput (reader : Reader) (input : SourceState) (bytes : List ℕ) : Type 0 where
   pub told : input.left ≡ Some bytes
   pub few : length bytes < 2 ^ 62
-  pub plain : stores_pairs settings bytes ≡ false
-  pub whole : (judged_by w settings bytes).verdict ≡ Whole
+  pub whole : (judged_by reader bytes).verdict ≡ Whole
 
--- Where neither the input nor the output fails, nothing but want of memory keeps a whole message from being decrypted.
+-- Where neither the input nor the output fails, nothing but want of memory keeps a whole message from being decrypted. `⊤` stands for what the run left unwritten, which plays no part.
 abbrev pub DecryptsWholeInputs : Type 0
-DecryptsWholeInputs = (w : WrapKeyValue) (settings : Settings) (input taken : SourceState) (output put : SinkState) (bytes : List ℕ) (error : DecryptError)
-    → IsWholeInput w settings input bytes → Stayed input.faults taken.faults → Stayed output.faults put.faults
-    → EndsSo w settings input taken output put error → error ≡ Memory
+DecryptsWholeInputs = (reader : Reader) (input taken : SourceState) (output put : SinkState) (bytes : List ℕ) (error : DecryptError)
+    → IsWholeInput reader input bytes → Stayed input.faults taken.faults → Stayed output.faults put.faults
+    → EndsSo (asked_by reader) input taken output put ⊤ error → error ≡ Memory
 
--- What is decrypted is all of the input: it is a whole message, and the output gained its content.
+-- All of the input is a whole message, the output gained its content, and this is the whole context that it is unlocked with.
+pub record IsWholeMessage (reader : Reader) (bytes : List ℕ) (output put : SinkState) (context : List KeyValue) : Type 0 where
+  pub only : List KeyValue
+  pub key : List ℕ
+  pub unlocked : unlocking bytes reader.settings reader.given reader.required reader.keys ≡ Unlocks context only key
+  pub whole : (judged_by reader bytes).verdict ≡ Whole
+  pub gained : Appends output.written put.written (content (judged_by reader bytes))
+
+-- What is decrypted is all of the input.
 abbrev pub DecryptsNothingElse : Type 0
-DecryptsNothingElse = (w : WrapKeyValue) (settings : Settings) (input taken : SourceState) (output put : SinkState) (bytes : List ℕ)
-    → input.left ≡ Some bytes → Decrypts w settings input taken output put
-    → ((judged_by w settings bytes).verdict ≡ Whole) × Appends output.written put.written (content (judged_by w settings bytes))
+DecryptsNothingElse = (reader : Reader) (input taken : SourceState) (output put : SinkState) (context : List KeyValue) (bytes : List ℕ)
+    → input.left ≡ Some bytes → Decrypts (asked_by reader) input taken output put context → IsWholeMessage reader bytes output put context
 
 -- A fault that is answered is that of all of the input, however little of it was taken, and the output gained what the judgement of all of it releases.
 abbrev pub NamesTheFirstFault : Type 0
-NamesTheFirstFault = (w : WrapKeyValue) (settings : Settings) (input taken : SourceState) (output put : SinkState) (bytes : List ℕ) (fault : Fault)
-    → input.left ≡ Some bytes → HasFault w settings input taken output put fault
-    → (fault_at_end (judged_by w settings bytes).verdict ≡ Some fault) × Appends output.written put.written (content (judged_by w settings bytes))
+NamesTheFirstFault = (reader : Reader) (input taken : SourceState) (output put : SinkState) (bytes : List ℕ) (fault : Fault)
+    → input.left ≡ Some bytes → HasFault (asked_by reader) input taken output put fault
+    → (fault_at_end (judged_by reader bytes).verdict ≡ Some fault) × Appends output.written put.written (content (judged_by reader bytes))
 
 -- ---- what is written
 
--- the message of a text without a context
-abbrev pub plain_message : List ℕ → ℕ → List ℕ → List Entry → List ℕ → List ℕ
-plain_message text size key entries id = message text [] [] size key entries id
+-- A message, by its text, its context with the keys that are required of the reader, the frame length, the data key, the entries that hold it wrapped, and the message id.
+pub record Written : Type 0 where
+  pub text : List ℕ
+  pub context : List KeyValue
+  pub required : List (List ℕ)
+  pub size : ℕ
+  pub key : List ℕ
+  pub entries : List Entry
+  pub id : List ℕ
 
--- This message can be written, passes no limit of the reader's, and its data key is wrapped under the writers' keys, of which the reader has one.
-pub record IsWrittenFor (w : WrapKeyValue) (settings : Settings) (writers : List WrapKeyValue) (text : List ℕ) (size : ℕ) (key : List ℕ) (entries : List Entry) (id : List ℕ) : Type 0 where
-  pub writable : IsWritable text [] [] size key entries id
-  pub limits : IsWithinLimits settings size entries
-  pub wrapped : AreWrapped writers (w ∷ []) [] key entries
+abbrev pub message_of : Written → List ℕ
+message_of m = message m.text m.context m.required m.size m.key m.entries m.id
 
--- It stores no pairs, is whole, and one unit is released for each frame.
+-- The message can be written, and doesn't hold the format's own key. It passes no limit of the reader's; its data key is wrapped under the writers' keys, of which the
+-- reader has one; the reader is given the required pairs and beside them only pairs of the context, and every key that it requires.
+pub record IsWrittenFor (reader : Reader) (writers : List WrapKeyValue) (m : Written) : Type 0 where
+  pub writable : IsWritable m.text m.context m.required m.size m.key m.entries m.id
+  pub unreserved : holds m.context reserved_key ≡ false
+  pub limits : IsWithinLimits reader.settings m.size m.entries
+  pub wrapped : AreWrapped writers reader.keys m.context m.key m.entries
+  pub enough : IsEnough m.context m.required reader.given
+  pub given : AreGiven reader.required reader.given
+
+-- It is unlocked with its whole context, is whole, and one unit is released for each frame.
 abbrev pub JudgesWhatIsWritten : Type 0
-JudgesWhatIsWritten = (w : WrapKeyValue) (settings : Settings) (writers : List WrapKeyValue) (text : List ℕ) (size : ℕ) (key : List ℕ) (entries : List Entry) (id : List ℕ)
-    → IsWrittenFor w settings writers text size key entries id
-    → (stores_pairs settings (plain_message text size key entries id) ≡ false)
-    × (judged_by w settings (plain_message text size key entries id) ≡ whole_of_text text size)
+JudgesWhatIsWritten = (reader : Reader) (writers : List WrapKeyValue) (m : Written) → IsWrittenFor reader writers m
+    → (unlocking (message_of m) reader.settings reader.given reader.required reader.keys ≡ Unlocks m.context (only_of m.required m.context) m.key)
+    × (judged_by reader (message_of m) ≡ whole_of_text m.text m.size)
 
--- What is decrypted of it is its text.
+-- What is decrypted of it is its text, with its whole context.
 abbrev pub DecryptsToTheText : Type 0
-DecryptsToTheText = (w : WrapKeyValue) (settings : Settings) (writers : List WrapKeyValue) (text : List ℕ) (size : ℕ) (key : List ℕ) (entries : List Entry) (id : List ℕ)
-    (input taken : SourceState) (output put : SinkState)
-    → IsWrittenFor w settings writers text size key entries id → input.left ≡ Some (plain_message text size key entries id)
-    → Decrypts w settings input taken output put → Appends output.written put.written text
+DecryptsToTheText = (reader : Reader) (writers : List WrapKeyValue) (m : Written) (input taken : SourceState) (output put : SinkState) (context : List KeyValue)
+    → IsWrittenFor reader writers m → input.left ≡ Some (message_of m)
+    → Decrypts (asked_by reader) input taken output put context → Appends output.written put.written m.text × (context ≡ m.context)
 
 -- Where neither the input nor the output fails, nothing but want of memory keeps it from being decrypted.
 abbrev pub DecryptsWhatIsWritten : Type 0
-DecryptsWhatIsWritten = (w : WrapKeyValue) (settings : Settings) (writers : List WrapKeyValue) (text : List ℕ) (size : ℕ) (key : List ℕ) (entries : List Entry) (id : List ℕ)
-    (input taken : SourceState) (output put : SinkState) (error : DecryptError)
-    → IsWrittenFor w settings writers text size key entries id → input.left ≡ Some (plain_message text size key entries id)
-    → length (plain_message text size key entries id) < 2 ^ 62 → Stayed input.faults taken.faults → Stayed output.faults put.faults
-    → EndsSo w settings input taken output put error → error ≡ Memory
+DecryptsWhatIsWritten = (reader : Reader) (writers : List WrapKeyValue) (m : Written) (input taken : SourceState) (output put : SinkState) (error : DecryptError)
+    → IsWrittenFor reader writers m → input.left ≡ Some (message_of m)
+    → length (message_of m) < 2 ^ 62 → Stayed input.faults taken.faults → Stayed output.faults put.faults
+    → EndsSo (asked_by reader) input taken output put ⊤ error → error ≡ Memory

@@ -1,2 +1,3 @@
 pub mod Decrypt
+pub mod Told
 pub mod Laws

@@ -10,10 +10,8 @@ use std::alloc::AllocError;
 pub enum DecryptError {
     /// The message has this fault.
     Fault(Fault),
-    /// The input or the output failed, or the input is too long.
+    /// The input, the output or a keyring failed, or the input is too long.
     Outside(Outside),
-    /// The header stores pairs, which can't be read yet.
-    NotYet,
     /// Memory ran out.
     Memory,
 }

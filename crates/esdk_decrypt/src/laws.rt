@@ -1,8 +1,8 @@
-//! Laws about decryptions whose input tells its bytes. A law is a function that does nothing: its contract is what is proved.
+//! Laws about decryptions by a reader, whose input tells its bytes. A law is a function that does nothing: its contract is what is proved.
 
 ghost use Rattle.esdk_decrypt.specs.Laws.{DecryptsWholeInputs, DecryptsNothingElse, NamesTheFirstFault, JudgesWhatIsWritten, DecryptsToTheText, DecryptsWhatIsWritten};
 
-/// An input that is a whole message and stores no pairs is decrypted, unless the input or the output fails or memory runs out. Nothing else is decrypted.
+/// An input that is a whole message is decrypted, unless the input or the output fails or memory runs out. Nothing else is decrypted, and its whole context is the one that it is unlocked with.
 pub fn whole_inputs_are_decrypted()
     ensures decrypts { DecryptsWholeInputs }
     ensures alone { DecryptsNothingElse }
@@ -13,7 +13,7 @@ pub fn the_first_fault_is_named()
     ensures { NamesTheFirstFault }
 {}
 
-/// A message that was written without a context, for a key of the reader's among others, is decrypted to its text.
+/// A message that was written for a key of the reader's among others is decrypted by a reader who is given the required pairs: to its text, with its whole context.
 pub fn written_messages_are_decrypted()
     ensures judged { JudgesWhatIsWritten }
     ensures text { DecryptsToTheText }

@@ -3,6 +3,6 @@ use Rattle.esdk_decrypt.proofs.laws.whole_inputs_are_decrypted.Goals as goal
 
 pub returns : goal.returns
 returns c = record {
-  decrypts = λ w settings input taken output put bytes error whole source sink ends. memory_alone w settings input taken output put bytes error whole source sink ends;
-  alone = λ w settings input taken output put bytes told done. all_decrypted w settings input taken output put bytes told done;
+  decrypts = λ reader input taken output put bytes error whole source sink ends. memory_alone reader input taken output put _ bytes error whole source sink ends;
+  alone = λ reader input taken output put context bytes told done. all_decrypted reader input taken output put context bytes told done;
 }

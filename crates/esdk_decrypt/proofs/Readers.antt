@@ -1,0 +1,39 @@
+-- What is judged with a reader's answer is the reader's judgement.
+use Rattle.std.proofs.Common.{◌≡◌, ℕ, List, refl, sym, ap, ◌∙◌}
+use Rattle.esdk_fields.specs.Place.{start}
+use Rattle.esdk_fields.specs.Reading.{Reading, Read, Refused, Wanting}
+use Rattle.header_codec.specs.Table.{Head, header}
+use Rattle.keyring_trait.specs.Unlocking.{Unlocking, Refuses, Unlocks}
+use Rattle.message_format.specs.Judgement.{judged}
+use Rattle.message_format.specs.Reading.{unlock_reading, unlocking}
+use Rattle.message_format.proofs.ReadingOn.{read_is, unlocking_is}
+use Rattle.esdk_decrypt.specs.Decrypt.{AnswersReading, AnswersTo, FailsReading, FailsTo}
+use Rattle.esdk_decrypt.specs.Told.{Reader, answering_by, judged_by}
+
+answer_is : (reader : Reader) (b : List ℕ) (r : Reading Head) (answer : Unlocking) → AnswersReading (answering_by reader) reader.given b r answer
+    → answer ≡ unlock_reading b reader.given reader.required reader.keys r
+answer_is reader b (Read parts body) (Unlocks whole only key) answers = sym answers.1
+answer_is reader b (Read parts body) (Refuses fault) is = sym is
+answer_is reader b (Refused fault at) answer is = is
+answer_is reader b Wanting answer is = is
+
+-- the answer is what the header unlocks to
+pub answers_unlocking : (reader : Reader) (b : List ℕ) (answer : Unlocking) → AnswersTo (answering_by reader) reader.settings reader.given b answer
+    → answer ≡ unlocking b reader.settings reader.given reader.required reader.keys
+answers_unlocking reader b answer answers =
+    answer_is reader b (header reader.settings (start b)) answer answers
+    ∙ sym (unlocking_is b reader.settings reader.given reader.required reader.keys (header reader.settings (start b)) refl)
+
+pub judged_reader : (reader : Reader) (b : List ℕ) (answer : Unlocking) → AnswersTo (answering_by reader) reader.settings reader.given b answer
+    → judged b reader.settings answer ≡ judged_by reader b
+judged_reader reader b answer answers =
+    ap (judged b reader.settings) (answers_unlocking reader b answer answers) ∙ sym (read_is b reader.settings reader.given reader.required reader.keys)
+
+-- and a reader doesn't fail
+none_fails : (reader : Reader) (b : List ℕ) (r : Reading Head) → ¬ (FailsReading (answering_by reader) reader.given b r)
+none_fails reader b (Read parts body) none = none
+none_fails reader b (Refused fault at) none = none
+none_fails reader b Wanting none = none
+
+pub never_fails : (reader : Reader) (b : List ℕ) → ¬ (FailsTo (answering_by reader) reader.settings reader.given b)
+never_fails reader b fails = none_fails reader b (header reader.settings (start b)) fails
