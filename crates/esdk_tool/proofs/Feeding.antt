@@ -5,7 +5,7 @@ use Rattle.std.proofs.lemmas.List.{take_at}
 use Rattle.std.proofs.KnownBytes.{Consumes-trans, Consumes-nil}
 use Rattle.std.specs.declared.option.Option.{Option}
 use Rattle.std.specs.Io.KnownBytes.{Consumes, IsAtEnd}
-use Rattle.esdk_base.specs.Counts.{counted, RoseBy}
+use Rattle.esdk_fields.specs.Counts.{counted, RoseBy}
 use Rattle.esdk_fields.specs.declared.faults.Fault.{Fault}
 use Rattle.esdk_fields.specs.declared.faults.Fault.TheVariants.{Truncated}
 use Rattle.esdk_fields.specs.declared.refusals.FieldError.TheVariants as errors
@@ -128,12 +128,12 @@ pub feed_cause : (first now : SourceState) (bytes piece : List ℕ) (reader : He
     → Feeds bytes piece reader (Err failure) → IsInputCause failure first now
 feed_cause first now bytes piece reader failures.NotBuilt came feeds = absurd feeds
 feed_cause first now bytes piece reader (failures.BadNumber name) came feeds = absurd feeds
+feed_cause first now bytes piece reader (failures.BadPair number) came feeds = absurd feeds
 feed_cause first now bytes piece reader (failures.Fault fault) came feeds =
     fault_told first.left now.left (bytes ++ piece) fault feeds.0 came.consumed feeds.1
 feed_cause first now bytes piece reader (failures.File refusal) came feeds = absurd feeds
 feed_cause first now bytes piece reader (failures.Outside outside) came feeds = absurd feeds
 feed_cause first now bytes piece reader (failures.Refusal refusal) came feeds = absurd feeds
-feed_cause first now bytes piece reader failures.NotYet came feeds = absurd feeds
 feed_cause first now bytes piece reader failures.Memory came feeds = tt
 
 -- ---- the loop

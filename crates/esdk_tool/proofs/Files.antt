@@ -1,7 +1,7 @@
 -- The key that a told keyring file holds is the key that was read.
 use Rattle.std.proofs.Common.{◌≡◌, ◌∙◌, ℕ, List, true, Some, None, Ok, Err, inl, inr, sym, ap, arith}
 use Rattle.std.specs.declared.option.Option.{Option}
-use Rattle.esdk_base.specs.Counts.{Stayed}
+use Rattle.esdk_fields.specs.Counts.{Stayed}
 use Rattle.esdk_base.specs.Shelf.{Files, Holds, is_missing}
 use Rattle.esdk_base.specs.Streams.{ShelfState}
 use Rattle.esdk_fields.specs.declared.refusals.FileRefusal.{FileRefusal}

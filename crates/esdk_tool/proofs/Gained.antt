@@ -2,7 +2,7 @@
 use Rattle.std.proofs.Common.{ℕ, List, length, sym, subst, arith, Ok, Err, Result}
 use Rattle.std.proofs.Math.Seq.{take-length}
 use Rattle.std.specs.Io.KnownBytes.{Appends}
-use Rattle.esdk_base.specs.Counts.{HasCause}
+use Rattle.esdk_fields.specs.Counts.{HasCause}
 use Rattle.esdk_base.specs.Sink.{PutAppends}
 use Rattle.esdk_tool.specs.Report.{Gains}
 use Rattle.esdk_base.specs.Streams.{SinkState}

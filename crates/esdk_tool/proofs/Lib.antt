@@ -3,6 +3,9 @@ pub mod Gained
 pub mod Lines
 pub mod Shown
 pub mod Asked
+pub mod Given
+pub mod Chain
+pub mod Ended
 pub mod Files
 pub mod Statuses
 pub mod Encryption

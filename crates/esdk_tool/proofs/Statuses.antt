@@ -15,6 +15,8 @@ memory_status failure code old new is said = (subst (λ (f : Failure). Reports f
 pub not_done : (failure : Failure) (code : ℕ) (old new : SinkState) → Reports failure code old new → code ≡ 0 → ⊥
 not_done failures.NotBuilt code old new said done = omega (arith, said.status, done)
 not_done (failures.BadNumber name) code old new said done = omega (arith, said.status, done)
+not_done (failures.BadPair number) code old new (inl said) done = omega (arith, said.status, done)
+not_done (failures.BadPair number) code old new (inr said) done = omega (arith, said.status, done)
 not_done (failures.Fault fault) code old new (inl said) done = omega (arith, said.status, done)
 not_done (failures.Fault fault) code old new (inr said) done = omega (arith, said.status, done)
 not_done (failures.File refusal) code old new (inl said) done = omega (arith, said.status, done)
@@ -22,7 +24,6 @@ not_done (failures.File refusal) code old new (inr said) done = omega (arith, sa
 not_done (failures.Outside outside) code old new said done = omega (arith, said.status, done)
 not_done (failures.Refusal refusal) code old new (inl said) done = omega (arith, said.status, done)
 not_done (failures.Refusal refusal) code old new (inr said) done = omega (arith, said.status, done)
-not_done failures.NotYet code old new said done = omega (arith, said.status, done)
 not_done failures.Memory code old new said done = omega (arith, said.status, done)
 
 -- the failure is this fault, and the report gained its line
@@ -35,6 +36,8 @@ pub record IsFault (failure : Failure) (old new : SinkState) : Type 0 where
 pub fault_status : (failure : Failure) (code : ℕ) (old new : SinkState) → Reports failure code old new → code ≡ 1 → IsFault failure old new
 fault_status failures.NotBuilt code old new said one = absurd (omega (arith, said.status, one))
 fault_status (failures.BadNumber name) code old new said one = absurd (omega (arith, said.status, one))
+fault_status (failures.BadPair number) code old new (inl said) one = absurd (omega (arith, said.status, one))
+fault_status (failures.BadPair number) code old new (inr said) one = absurd (omega (arith, said.status, one))
 fault_status (failures.Fault fault) code old new (inl said) one = record { fault = fault; is = refl; line = said.line }
 fault_status (failures.Fault fault) code old new (inr said) one = absurd (omega (arith, said.status, one))
 fault_status (failures.File refusal) code old new (inl said) one = absurd (omega (arith, said.status, one))
@@ -42,5 +45,4 @@ fault_status (failures.File refusal) code old new (inr said) one = absurd (omega
 fault_status (failures.Outside outside) code old new said one = absurd (omega (arith, said.status, one))
 fault_status (failures.Refusal refusal) code old new (inl said) one = absurd (omega (arith, said.status, one))
 fault_status (failures.Refusal refusal) code old new (inr said) one = absurd (omega (arith, said.status, one))
-fault_status failures.NotYet code old new said one = absurd (omega (arith, said.status, one))
 fault_status failures.Memory code old new said one = absurd (omega (arith, said.status, one))

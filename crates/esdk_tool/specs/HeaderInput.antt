@@ -1,7 +1,7 @@
 -- A reader that is fed from an input until its header is whole.
 use Rattle.std.specs.Prelude.{◌≡◌, ◌≤◌, ◌+◌, ℕ, List, ◌++◌, length, true, false, Bool, Option, Result, Ok, Err}
 use Rattle.std.specs.Io.KnownBytes.{Consumes}
-use Rattle.esdk_base.specs.Counts.{RoseBy}
+use Rattle.esdk_fields.specs.Counts.{RoseBy}
 use Rattle.esdk_fields.specs.Place.{Place, start}
 use Rattle.esdk_fields.specs.Reading.{Read, Refused, Wanting}
 use Rattle.header_codec.specs.declared.session.HeaderReader.{HeaderReader}

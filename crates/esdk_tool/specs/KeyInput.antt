@@ -1,6 +1,6 @@
 -- The wrapping key that a keyring file on a shelf holds.
 use Rattle.std.specs.Prelude.{◌≡◌, ◌⊎◌, ℕ, List, true, ⊤, Ok, Err}
-use Rattle.esdk_base.specs.Counts.{Rose}
+use Rattle.esdk_fields.specs.Counts.{Rose}
 use Rattle.esdk_base.specs.Shelf.{is_missing}
 use Rattle.esdk_base.specs.Streams.{ShelfState}
 use Rattle.esdk_fields.specs.declared.refusals.FileRefusal.{FileRefusal}

@@ -9,3 +9,4 @@ pub mod Objects
 pub mod Report
 pub mod Run
 pub mod Told
+pub mod Pairs

@@ -1,7 +1,7 @@
 -- What `list` makes of its input.
 use Rattle.std.specs.Prelude.{◌≡◌, ◌^◌, ℕ, List, take, Option, Some, None, ⊤}
 use Rattle.std.specs.Io.KnownBytes.{Appends}
-use Rattle.esdk_base.specs.Counts.{Rose, RoseBy}
+use Rattle.esdk_fields.specs.Counts.{Rose, RoseBy}
 use Rattle.esdk_base.specs.Sink.{AppendsFront}
 use Rattle.esdk_fields.specs.declared.faults.Fault.{Fault}
 use Rattle.esdk_fields.specs.declared.faults.Fault.TheVariants.{Truncated}

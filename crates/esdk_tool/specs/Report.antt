@@ -1,8 +1,8 @@
 -- What a failure leaves on the report: one line, and the exit status.
-use Rattle.std.specs.Prelude.{◌≡◌, ◌≤◌, ◌⊎◌, ℕ, List, [], ◌∷◌, ◌++◌, codes}
+use Rattle.std.specs.Prelude.{◌≡◌, ◌≤◌, ◌⊎◌, ℕ, List, [], ◌∷◌, ◌++◌, codes, decimal}
 use Rattle.std.specs.Io.KnownBytes.{Appends}
 use Rattle.esdk_args.specs.Options.{option_text}
-use Rattle.esdk_base.specs.Counts.{Rose, Stayed}
+use Rattle.esdk_fields.specs.Counts.{Rose, Stayed}
 use Rattle.esdk_base.specs.Sink.{AppendsFront}
 use Rattle.context_codec.specs.Context.{KeyValue}
 use Rattle.esdk_base.specs.Streams.{SinkState}
@@ -15,22 +15,22 @@ use Rattle.esdk_tool.specs.Listing.{context_json}
 abbrev pub line_of : Failure → List ℕ
 line_of failures.NotBuilt = codes "words NotBuilt"
 line_of (failures.BadNumber name) = codes "words BadNumber " ++ option_text name
+line_of (failures.BadPair number) = codes "words BadPair " ++ decimal number
 line_of (failures.Fault fault) = fault_line fault
 line_of (failures.File refusal) = file_line refusal
 line_of (failures.Outside outside) = outside_line outside
 line_of (failures.Refusal refusal) = refusal_line refusal
-line_of failures.NotYet = codes "NotYet"
 line_of failures.Memory = codes "Memory"
 
 -- the exit status of a failure
 abbrev pub code_of : Failure → ℕ
 code_of failures.NotBuilt = 2
 code_of (failures.BadNumber name) = 2
+code_of (failures.BadPair number) = 2
 code_of (failures.Fault fault) = 1
 code_of (failures.File refusal) = 3
 code_of (failures.Outside outside) = 4
 code_of (failures.Refusal refusal) = 6
-code_of failures.NotYet = 8
 code_of failures.Memory = 5
 
 -- The report gained these bytes, or a front of them where its count of faults rose.
@@ -44,8 +44,9 @@ pub record Answers (failure : Failure) (code : ℕ) (old new : SinkState) : Type
   pub status : code ≡ code_of failure
   pub line : Gains (printed_line (line_of failure)) old new
 
--- So it is, but that memory may be missing for the line of a fault or of a refusal.
+-- So it is, but that memory may be missing for the line of a bad pair, of a fault or of a refusal.
 abbrev pub Reports : Failure → ℕ → SinkState → SinkState → Type 0
+Reports (failures.BadPair number) code old new = Answers (failures.BadPair number) code old new ⊎ Answers failures.Memory code old new
 Reports (failures.Fault fault) code old new = Answers (failures.Fault fault) code old new ⊎ Answers failures.Memory code old new
 Reports (failures.File refusal) code old new = Answers (failures.File refusal) code old new ⊎ Answers failures.Memory code old new
 Reports (failures.Refusal refusal) code old new = Answers (failures.Refusal refusal) code old new ⊎ Answers failures.Memory code old new

@@ -1,11 +1,14 @@
 -- How a run of the program ends.
-use Rattle.std.specs.Prelude.{◌≡◌, ◌≢◌, ◌⊎◌, ◌==◌, ◌||◌, ℕ, List, [], Bool, true, false, Option, Some, None, Result, Ok, Err}
+use Rattle.std.specs.Prelude.{◌≡◌, ◌≢◌, ◌⊎◌, ◌==◌, ◌||◌, ℕ, List, Bool, true, false, Option, Some, None, Result, Ok, Err}
+use Rattle.esdk_args.specs.declared.request.DecryptWords.{DecryptWords}
+use Rattle.esdk_args.specs.declared.request.EncryptWords.{EncryptWords}
 use Rattle.esdk_args.specs.declared.request.Request.{Request}
 use Rattle.esdk_args.specs.declared.request.Request.TheVariants as requests
 use Rattle.esdk_args.specs.declared.request.WordsFault.{WordsFault}
 use Rattle.esdk_args.specs.declared.request.WordsFault.TheVariants as words
 use Rattle.esdk_base.specs.Streams.{EntropyState, SinkState, SourceState}
 use Rattle.esdk_fields.specs.declared.faults.Fault.{Fault}
+use Rattle.context_codec.specs.Context.{KeyValue}
 use Rattle.esdk_tool.specs.declared.failure.Failure.{Failure}
 use Rattle.esdk_tool.specs.declared.failure.Failure.TheVariants as failures
 use Rattle.esdk_tool.specs.Decrypt.{DecryptFails, DecryptsInput}
@@ -16,7 +19,7 @@ use Rattle.esdk_tool.specs.Report.{Reports, TellsContext}
 
 -- the statuses with which a run may end
 abbrev pub is_status : ℕ → Bool
-is_status code = code == 0 || code == 1 || code == 2 || code == 3 || code == 4 || code == 5 || code == 6 || code == 8
+is_status code = code == 0 || code == 1 || code == 2 || code == 3 || code == 4 || code == 5 || code == 6
 
 -- ---- what a run touches, by its words
 
@@ -49,6 +52,7 @@ pub record IsDone (code : ℕ) (report reported : SinkState) : Type 0 where
 abbrev pub words_failure : WordsFault → Failure
 words_failure words.NotBuilt = failures.NotBuilt
 words_failure (words.BadNumber name) = failures.BadNumber name
+words_failure (words.BadPair number) = failures.BadPair number
 words_failure words.Memory = failures.Memory
 
 -- of words that are refused so
@@ -62,17 +66,23 @@ ListRuns input taken output put same code report reported =
     (IsDone code report reported × Lists input.left output.written put.written)
     ⊎ Fails (λ failure. IsListCause failure input taken output put × LeavesOutput failure input output put same) code report reported
 
--- of `encrypt` with the keyring file of this name, and frames of this many bytes
-abbrev pub EncryptRuns : List ℕ → ℕ → Objects → Objects → EntropyState → EntropyState → Type 0 → Type 0 → ℕ → SinkState → SinkState → Type 0
-EncryptRuns name size before after entropy spent untouched undrawn code report reported =
-    (IsDone code report reported × EncryptsInput name size before after entropy spent)
-    ⊎ Fails (EncryptFails name size before after entropy spent untouched undrawn) code report reported
+-- of `encrypt`
+abbrev pub EncryptRuns : EncryptWords → Objects → Objects → EntropyState → EntropyState → Type 0 → Type 0 → Type 0 → ℕ → SinkState → SinkState → Type 0
+EncryptRuns asked before after entropy spent untouched unread undrawn code report reported =
+    (IsDone code report reported × EncryptsInput asked before after entropy spent)
+    ⊎ Fails (EncryptFails asked before after entropy spent untouched unread undrawn) code report reported
 
--- of `decrypt` with the keyring file of this name, and this limit on units
-abbrev pub DecryptRuns : List ℕ → Option ℕ → Objects → Objects → Type 0 → ℕ → SinkState → SinkState → Type 0
-DecryptRuns name max_unit before after untouched code report reported =
-    (TellsContext [] code report reported × DecryptsInput name max_unit before after)
-    ⊎ Fails (DecryptFails name max_unit before after untouched) code report reported
+-- The input was decrypted, and the report was told its whole context.
+pub record DecryptsAndTells (asked : DecryptWords) (before after : Objects) (code : ℕ) (report reported : SinkState) : Type 0 where
+  pub context : List KeyValue
+  pub done : DecryptsInput asked before after context
+  pub told : TellsContext context code report reported
+
+-- of `decrypt`
+abbrev pub DecryptRuns : DecryptWords → Objects → Objects → Type 0 → Type 0 → Type 0 → ℕ → SinkState → SinkState → Type 0
+DecryptRuns asked before after untouched unwritten unread code report reported =
+    DecryptsAndTells asked before after code report reported
+    ⊎ Fails (DecryptFails asked before after untouched unwritten unread) code report reported
 
 -- No input that begins with a header and its tag is refused for a fault, and no other is done.
 abbrev pub AgreesWith : ℕ → Option Fault → Type 0
@@ -81,12 +91,13 @@ AgreesWith code (Some fault) = code ≢ 0
 
 -- ---- of any words
 
--- What a run comes to, by what its words ask for. `untouched` says that input and output are as before, `same` that the output is, `undrawn` that the entropy is.
-abbrev pub RunsAs : Result Request WordsFault → Objects → Objects → EntropyState → EntropyState → Type 0 → Type 0 → Type 0 → ℕ → SinkState → SinkState → Type 0
-RunsAs (Ok requests.List) before after entropy spent untouched same undrawn code report reported =
-    ListRuns before.input after.input before.output after.output same code report reported
-RunsAs (Ok (requests.Encrypt asked)) before after entropy spent untouched same undrawn code report reported =
-    EncryptRuns asked.keyring asked.frame before after entropy spent untouched undrawn code report reported
-RunsAs (Ok (requests.Decrypt asked)) before after entropy spent untouched same undrawn code report reported =
-    DecryptRuns asked.keyring asked.max_unit before after untouched code report reported
-RunsAs (Err fault) before after entropy spent untouched same undrawn code report reported = untouched × RefusesWords fault code report reported
+-- What a run comes to, by what its words ask for. `untouched` says that input and output are as before, `unwritten` that the output is, `unread` that the shelf is,
+-- and `undrawn` that the entropy is.
+abbrev pub RunsAs : Result Request WordsFault → Objects → Objects → EntropyState → EntropyState → Type 0 → Type 0 → Type 0 → Type 0 → ℕ → SinkState → SinkState → Type 0
+RunsAs (Ok requests.List) before after entropy spent untouched unwritten unread undrawn code report reported =
+    ListRuns before.input after.input before.output after.output unwritten code report reported
+RunsAs (Ok (requests.Encrypt asked)) before after entropy spent untouched unwritten unread undrawn code report reported =
+    EncryptRuns asked before after entropy spent untouched unread undrawn code report reported
+RunsAs (Ok (requests.Decrypt asked)) before after entropy spent untouched unwritten unread undrawn code report reported =
+    DecryptRuns asked before after untouched unwritten unread code report reported
+RunsAs (Err fault) before after entropy spent untouched unwritten unread undrawn code report reported = untouched × RefusesWords fault code report reported

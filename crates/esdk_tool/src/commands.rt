@@ -9,8 +9,9 @@ ghost use Rattle.esdk_tool.specs.Run.{AgreesWith, DecryptRuns, EncryptRuns, List
 
 use crate::decrypt::decrypt_input;
 use crate::encrypt::encrypt_input;
+use crate::failure::Failure;
 use crate::list::list;
-use crate::report::{report_failure, report_no_pairs};
+use crate::report::{line_of_context, report_context, report_failure};
 use crate::status::Status;
 use crate::words::words_failure;
 use esdk_args::{DecryptWords, EncryptWords, Request, read_words};
@@ -35,7 +36,7 @@ pub fn carry_out<S: Source, O: Sink, R: Sink, F: Shelf, W: Entropy>(
         (objects S.left S.given S.faults O.written O.faults F.files F.faults input.old output.old shelf.old)
         (objects S.left S.given S.faults O.written O.faults F.files F.faults input.new output.new shelf.new)
         (entropy_state W.to_come W.faults entropy.old) (entropy_state W.to_come W.faults entropy.new)
-        ((input.new ≡ input.old) × (output.new ≡ output.old)) (output.new ≡ output.old) (entropy.new ≡ entropy.old)
+        ((input.new ≡ input.old) × (output.new ≡ output.old)) (output.new ≡ output.old) (shelf.new ≡ shelf.old) (entropy.new ≡ entropy.old)
         result.code (sink_state R.written R.faults report.old) (sink_state R.written R.faults report.new) }
 
     // No input that begins with a header and its tag is refused by `list` for a fault, and no other is done.
@@ -92,24 +93,16 @@ fn run_encrypt<S: Source, O: Sink, R: Sink, F: Shelf, W: Entropy>(
 ) -> Status
     requires some { 1 ≤ asked.now.frame }
     ensures status { is_status result.code ≡ true }
-    ensures runs { EncryptRuns asked.now.keyring asked.now.frame
+    ensures runs { EncryptRuns asked.now
         (objects S.left S.given S.faults O.written O.faults F.files F.faults input.old output.old shelf.old)
         (objects S.left S.given S.faults O.written O.faults F.files F.faults input.new output.new shelf.new)
         (entropy_state W.to_come W.faults entropy.old) (entropy_state W.to_come W.faults entropy.new)
-        ((input.new ≡ input.old) × (output.new ≡ output.old)) (entropy.new ≡ entropy.old)
+        ((input.new ≡ input.old) × (output.new ≡ output.old)) (shelf.new ≡ shelf.old) (entropy.new ≡ entropy.old)
         result.code (sink_state R.written R.faults report.old) (sink_state R.written R.faults report.new) }
     ensures files { F.files shelf.new ≡ F.files shelf.old }
     ensures taken { S.given input.new ≤ S.given input.old + 2 ^ 62 }
 {
-    match encrypt_input(
-        alloc,
-        asked.keyring.as_str(),
-        asked.frame,
-        input,
-        output,
-        shelf,
-        entropy,
-    ) {
+    match encrypt_input(alloc, asked, input, output, shelf, entropy) {
         Ok(()) => Status::DONE,
         Err(failure) => report_failure(alloc, &failure, report),
     }
@@ -125,23 +118,20 @@ fn run_decrypt<S: Source, O: Sink, R: Sink, F: Shelf>(
     shelf: &mut F,
 ) -> Status
     ensures status { is_status result.code ≡ true }
-    ensures runs { DecryptRuns asked.now.keyring asked.now.max_unit
+    ensures runs { DecryptRuns asked.now
         (objects S.left S.given S.faults O.written O.faults F.files F.faults input.old output.old shelf.old)
         (objects S.left S.given S.faults O.written O.faults F.files F.faults input.new output.new shelf.new)
-        ((input.new ≡ input.old) × (output.new ≡ output.old))
+        ((input.new ≡ input.old) × (output.new ≡ output.old)) (output.new ≡ output.old) (shelf.new ≡ shelf.old)
         result.code (sink_state R.written R.faults report.old) (sink_state R.written R.faults report.new) }
     ensures files { F.files shelf.new ≡ F.files shelf.old }
     ensures taken { S.given input.new ≤ S.given input.old + 2 ^ 62 }
 {
-    match decrypt_input(
-        alloc,
-        asked.keyring.as_str(),
-        asked.max_unit,
-        input,
-        output,
-        shelf,
-    ) {
-        Ok(()) => report_no_pairs(report),
-        Err(failure) => report_failure(alloc, &failure, report),
+    let context = match decrypt_input(alloc, asked, input, output, shelf) {
+        Ok(context) => context,
+        Err(failure) => return report_failure(alloc, &failure, report),
+    };
+    match line_of_context(alloc, &context) {
+        Ok(line) => report_context(&line, report),
+        Err(_) => report_failure(alloc, &Failure::Memory, report),
     }
 }

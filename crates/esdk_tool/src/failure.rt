@@ -9,10 +9,12 @@ use std::alloc::{AllocError, AllocFailed};
 /// Why a run ends without its result.
 #[derive(Drop)]
 pub enum Failure {
-    /// The words aren't those of a command that is built.
+    /// The words aren't of the form of a command.
     NotBuilt,
     /// The number of this option isn't one that it takes.
     BadNumber(OptionName),
+    /// The pair word of this number, counted from 1, is none.
+    BadPair(u32),
     /// The input has this fault.
     Fault(Fault),
     /// The keyring file is refused.
@@ -21,8 +23,6 @@ pub enum Failure {
     Outside(Outside),
     /// What was asked for is refused.
     Refusal(Refusal),
-    /// The header stores pairs, which can't be read yet.
-    NotYet,
     /// Memory ran out.
     Memory,
 }

@@ -14,6 +14,7 @@ mod header_input;
 mod key_input;
 mod list;
 mod listing;
+mod pair_input;
 mod report;
 mod status;
 #[cfg(test)]

@@ -1,12 +1,15 @@
 //! The line that a refusal leaves on the report, and the line of the context after a decryption.
-ghost use Rattle.std.specs.Prelude.{◌≡◌, [], IfOk};
+ghost use Rattle.std.specs.Prelude.{◌≡◌, List, IfOk, string_bytes};
+ghost use Rattle.context_codec.specs.Context.{KeyValue};
 ghost use Rattle.esdk_base.specs.Streams.{sink_state};
 ghost use Rattle.esdk_fields.specs.Report.{fault_line, file_line, outside_line, printed_line, refusal_line};
 ghost use Rattle.esdk_tool.specs.Report.{Answers, Gains, Reports, TellsContext, context_line, line_of};
 ghost use Rattle.esdk_tool.specs.declared.failure.Failure.TheVariants as failures;
 
+use crate::context_line::context_text;
 use crate::failure::Failure;
 use crate::status::Status;
+use context_codec::Context;
 use esdk_args::OptionName;
 use esdk_base::Sink;
 use esdk_fields::{
@@ -25,11 +28,11 @@ pub fn report_failure<R: Sink>(alloc: Global, failure: &Failure, report: &mut R)
     match failure {
         Failure::NotBuilt => report_not_built(report),
         Failure::BadNumber(name) => report_number(*name, report),
+        Failure::BadPair(number) => report_pair(alloc, *number, report),
         Failure::Fault(fault) => report_fault(alloc, fault, report),
         Failure::File(refusal) => report_file(alloc, refusal, report),
         Failure::Outside(outside) => report_outside(*outside, report),
         Failure::Refusal(refusal) => report_refusal(alloc, refusal, report),
-        Failure::NotYet => report_not_yet(report),
         Failure::Memory => report_memory(report),
     }
 }
@@ -50,6 +53,18 @@ fn report_number<R: Sink>(name: OptionName, report: &mut R) -> Status
         (sink_state R.written R.faults report.old) (sink_state R.written R.faults report.new) }
 {
     put_line(line_of_number(name), report);
+    Status::WORDS
+}
+
+/// Puts the line of a pair word that is none.
+fn report_pair<R: Sink>(alloc: Global, number: u32, report: &mut R) -> Status
+    ensures { Reports (failures.BadPair number) result.code
+        (sink_state R.written R.faults report.old) (sink_state R.written R.faults report.new) }
+{
+    let Ok(line) = line_of_pair(alloc, number) else {
+        return report_memory(report);
+    };
+    put_line(line.as_bytes(), report);
     Status::WORDS
 }
 
@@ -98,16 +113,6 @@ fn report_refusal<R: Sink>(alloc: Global, refusal: &Refusal, report: &mut R) -> 
     Status::REFUSAL
 }
 
-/// Puts the line of a header that can't be read yet.
-#[tactic(auto, unfolding(esdk_fields::specs::Report::printed_line))]
-fn report_not_yet<R: Sink>(report: &mut R) -> Status
-    ensures { Answers failures.NotYet result.code
-        (sink_state R.written R.faults report.old) (sink_state R.written R.faults report.new) }
-{
-    put_line(b"esdk: NotYet\n", report);
-    Status::NOT_YET
-}
-
 /// Puts the line of want of memory, which takes none.
 #[tactic(auto, unfolding(esdk_fields::specs::Report::printed_line))]
 fn report_memory<R: Sink>(report: &mut R) -> Status
@@ -146,8 +151,17 @@ fn line_of_number(name: OptionName) -> &'static [u8]
 {
     match name {
         OptionName::Frame => b"esdk: words BadNumber --frame\n",
+        OptionName::MaxKeys => b"esdk: words BadNumber --max-keys\n",
         OptionName::MaxUnit => b"esdk: words BadNumber --max-unit\n",
     }
+}
+
+/// The whole line of a pair word that is none.
+#[tactic(auto, unfolding(esdk_fields::specs::Report::printed_line))]
+fn line_of_pair(alloc: Global, number: u32) -> Result<String, AllocError>
+    ensures { IfOk result (λ line. string_bytes line ≡ printed_line (line_of (failures.BadPair number))) }
+{
+    format!(in alloc; "esdk: words BadPair {number}\n")
 }
 
 /// The whole line of a failure outside, which takes no memory: it is there when all else failed.
@@ -173,22 +187,23 @@ fn put_line<R: Sink>(line: &[u8], report: &mut R)
     let _ = report.put(line);
 }
 
-/// Puts the line of a whole context that has no pairs, and answers the status of the run: a report
-/// that fails is a failure outside.
-pub fn report_no_pairs<R: Sink>(report: &mut R) -> Status
-    ensures { TellsContext [] result.code
+/// Puts the line of a whole context, and answers the status of the run: a report that fails is a failure outside.
+pub fn report_context<R: Sink>(line: &Blob, report: &mut R) -> Status
+    ensures { (pairs : List KeyValue) → line.now ≡ context_line pairs → TellsContext pairs result.code
         (sink_state R.written R.faults report.old) (sink_state R.written R.faults report.new) }
 {
-    match report.put(line_of_no_pairs()) {
+    match report.put(line.bytes()) {
         Ok(()) => Status::DONE,
         Err(_) => Status::OUTSIDE,
     }
 }
 
-/// The line of a context that has no pairs.
-#[tactic(auto, unfolding(crate::specs::Report::context_line, crate::specs::Listing::context_json))]
-fn line_of_no_pairs() -> &'static [u8]
-    ensures { result.now ≡ context_line [] }
+/// The line of a whole context. Fails only where memory runs out.
+#[tactic(auto, unfolding(crate::specs::Report::context_line))]
+pub fn line_of_context(alloc: Global, context: &Context) -> Result<Blob, AllocError>
+    ensures { IfOk result (λ line. line ≡ context_line context.now) }
 {
-    b"{}\n"
+    let mut line = context_text(alloc, context.pairs())?;
+    line.push_all(b"\n")?;
+    Ok(line)
 }

@@ -12,7 +12,7 @@ impl Status {
     pub const DONE: Status = Status { code: 0 };
     /// The message has a fault.
     pub const FAULT: Status = Status { code: 1 };
-    /// The words aren't those of a command that is built, or a number among them is refused.
+    /// The words aren't those of a command that is built, or a number or a pair among them is refused.
     pub const WORDS: Status = Status { code: 2 };
     /// The keyring file is refused.
     pub const FILE: Status = Status { code: 3 };
@@ -22,6 +22,4 @@ impl Status {
     pub const MEMORY: Status = Status { code: 5 };
     /// What was asked for is refused.
     pub const REFUSAL: Status = Status { code: 6 };
-    /// The header stores pairs, which can't be read yet.
-    pub const NOT_YET: Status = Status { code: 8 };
 }

@@ -4,5 +4,6 @@ mod decrypting;
 mod encrypting;
 mod listing;
 mod messages;
+mod pairs;
 mod refusing;
 mod runs;

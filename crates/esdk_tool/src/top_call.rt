@@ -19,14 +19,14 @@ use std::alloc::Global;
 /// Carries out the command that the words name, and answers the exit status.
 ///
 /// `list` reads a header and its tag from the input and writes the header's listing on the output.
-/// `encrypt` writes the message of its whole input under the key of a keyring file, and `decrypt`
-/// writes what the judgement of its input releases, and the whole context on the report. Where a run
-/// fails, the report gets one line, and nothing more is read or written; a report that fails then
-/// changes nothing. The status is 0 where all was done, 1 for a fault of the input, 2 for words that
-/// aren't those of a command that is built or have a bad number, 3 for a keyring file that is refused,
-/// 4 for a failure of the input, the output, the report of a context, the shelf or the entropy or an
-/// input that is too long, 5 where memory ran out, 6 for a request that is refused, and 8 for a header
-/// that stores pairs, which `decrypt` can't read yet.
+/// `encrypt` writes the message of its whole input under the key of a keyring file, over the context of
+/// its words. `decrypt` writes what the judgement of its input releases, with the pairs of its words
+/// given, and the whole context on the report. Where a run fails, the report gets one line, and nothing
+/// more is read or written; a report that fails then changes nothing. The status is 0 where all was done,
+/// 1 for a fault of the input, 2 for words that aren't of the form of a command or have a bad number or a
+/// bad pair, 3 for a keyring file that is refused, 4 for a failure of the input, the output, the report of
+/// a context, the shelf or the entropy or an input that is too long, 5 where memory ran out, and 6 for a
+/// request that is refused.
 pub fn run<S: Source, O: Sink, R: Sink, F: Shelf, W: Entropy>(
     alloc: Global,
     words: &[Text],
@@ -43,7 +43,7 @@ pub fn run<S: Source, O: Sink, R: Sink, F: Shelf, W: Entropy>(
         (objects S.left S.given S.faults O.written O.faults F.files F.faults input.old output.old shelf.old)
         (objects S.left S.given S.faults O.written O.faults F.files F.faults input.new output.new shelf.new)
         (entropy_state W.to_come W.faults entropy.old) (entropy_state W.to_come W.faults entropy.new)
-        ((input.new ≡ input.old) × (output.new ≡ output.old)) (output.new ≡ output.old) (entropy.new ≡ entropy.old)
+        ((input.new ≡ input.old) × (output.new ≡ output.old)) (output.new ≡ output.old) (shelf.new ≡ shelf.old) (entropy.new ≡ entropy.old)
         result.code (sink_state R.written R.faults report.old) (sink_state R.written R.faults report.new) }
 
     // No input that begins with a header and its tag is refused by `list` for a fault, and no other is done.
@@ -58,26 +58,26 @@ pub fn run<S: Source, O: Sink, R: Sink, F: Shelf, W: Entropy>(
     ensures taken { S.given input.new ≤ S.given input.old + 2 ^ 62 }
 
     // `encrypt`: the output gains the message of the input, and an input that fits into a message is done, unless memory runs out or an object fails.
-    ensures message { (asked : EncryptWords) → words_of words.now ≡ Ok (requests.Encrypt asked) → WritesTheMessage asked.keyring asked.frame
+    ensures message { (asked : EncryptWords) → words_of words.now ≡ Ok (requests.Encrypt asked) → WritesTheMessage asked
         (objects S.left S.given S.faults O.written O.faults F.files F.faults input.old output.old shelf.old)
         (objects S.left S.given S.faults O.written O.faults F.files F.faults input.new output.new shelf.new)
         (entropy_state W.to_come W.faults entropy.old) result.code }
-    ensures fits { (asked : EncryptWords) → words_of words.now ≡ Ok (requests.Encrypt asked) → EncryptsWhatFits asked.keyring asked.frame
+    ensures fits { (asked : EncryptWords) → words_of words.now ≡ Ok (requests.Encrypt asked) → EncryptsWhatFits asked
         (objects S.left S.given S.faults O.written O.faults F.files F.faults input.old output.old shelf.old)
         (objects S.left S.given S.faults O.written O.faults F.files F.faults input.new output.new shelf.new)
         (entropy_state W.to_come W.faults entropy.old) (entropy_state W.to_come W.faults entropy.new) result.code
         (sink_state R.written R.faults report.old) (sink_state R.written R.faults report.new) }
 
     // `decrypt`: the judgement of all bytes of the input is said; a whole message is done, and a message that was written is given back, unless memory runs out or an object fails.
-    ensures judgement { (asked : DecryptWords) → words_of words.now ≡ Ok (requests.Decrypt asked) → SaysTheJudgement asked.keyring asked.max_unit
+    ensures judgement { (asked : DecryptWords) → words_of words.now ≡ Ok (requests.Decrypt asked) → SaysTheJudgement asked
         (objects S.left S.given S.faults O.written O.faults F.files F.faults input.old output.old shelf.old)
         (objects S.left S.given S.faults O.written O.faults F.files F.faults input.new output.new shelf.new) result.code
         (sink_state R.written R.faults report.old) (sink_state R.written R.faults report.new) }
-    ensures whole { (asked : DecryptWords) → words_of words.now ≡ Ok (requests.Decrypt asked) → DecryptsWholeMessages asked.keyring asked.max_unit
+    ensures whole { (asked : DecryptWords) → words_of words.now ≡ Ok (requests.Decrypt asked) → DecryptsWholeMessages asked
         (objects S.left S.given S.faults O.written O.faults F.files F.faults input.old output.old shelf.old)
         (objects S.left S.given S.faults O.written O.faults F.files F.faults input.new output.new shelf.new) result.code
         (sink_state R.written R.faults report.old) (sink_state R.written R.faults report.new) }
-    ensures round_trip { (asked : DecryptWords) → words_of words.now ≡ Ok (requests.Decrypt asked) → ReadsBack asked.keyring asked.max_unit
+    ensures round_trip { (asked : DecryptWords) → words_of words.now ≡ Ok (requests.Decrypt asked) → ReadsBack asked
         (objects S.left S.given S.faults O.written O.faults F.files F.faults input.old output.old shelf.old)
         (objects S.left S.given S.faults O.written O.faults F.files F.faults input.new output.new shelf.new) result.code
         (sink_state R.written R.faults report.old) (sink_state R.written R.faults report.new) }

@@ -12,6 +12,7 @@ pub fn words_failure(fault: WordsFault) -> Failure
     match fault {
         WordsFault::NotBuilt => Failure::NotBuilt,
         WordsFault::BadNumber(name) => Failure::BadNumber(name),
+        WordsFault::BadPair(number) => Failure::BadPair(number),
         WordsFault::Memory => Failure::Memory,
     }
 }

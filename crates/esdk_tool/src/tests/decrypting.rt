@@ -1,7 +1,6 @@
 //! Runs of `decrypt`.
 use crate::tests::messages::{
     EIGHT_BYTES, EMPTY, EMPTY_FINAL_FRAME, NINE_BYTES, REQUIRED_PAIR, SINGLE_BLOCK, STORED_PAIR,
-    TWO_PAIRS,
 };
 use crate::tests::runs::{Behaviour, KEY_LINE, WELL, assert_left, left_by};
 use std::alloc::{AllocError, Global};
@@ -51,22 +50,6 @@ fn messages_of_another_implementation_give_their_texts(rt: HostRuntime) -> Resul
             let objects = Behaviour { most, ..WELL };
             assert_decrypted(&rt, alloc, &bytes, objects, 0, text, "{}\n")?;
         }
-    }
-    Ok(())
-}
-
-#[test]
-fn stored_pairs_are_not_yet_read_and_required_ones_open_nothing(
-    rt: HostRuntime,
-) -> Result<(), Fail> {
-    let alloc = rt.alloc();
-    for (message, code, line) in [
-        (STORED_PAIR, 8, "esdk: NotYet\n"),
-        (TWO_PAIRS, 8, "esdk: NotYet\n"),
-        (REQUIRED_PAIR, 1, "esdk: M15 NoKeyOpens\n"),
-    ] {
-        let bytes = hex::decode(alloc, message)?;
-        assert_decrypted(&rt, alloc, &bytes, WELL, code, "", line)?;
     }
     Ok(())
 }
@@ -191,6 +174,7 @@ fn another_key_name_or_namespace_opens_nothing(rt: HostRuntime) -> Result<(), Fa
 fn units_over_the_limit_are_refused(rt: HostRuntime) -> Result<(), Fail> {
     let alloc = rt.alloc();
     for (message, max_unit, code, text, report) in [
+        (EMPTY, "4095", 1, "", "esdk: M9 UnitTooLong 4096\n"),
         (NINE_BYTES, "3", 1, "", "esdk: M9 UnitTooLong 4\n"),
         (NINE_BYTES, "4", 0, "123456789", "{}\n"),
         (SINGLE_BLOCK, "4", 1, "", "esdk: M9 UnitTooLong 5\n"),
@@ -272,8 +256,8 @@ fn a_failing_report_is_a_failure_after_a_decryption_alone(rt: HostRuntime) -> Re
     };
     for (message, code, text) in [
         (NINE_BYTES, 4, "123456789"),
+        (STORED_PAIR, 4, "hello"),
         (REQUIRED_PAIR, 1, ""),
-        (STORED_PAIR, 8, ""),
     ] {
         let bytes = hex::decode(alloc, message)?;
         assert_decrypted(&rt, alloc, &bytes, objects, code, text, "")?;

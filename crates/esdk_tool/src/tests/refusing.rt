@@ -14,7 +14,8 @@ fn words_of_no_command_that_is_built_are_refused(rt: HostRuntime) -> Result<(), 
         "encrypt --keyring",
         "encrypt --keyring key --max-unit 4",
         "decrypt --keyring key --frame 4",
-        "decrypt --keyring key a=b",
+        "decrypt --keyring key -a=b",
+        "encrypt --keyring key a=b --frame 4",
         "batch --jobs key",
     ] {
         let left = left_by(rt.alloc(), line, Some(KEY_LINE), b"\x03", WELL)?;
@@ -28,6 +29,7 @@ fn words_of_no_command_that_is_built_are_refused(rt: HostRuntime) -> Result<(), 
 fn numbers_out_of_range_are_refused_with_their_option(rt: HostRuntime) -> Result<(), Fail> {
     let frame = "esdk: words BadNumber --frame\n";
     let max_unit = "esdk: words BadNumber --max-unit\n";
+    let max_keys = "esdk: words BadNumber --max-keys\n";
     for (line, report) in [
         ("encrypt --keyring key --frame 0", frame),
         ("encrypt --keyring key --frame 4294967296", frame),
@@ -35,6 +37,8 @@ fn numbers_out_of_range_are_refused_with_their_option(rt: HostRuntime) -> Result
         ("decrypt --keyring key --max-unit 0", max_unit),
         ("decrypt --keyring key --max-unit 68719476705", max_unit),
         ("decrypt --keyring key --max-unit 4k", max_unit),
+        ("encrypt --keyring key --max-keys 0", max_keys),
+        ("decrypt --keyring key --max-keys 65536 a", max_keys),
     ] {
         let left = left_by(rt.alloc(), line, None, b"\x03", WELL)?;
         assert_untouched(&rt, &left, b"\x03", 2, report);

@@ -2,5 +2,4 @@ use Rattle.std.proofs.Common.{inr}
 use Rattle.esdk_tool.proofs.commands.run_encrypt.Goals as goal
 
 pub returns-in-Err-clause-runs : goal.returns-in-Err-clause-runs
-returns-in-Err-clause-runs g c =
-    rw (← c.as_str.ensures) (inr (record { failure = c.in-Err.failure; because = c.in-Err.ensures.fails; said = c.report_failure.ensures }))
+returns-in-Err-clause-runs g c = inr (record { failure = c.in-Err.failure; because = c.in-Err.ensures.fails; said = c.report_failure.ensures })

@@ -1,0 +1,12 @@
+use Rattle.std.proofs.Common.{inr}
+use Rattle.esdk_tool.specs.declared.failure.Failure.TheVariants.{Memory}
+use Rattle.esdk_tool.proofs.Ended.{line_lost}
+use Rattle.esdk_tool.proofs.commands.run_decrypt.Goals as goal
+
+pub returns-clause-runs : goal.returns-clause-runs
+returns-clause-runs g c =
+    inr (record {
+      failure = Memory;
+      because = inr (line_lost c.args.asked.now _ _ c.in-Ok.context _ c.in-Ok.ensures.done);
+      said = c.report_failure-in-Err-line_of_context.ensures;
+    })
