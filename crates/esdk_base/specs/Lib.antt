@@ -1,6 +1,8 @@
 pub mod CallPlan
+pub mod Clock
 pub mod Entropy
 pub mod FileShelf
+pub mod ListClock
 pub mod ListEntropy
 pub mod MemFile
 pub mod MemFiles
@@ -13,3 +15,4 @@ pub mod Sink
 pub mod StdSink
 pub mod StdSource
 pub mod Streams
+pub mod SystemClock

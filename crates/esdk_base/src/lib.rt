@@ -1,16 +1,19 @@
 //! The outside of `esdk`: where bytes come from and where they go.
 //!
 //! What lies outside stands behind traits. A `Source` is read and a `Sink` is written once, from the
-//! front to the end; a `Shelf` holds files by their names; an `Entropy` gives random bytes. Each has
-//! a meaning, as the bytes left, the bytes written, the files or the bytes to come, which an object
-//! may tell or not, and a count of its faults. The forms in memory tell everything; the adapters over
-//! std's `Read` and `Write`, over the system's files and over a seeded generator tell no content.
+//! front to the end; a `Shelf` holds files by their names; an `Entropy` gives random bytes; a `Clock`
+//! gives the moment. Each has a meaning, as the bytes left, the bytes written, the files, the bytes to
+//! come or the moments to come, which an object may tell or not, and all but the clock a count of
+//! their faults. The forms in memory tell everything; the adapters over std's `Read` and `Write`, over
+//! the system's files, over a seeded generator and over the system's clock tell no content.
 #![tactic(auto)]
 
 mod call_plan;
+mod clock;
 mod entropy;
 mod file_shelf;
 mod fronts;
+mod list_clock;
 mod list_entropy;
 mod mem_file;
 mod mem_files;
@@ -25,9 +28,12 @@ mod sink;
 mod source;
 mod std_sink;
 mod std_source;
+mod system_clock;
 
+pub use clock::Clock;
 pub use entropy::Entropy;
 pub use file_shelf::FileShelf;
+pub use list_clock::ListClock;
 pub use list_entropy::ListEntropy;
 pub use mem_shelf::MemShelf;
 pub use mem_sink::MemSink;
@@ -38,3 +44,4 @@ pub use sink::Sink;
 pub use source::{Failed, Source};
 pub use std_sink::StdSink;
 pub use std_source::StdSource;
+pub use system_clock::SystemClock;
