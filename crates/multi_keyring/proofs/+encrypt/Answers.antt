@@ -1,0 +1,116 @@
+use Rattle.std.proofs.Common.{rules, arith, ◌≡◌, ◌+◌, refl, sym, ap, ◌∙◌, subst, List, None, map, min, slice_set}
+use Rattle.std.specs.Prelude.{is_some, IfOk, IfErr, OnOk}
+use Rattle.std.specs.Option.{option_copied}
+use Rattle.keyring_trait.specs.Keyring.{KeyringMeaning, Wraps, WrapCause, refusal_with, wanted}
+use Rattle.multi_keyring.specs.Forest.{tallest}
+use Rattle.multi_keyring.specs.TreeFalls.{members_fall}
+use Rattle.multi_keyring.specs.Nodes.{all_of}
+use Rattle.multi_keyring.specs.Tree.{all_faults, all_wraps, joined, meanings, tree_meaning}
+use Rattle.multi_keyring.proofs.Meanings.{meanings-forest, row_is, joined_row}
+use Rattle.multi_keyring.proofs.Finding.{stays_same}
+use Rattle.multi_keyring.proofs.Appending.{begins, err_is, kept_here, cause_here, step_here}
+use Rattle.multi_keyring.proofs.Multis.{value_of, height_stays, value_height, multi_goes, split_is, generator_wraps, generator_kept}
+use Rattle.multi_keyring.proofs.+encrypt.Goals as goal
+
+pub tree::Members::encrypt-returns-in-Some-clause-stays :
+    goal.tree::Members::encrypt-returns-in-Some-clause-stays
+tree::Members::encrypt-returns-in-Some-clause-stays g t c = stays_same g.P.Keyring.meaning (all_of c.args.self.now) c.entry_count-wraps.ensures.counted
+
+pub tree::Members::encrypt-returns-then-wraps-gt-MAX_WRAPS-clause-stays :
+    goal.tree::Members::encrypt-returns-then-wraps-gt-MAX_WRAPS-clause-stays
+tree::Members::encrypt-returns-then-wraps-gt-MAX_WRAPS-clause-stays g t c = stays_same g.P.Keyring.meaning (all_of c.args.self.now) c.entry_count-wraps.ensures.counted
+
+pub tree::Members::encrypt-returns-in_err-encrypt-in-Some-generator-clause-stays :
+    goal.tree::Members::encrypt-returns-in_err-encrypt-in-Some-generator-clause-stays
+tree::Members::encrypt-returns-in_err-encrypt-in-Some-generator-clause-stays g t c =
+    generator_kept g.P.Keyring.meaning c.args.self.now c.in-Some-generator.generator c.encrypt.new.self c.in-Some-generator.is
+    (record { height = c.encrypt.ensures.height; goes = c.encrypt.ensures.goes }) c.entry_count-wraps.ensures.counted
+
+pub tree::Members::encrypt-returns-in_ok-wrap_with_all-in-Some-generator-clause-wraps :
+    goal.tree::Members::encrypt-returns-in_ok-wrap_with_all-in-Some-generator-clause-wraps
+tree::Members::encrypt-returns-in_ok-wrap_with_all-in-Some-generator-clause-wraps g t c =
+    generator_wraps g.P.Keyring.meaning c.args.self.now c.in-Some-generator.generator c.args.context.now c.args.random.now c.split_at.result.0.now c.split_at.result.1.now (option_copied c.args.key)
+    c.in_ok-encrypt-in-Some-generator.field-0 c.new-in-Some-generator.result c.in-Some-generator.is c.entry_count-wraps.ensures.counted (search rules) (ap option_copied c.in-None.is)
+    (split_is _ c.args.random.now c.split_at.result.0.now c.split_at.result.1.now c.split_at.ensures.front c.split_at.ensures.back)
+    (omega (arith, c.split_at.ensures.front_len, c.entry_count.ensures.value)) c.in_ok-encrypt-in-Some-generator.ensures.wraps (search rules) (search rules)
+
+pub tree::Multi::encrypt-encrypt-requires : goal.tree::Multi::encrypt-encrypt-requires
+tree::Multi::encrypt-encrypt-requires g t c κs within = (
+  omega (arith, c.decreases, members_fall c.self.inside.members.generator c.self.inside.members.children.items, ap (λ v. tallest v.1) c.self.view_is),
+  (search rules, (c.self.invariant.1, c.requires ∙ ap (λ n. wanted (is_some c.args.key) (min n 64)) (ap all_wraps (row_is g.P.Keyring.meaning c.self.inside.members c.args.self.now c.self.view_is)))),
+)
+
+pub tree::Multi::encrypt-invariant_of-self : goal.tree::Multi::encrypt-invariant_of-self
+tree::Multi::encrypt-invariant_of-self g t c = (
+  c.self.invariant.0,
+  omega (arith, c.encrypt.ensures.few, c.self.invariant.1),
+  ap (λ n. n + 1) (height_stays g.P.Keyring.meaning c.self.inside.members c.encrypt.new.self c.encrypt.ensures.stays) ∙ c.self.invariant.2,
+)
+
+pub tree::Multi::encrypt-returns-clause-height : goal.tree::Multi::encrypt-returns-clause-height
+tree::Multi::encrypt-returns-clause-height g t c =
+    value_height g.P.Keyring.meaning c.self.inside.members c.encrypt.new.self c.args.self.now (value_of c.encrypt.new.self) c.self.view_is refl c.encrypt.ensures.stays
+
+pub tree::Multi::encrypt-returns-clause-goes : goal.tree::Multi::encrypt-returns-clause-goes
+tree::Multi::encrypt-returns-clause-goes g t c =
+    multi_goes g.P.Keyring.meaning c.self.inside.members c.encrypt.new.self c.args.self.now (value_of c.encrypt.new.self) c.self.view_is refl c.encrypt.ensures.same c.encrypt.ensures.stays
+
+pub tree::Multi::encrypt-returns-clause-wraps : goal.tree::Multi::encrypt-returns-clause-wraps
+tree::Multi::encrypt-returns-clause-wraps g t c =
+    subst (λ (m : KeyringMeaning). IfOk c.encrypt.result (Wraps m c.args.context.now c.args.random.now (option_copied c.args.key)))
+    (sym (joined_row g.P.Keyring.meaning c.self.inside.members c.args.self.now c.self.view_is)) c.encrypt.ensures.wraps
+
+pub tree::Multi::encrypt-returns-clause-taken : goal.tree::Multi::encrypt-returns-clause-taken
+tree::Multi::encrypt-returns-clause-taken g t c =
+    subst (λ (m : KeyringMeaning). OnOk c.encrypt.result (refusal_with (is_some c.args.key) m ≡ None))
+    (sym (joined_row g.P.Keyring.meaning c.self.inside.members c.args.self.now c.self.view_is)) c.encrypt.ensures.taken
+
+pub tree::Multi::encrypt-returns-clause-cause : goal.tree::Multi::encrypt-returns-clause-cause
+tree::Multi::encrypt-returns-clause-cause g t c =
+    subst (λ (ms : List KeyringMeaning). IfErr c.encrypt.result
+    (WrapCause (refusal_with (is_some c.args.key) (joined c.args.self.now.0 (meanings g.P.Keyring.meaning c.args.self.now.1))) (all_faults (meanings g.P.Keyring.meaning c.args.self.now.1)) (all_faults ms)))
+    (sym (meanings-forest g.P.Keyring.meaning (all_of c.encrypt.new.self)))
+    (subst (λ (m : KeyringMeaning). IfErr c.encrypt.result
+    (WrapCause (refusal_with (is_some c.args.key) m) m.faults (all_faults (map (tree_meaning g.P.Keyring.meaning) (all_of c.encrypt.new.self)))))
+    (sym (joined_row g.P.Keyring.meaning c.self.inside.members c.args.self.now c.self.view_is)) c.encrypt.ensures.cause)
+
+pub wrapping::wrap_with_all-loop-i-init : goal.wrapping::wrap_with_all-loop-i-init
+wrapping::wrap_with_all-loop-i-init g t c = (
+  search rules,
+  begins g.P.Keyring.meaning c.args.nodes.now.items c.deref.result.now c.args.context.now c.args.key.now c.args.random.now c.args.entries.now.items c.deref.ensures.value
+      c.entry_count_of-count.ensures.counted c.requires.takes c.requires.room,
+)
+
+pub wrapping::wrap_with_all-returns-in_err-wrapped-clause-cause :
+    goal.wrapping::wrap_with_all-returns-in_err-wrapped-clause-cause
+wrapping::wrap_with_all-returns-in_err-wrapped-clause-cause g t c =
+    err_is c.from_residual.result c.in_err-wrapped.field-0.0
+    (WrapCause None (all_faults (map (tree_meaning g.P.Keyring.meaning) c.args.nodes.now.items))
+    (all_faults (map (tree_meaning g.P.Keyring.meaning) (slice_set c.loop-i.nodes.items c.loop-i.i c.encrypt.new.self))))
+    (search rules)
+    (cause_here g.P.Keyring.meaning c.args.nodes.now.items c.loop-i.nodes.items c.loop-i.i c.args.context.now c.args.key.now c.args.random.now c.loop-i.rest.now c.args.entries.now.items
+    c.loop-i.entries.items c.index_mut-node.result.now c.encrypt.new.self c.in_err-wrapped.field-0.0 c.loop-i.invariant.1 (search rules) (search rules) c.in_err-wrapped.ensures.cause)
+
+pub wrapping::wrap_with_all-returns-in_err-append-clause-stays :
+    goal.wrapping::wrap_with_all-returns-in_err-append-clause-stays
+wrapping::wrap_with_all-returns-in_err-append-clause-stays g t c =
+    kept_here g.P.Keyring.meaning c.args.nodes.now.items c.loop-i.nodes.items c.loop-i.i c.args.context.now c.args.key.now c.args.random.now c.loop-i.rest.now c.args.entries.now.items
+    c.loop-i.entries.items c.index_mut-node.result.now c.encrypt.new.self c.loop-i.invariant.1 (search rules) (search rules) (record { height = c.encrypt.ensures.height; goes = c.encrypt.ensures.goes })
+
+pub wrapping::wrap_with_all-returns-in_err-wrapped-clause-stays :
+    goal.wrapping::wrap_with_all-returns-in_err-wrapped-clause-stays
+wrapping::wrap_with_all-returns-in_err-wrapped-clause-stays g t c =
+    kept_here g.P.Keyring.meaning c.args.nodes.now.items c.loop-i.nodes.items c.loop-i.i c.args.context.now c.args.key.now c.args.random.now c.loop-i.rest.now c.args.entries.now.items
+    c.loop-i.entries.items c.index_mut-node.result.now c.encrypt.new.self c.loop-i.invariant.1 (search rules) (search rules) (record { height = c.encrypt.ensures.height; goes = c.encrypt.ensures.goes })
+
+pub wrapping::wrap_with_all-loop-i-preserved : goal.wrapping::wrap_with_all-loop-i-preserved
+wrapping::wrap_with_all-loop-i-preserved g t c = (
+  search rules,
+  step_here g.P.Keyring.meaning c.args.nodes.now.items c.loop-i.nodes.items c.loop-i.i c.args.context.now c.args.key.now c.args.random.now c.loop-i.rest.now c.split_at.result.0.now
+      c.split_at.result.1.now c.args.entries.now.items c.loop-i.entries.items c.append.new.self.items c.index_mut-node.result.now c.encrypt.new.self c.in_ok-wrapped.wrapped c.loop-i.invariant.1
+      (search rules) (search rules)
+      (split_is _ c.loop-i.rest.now c.split_at.result.0.now c.split_at.result.1.now c.split_at.ensures.front c.split_at.ensures.back)
+      (omega (arith, c.split_at.ensures.front_len, c.entry_count.ensures.value))
+      (record { kept = record { height = c.encrypt.ensures.height; goes = c.encrypt.ensures.goes }; wraps = c.in_ok-wrapped.ensures.wraps })
+      (search rules),
+)

@@ -1,0 +1,11 @@
+pub mod Meanings
+pub mod Counted
+pub mod Measures
+pub mod Heights
+pub mod Going
+pub mod Joining
+pub mod Made
+pub mod Finding
+pub mod Appending
+pub mod Multis
+pub mod Leaves

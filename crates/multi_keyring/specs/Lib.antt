@@ -1,0 +1,10 @@
+pub mod Forest
+pub mod Codes
+pub mod Nodes
+pub mod TreeFalls
+pub mod Tree
+pub mod Making
+pub mod Rows
+pub mod Staying
+pub mod Unwrapping
+pub mod Laws
