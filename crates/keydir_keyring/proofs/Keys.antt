@@ -1,0 +1,64 @@
+-- The key that the front of a file shows.
+use Rattle.std.proofs.Common.{◌≡◌, ◌≢◌, ℕ, ◌<◌, ◌≤◌, Bool, true, false, List, length, take, Option, Some, None, inl, inr, refl, sym, ap, subst, ◌∙◌, arith, eq-eqb}
+use Rattle.std.specs.Prelude.{IfSome, is_none, if◌then◌else◌, Ok}
+use Rattle.std.specs.Option.{option_and_then}
+use Rattle.std.specs.FinMap.{get}
+use Rattle.std.proofs.lemmas.List.{length-take-le, length-take, take_all}
+use Rattle.std.proofs.lemmas.Bool.Decides.{eqb_tells}
+use Rattle.esdk_base.specs.Shelf.{Files, HasCauseOrMissing, is_missing}
+use Rattle.keydir_keyring.specs.Reading.{IsFront, ReadsKey, key_in, told_key}
+
+-- bytes that are a key, and bytes that are none
+key_in_is : (bytes : List ℕ) → length bytes ≡ 32 → key_in bytes ≡ Some bytes
+key_in_is bytes long = ap (λ (b : Bool). if b then Some bytes else None) (eq-eqb (length bytes) 32 long)
+
+key_in_none : (bytes : List ℕ) → length bytes ≢ 32 → key_in bytes ≡ None
+key_in_none bytes other = elim (eqb_tells (length bytes) 32) [ inl same ↦ absurd (other same.1) | inr differs ↦ ap (λ (b : Bool). if b then Some bytes else None) differs.0 ]
+
+-- 32 bytes with room behind them are the file
+whole_key : (held : Option (List ℕ)) (room : List ℕ) → is_none held ≡ false → ((bytes : List ℕ) → held ≡ Some bytes → take 32 room ≡ take 32 bytes)
+    → ((bytes : List ℕ) → held ≡ Some bytes → length bytes ≡ 32) → option_and_then key_in held ≡ Some (take 32 room)
+whole_key None room there front whole = absurd (cc)
+whole_key (Some bytes) room there front whole =
+    let long : length bytes ≡ 32 = whole bytes refl in
+    key_in_is bytes long ∙ ap (λ (b : List ℕ). Some b) (sym (front bytes refl ∙ take_all 32 bytes (omega (arith, long))))
+
+-- the key that is read is the one that is told
+pub key_is_told : (told : Option Files) (file room : List ℕ) → length room ≡ 33 → is_missing told file ≡ false → IsFront told file room 32
+    → IfSome told (λ _. told_key told file ≡ Some (take 32 room))
+key_is_told None file room long there front = tt
+key_is_told (Some files) file room long there front = whole_key (get files file) room there front.filled.front (front.whole (omega (arith, long)))
+
+-- more or fewer bytes are no key
+other_length : (held : Option (List ℕ)) (room : List ℕ) (n : ℕ) → length room ≡ 33 → n ≤ 33 → n ≢ 32 → ((bytes : List ℕ) → held ≡ Some bytes → take n room ≡ take n bytes)
+    → (n < length room → (bytes : List ℕ) → held ≡ Some bytes → length bytes ≡ n) → option_and_then key_in held ≡ None
+other_length None room n long fits other front whole = refl
+other_length (Some bytes) room n long fits other front whole =
+    key_in_none bytes (λ is.
+    let same : length (take n room) ≡ length (take n bytes) = ap length (front bytes refl) in
+    let full : length (take n room) ≡ n = length-take-le n room (omega (arith, long, fits)) in
+    let full_n : n ≤ length bytes = omega (arith, same, full, length-take n bytes) in
+    other (sym (whole (omega (arith, full_n, is, long)) bytes refl) ∙ is))
+
+pub none_is_told : (told : Option Files) (file room : List ℕ) (n : ℕ) → length room ≡ 33 → n ≢ 32 → IsFront told file room n → told_key told file ≡ None
+none_is_told None file room n long other front = refl
+none_is_told (Some files) file room n long other front =
+    other_length (get files file) room n long (omega (arith, front.filled.fits, long)) other front.filled.front front.whole
+
+-- what could be read is there
+there_by : {T E : Type 0} (missing : Bool) (old new : ℕ) (x : T) → HasCauseOrMissing {T = T} {E = E} missing old new (Ok x) → missing ≡ false
+there_by true old new x cause = absurd (let e = cause.absent refl in cc)
+there_by false old new x cause = refl
+
+pub is_there : {T E : Type 0} (told : Option Files) (file : List ℕ) (old new : ℕ) (x : T) → HasCauseOrMissing {T = T} {E = E} (is_missing told file) old new (Ok x)
+    → is_missing told file ≡ false
+is_there told file old new x cause = there_by (is_missing told file) old new x cause
+
+-- what 32 bytes with room behind them come to
+pub key_read : {E : Type 0} (told : Option Files) (file room key : List ℕ) (n old new : ℕ) → length room ≡ 33 → n ≡ 32 → IsFront told file room n
+    → HasCauseOrMissing {T = ℕ} {E = E} (is_missing told file) old new (Ok n) → key ≡ take 32 room → ReadsKey told file old new (Some key)
+key_read told file room key n old new long whole front cause is =
+    let front_32 : IsFront told file room 32 = subst (λ (n : ℕ). IsFront told file room n) whole front in (
+      cause.same,
+      subst (λ (k : List ℕ). IfSome told (λ _. told_key told file ≡ Some k)) (sym is) (key_is_told told file room long (is_there told file old new n cause) front_32),
+    )

@@ -1,0 +1,40 @@
+-- A keyring of one wrapping key, whose bytes stand in a file of a shelf.
+-- AWS Encryption SDK Specification, "Raw AES Keyring".
+use Rattle.std.specs.Prelude.{◌≡◌, ◌≢◌, ℕ, List, [], ◌∷◌, false, Option, None, Result, Ok, Err}
+use Rattle.std.specs.Option.{option_map}
+use Rattle.esdk_base.specs.Shelf.{Files}
+use Rattle.keyring_trait.specs.Wrapping.{WrapKeyValue}
+use Rattle.keyring_trait.specs.Keyring.{KeyringMeaning}
+use Rattle.raw_aes_keyring.specs.declared.raw_aes.RawError.{RawError}
+use Rattle.raw_aes_keyring.specs.declared.raw_aes.RawError.TheVariants.{ReservedNamespace, Memory}
+use Rattle.raw_aes_keyring.specs.RawKey.{reserved_namespace}
+use Rattle.keydir_keyring.specs.Reading.{told_key}
+
+-- The shelf, the file's name on it, the namespace and the name of the wrapping key, and how often the keyring failed.
+pub record KeydirValue (S : Type 0) : Type 0 where
+  pub shelf : S
+  pub file : List ℕ
+  pub namespace : List ℕ
+  pub name : List ℕ
+  pub faults : ℕ
+
+-- A keyring that was made so; or the namespace is the reserved one, and only then is it refused. Memory may run out only where it is not.
+abbrev pub MakesKeydir : {S : Type 0} → KeydirValue S → Result (KeydirValue S) RawError → Type 0
+MakesKeydir k (Ok made) = (made ≡ k) × (k.namespace ≢ reserved_namespace)
+MakesKeydir k (Err ReservedNamespace) = k.namespace ≡ reserved_namespace
+MakesKeydir k (Err Memory) = k.namespace ≢ reserved_namespace
+
+-- the wrapping key of these bytes
+abbrev pub wrap_key : {S : Type 0} → KeydirValue S → List ℕ → WrapKeyValue
+wrap_key k bytes = record { namespace = k.namespace; name = k.name; key = bytes }
+
+-- It tells its one wrapping key where its shelf tells a file of 32 bytes; it makes one entry, refuses nothing, and counts its own failures.
+abbrev pub keydir_meaning : {S : Type 0} → (S → Option Files) → KeydirValue S → KeyringMeaning
+keydir_meaning files k = record {
+  keys = option_map (λ bytes. wrap_key k bytes ∷ []) (told_key (files k.shelf) k.file);
+  wraps = 1;
+  refuses_key = None;
+  refuses_none = None;
+  faults = k.faults;
+  steady = false;
+}

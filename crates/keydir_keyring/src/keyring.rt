@@ -1,0 +1,88 @@
+//! The key of a file as a keyring. AWS Encryption SDK Specification, "Keyring Interface" and "Raw AES Keyring".
+
+ghost use Rattle.std.specs.Prelude.{◌≡◌, ◌∷◌, [], None, length, is_some, IfOk, IfErr, IfSome, OnOk};
+ghost use Rattle.std.specs.Option.{option_copied};
+ghost use Rattle.keyring_trait.specs.Keyring.{KeyringGoes, Opens, UnwrapCause, WrapCause, Wraps, refusal_with, wanted};
+ghost use Rattle.keydir_keyring.specs.Answers.{Answers, Keeps};
+ghost use Rattle.keydir_keyring.specs.Keydir.{keydir_meaning};
+
+use crate::keydir::KeydirKeyring;
+use crate::reading::read_key;
+use context_codec::Context;
+use edk_codec::DataKeyEntry;
+use esdk_base::Shelf;
+use keyring_trait::{DataKey, Keyring, RingError, RingRefusal, Wrapped};
+use raw_aes_keyring::{RawAes, RawError};
+use std::alloc::Global;
+
+/// Reads the file at each of its two calls, and then does what a raw AES keyring of its 32 bytes does. It makes one entry and refuses nothing.
+///
+/// `KeyringFault` comes wherever a read of the file failed, and wherever the file doesn't have just 32 bytes; only where the shelf's count of faults rose in
+/// the call, or the file isn't there or doesn't have 32 bytes. It raises the keyring's own count. `Memory` comes only where there was a key to read.
+/// The shelf's files stay as they are.
+impl<S: Shelf + Drop> Keyring for KeydirKeyring<S> {
+    ghost meaning = { λ k. keydir_meaning S.files k };
+
+    fn wraps(&self) -> u32 {
+        1
+    }
+
+    fn refuses(&self, _has_key: bool) -> Option<RingRefusal> {
+        None
+    }
+
+    fn on_encrypt(
+        &mut self,
+        alloc: Global,
+        context: &Context,
+        random: &[u8],
+        key: Option<&DataKey>,
+    ) -> Result<Wrapped, RingError>
+        requires { length random.now ≡ wanted (is_some key) (keydir_meaning S.files self.old).wraps }
+        ensures goes { KeyringGoes (keydir_meaning S.files self.old) (keydir_meaning S.files self.new) }
+        ensures wraps { IfOk result (Wraps (keydir_meaning S.files self.old) context.now random.now (option_copied key.entry)) }
+        ensures taken { OnOk result (refusal_with (is_some key.entry) (keydir_meaning S.files self.old) ≡ None) }
+        ensures cause { IfErr result (WrapCause (refusal_with (is_some key.entry) (keydir_meaning S.files self.old)) self.old.faults self.new.faults) }
+        ensures keeps { Keeps S.files self.old self.new }
+        ensures answers { Answers S.files S.faults self.old self.new result }
+    {
+        let mut keyring = self.read(alloc)?;
+        keyring.on_encrypt(alloc, context, random, key)
+    }
+
+    fn on_decrypt(
+        &mut self,
+        alloc: Global,
+        context: &Context,
+        entries: &[DataKeyEntry],
+    ) -> Result<Option<DataKey>, RingError>
+        ensures goes { KeyringGoes (keydir_meaning S.files self.old) (keydir_meaning S.files self.new) }
+        ensures opens { IfOk result (Opens (keydir_meaning S.files self.old) (keydir_meaning S.files self.new) context.now entries.now) }
+        ensures cause { IfErr result (UnwrapCause self.old.faults self.new.faults) }
+        ensures keeps { Keeps S.files self.old self.new }
+        ensures answers { Answers S.files S.faults self.old self.new result }
+    {
+        let mut keyring = self.read(alloc)?;
+        keyring.on_decrypt(alloc, context, entries)
+    }
+}
+
+impl<S: Shelf> KeydirKeyring<S> {
+    /// The raw AES keyring of the key that stands in the file now.
+    fn read(&mut self, alloc: Global) -> Result<RawAes, RingError>
+        ensures key { IfOk result (λ keyring. IfSome (keydir_meaning S.files self.old).keys (λ keys. keys ≡ keyring ∷ [])) }
+        ensures keeps { Keeps S.files self.old self.new }
+        ensures answers { Answers S.files S.faults self.old self.new result }
+    {
+        let Some(key) = read_key(&mut self.shelf, self.file.as_str()) else {
+            self.faults = self.faults.saturating_add(1);
+            return Err(RingError::KeyringFault);
+        };
+        match RawAes::new(alloc, self.namespace.as_str(), self.name.as_str(), key) {
+            Ok(keyring) => Ok(keyring),
+            Err(RawError::Memory) => Err(RingError::Memory),
+            // A keyring's namespace isn't the reserved one.
+            Err(RawError::ReservedNamespace) => unreachable!(),
+        }
+    }
+}
