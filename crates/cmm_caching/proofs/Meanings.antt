@@ -1,0 +1,89 @@
+-- What a manager with a cache means before and after a call.
+use Rattle.std.proofs.Common.{◌≡◌, ◌&&◌, List, Option, is_none, Result, Ok, Err, IfOk, MatchResult, refl, sym, subst, ◌∙◌}
+use Rattle.keyring_trait.specs.declared.served.Served.{Served}
+use Rattle.keyring_trait.specs.declared.served.Served.TheVariants.{Direct, New, Hit}
+use Rattle.context_codec.specs.Context.{KeyValue}
+use Rattle.keyring_trait.specs.Manager.{ManagerMeaning, ManagerGoes, IsNew, request_refusal, TellsOn}
+use Rattle.keyring_trait.specs.Wrapping.{WrapKeyValue}
+use Rattle.cmm_caching.specs.Names.{NameValue}
+use Rattle.cmm_caching.specs.Ask.{GivenValue, HandedValue}
+use Rattle.cmm_caching.specs.Store.{Store}
+use Rattle.cmm_caching.specs.Asked.{NotHit}
+use Rattle.cmm_caching.specs.Holding.{Holds, IsRight, IsExact, unfailing}
+use Rattle.cmm_caching.specs.CachingCmm.{caching_meaning, CachingTells, CachingExact}
+
+-- ---- what isn't served from an entry
+
+pub map_not_hit : (P Q : Type 0) (served : Served) → (P → Q) → NotHit served P → NotHit served Q
+map_not_hit P Q Direct f h = f h
+map_not_hit P Q (New number) f h = f h
+map_not_hit P Q (Hit number) f h = tt
+
+pub not_served : (served : Served) (P : Type 0) → IsNew served → NotHit served P → P
+not_served Direct P new h = h
+not_served (New number) P new h = h
+not_served (Hit number) P new h = absurd new
+
+pub map_ok : {M E : Type 0} (P Q : M → Type 0) (r : Result M E) → ((m : M) → P m → Q m) → IfOk r P → IfOk r Q
+map_ok P Q (Ok m) f h = f m h
+map_ok P Q (Err e) f h = tt
+
+-- ---- the meaning
+
+-- it has a cache after the call where it had one before
+pub goes_caching : (old new : Option Store) (m n : ManagerMeaning) → is_none new ≡ is_none old → ManagerGoes m n → ManagerGoes (caching_meaning old m) (caching_meaning new n)
+goes_caching old new m n same goes = record {
+  wraps = goes.wraps;
+  refuses = goes.refuses;
+  steady = goes.steady;
+  fresh = goes.plain;
+  plain = λ i. same i && goes.plain i;
+  demands = goes.demands;
+  later = goes.later;
+  still = goes.still;
+}
+
+-- all that it means but the count of faults
+pub unfailing_same : (m n : ManagerMeaning) → ManagerGoes m n → unfailing n ≡ unfailing m
+unfailing_same m n goes = λ i. record {
+  wraps = goes.wraps i;
+  refuses = goes.refuses i;
+  faults = 0;
+  steady = goes.steady i;
+  fresh = goes.fresh i;
+  plain = goes.plain i;
+  demands = goes.demands i;
+}
+
+pub refusal_same : (m : ManagerMeaning) (context : List KeyValue) → request_refusal (unfailing m) context ≡ request_refusal m context
+unfolding request_refusal
+refusal_same m context = refl
+
+-- ---- what is told and what is exact
+
+-- Where P holds of all entries, and of what the inner manager gave, it holds of what is answered, and of all entries then.
+abbrev pub RightsOn : {M E : Type 0} → (M → HandedValue) → NameValue → (old new : Option Store) → Result M E → Type 1
+RightsOn view name old new r =
+    (P : NameValue → GivenValue → Type 0) → Holds P old → IfOk r (λ m. NotHit (view m).served (P name (view m).given))
+    → MatchResult r (λ m. P name (view m).given × Holds P new) (λ _. Holds P new)
+
+-- so it does of the entries
+pub holds_then : {M E : Type 0} (view : M → HandedValue) (name : NameValue) (old new : Option Store) (r : Result M E) → RightsOn view name old new r
+    → (P : NameValue → GivenValue → Type 0) → Holds P old → IfOk r (λ m. NotHit (view m).served (P name (view m).given)) → Holds P new
+holds_then view name old new (Ok m) rights P holds got = (rights P holds got).1
+holds_then view name old new (Err e) rights P holds got = rights P holds got
+
+pub tells_on : (old new : Option Store) (m n : ManagerMeaning) (told later : List WrapKeyValue → Type 0) → ManagerGoes m n → TellsOn told later
+    → ((keys : List WrapKeyValue) → CachingTells old m told keys → Holds (IsRight keys) new) → TellsOn (CachingTells old m told) (CachingTells new n later)
+tells_on old new m n told later goes on right = λ keys t. record {
+  told = on keys t.told;
+  steady = goes.steady ∙ t.steady;
+  right = right keys t;
+}
+
+pub exact_on : (old new : Option Store) (m n : ManagerMeaning) (Exact Later : Type 0) → ManagerGoes m n → (Exact → Later)
+    → (CachingExact old m Exact → Holds (IsExact (unfailing m)) new) → CachingExact old m Exact → CachingExact new n Later
+exact_on old new m n Exact Later goes on kept x = record {
+  exact = on x.exact;
+  kept = subst (λ (u : ManagerMeaning). Holds (IsExact u) new) (sym (unfailing_same m n goes)) (kept x);
+}

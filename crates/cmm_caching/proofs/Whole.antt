@@ -1,0 +1,78 @@
+-- With a cache or without: what an answer is, what is true of all entries then, and what the manager bears.
+use Rattle.std.proofs.Common.{◌≡◌, ℕ, Bool, true, false, [], Option, Some, None, is_none, Result, Ok, Err, IfOk, MatchResult, refl, subst, arith}
+use Rattle.keyring_trait.specs.declared.journal.Kind.{Kind}
+use Rattle.keyring_trait.specs.declared.served.Served.{Served}
+use Rattle.keyring_trait.specs.declared.served.Served.TheVariants.{Direct}
+use Rattle.keyring_trait.specs.Manager.{BearsOn}
+use Rattle.cmm_caching.specs.Names.{NameValue}
+use Rattle.cmm_caching.specs.Ask.{GivenValue, HandedValue, State, Wish, is_direct}
+use Rattle.cmm_caching.specs.Store.{Store, StandsFor, tallied}
+use Rattle.cmm_caching.specs.Asked.{AskedWith, AnswersAs, StandsAfter, IsSound, NotHit, limits_of}
+use Rattle.cmm_caching.specs.Holding.{Holds}
+use Rattle.cmm_caching.specs.Journal.{BearsWith}
+use Rattle.cmm_caching.proofs.Bearing.{IsSized, bears_on, bears_direct_on, bears_none}
+use Rattle.cmm_caching.proofs.Meanings.{RightsOn}
+use Rattle.cmm_caching.proofs.Tallies.{answering, standing}
+use Rattle.cmm_caching.proofs.Ways.{right_on, limits_kept}
+
+-- without a cache everything is served directly
+pub none_direct : {M : Type 0} (E : Type 0) (view : M → HandedValue) (past : Store → Bool) (w : Wish) (now : ℕ) (old new : Option Store) (m : M)
+    → AskedWith {M = M} {E = E} view past old new w now (Ok m) → is_none old ≡ true → (view m).served ≡ Direct
+none_direct E view past w now None None m asked none = asked
+none_direct E view past w now None (Some c) m asked none = absurd asked
+none_direct E view past w now (Some s) new m asked none = absurd cc
+
+module _ {M E : Type 0} (view : M → HandedValue) (past : Store → Bool) (w : Wish) (now : ℕ) where
+  pub same_kind : (old new : Option Store) (r : Result M E) → AskedWith view past old new w now r → is_none new ≡ is_none old
+  same_kind None None r asked = refl
+  same_kind None (Some c) r asked = absurd asked
+  same_kind (Some s) None r asked = absurd asked
+  same_kind (Some s) (Some c) r asked = refl
+
+  pub same_limits : (old new : Option Store) (r : Result M E) → AskedWith view past old new w now r → limits_of new ≡ limits_of old
+  same_limits None None r asked = refl
+  same_limits None (Some c) r asked = absurd asked
+  same_limits (Some s) None r asked = absurd asked
+  same_limits (Some s) (Some c) r asked = limits_kept view (past s) s c w now r asked
+
+  rights_without : (P : NameValue → GivenValue → Type 0) (r : Result M E) → IfOk r (λ m. (view m).served ≡ Direct) → IfOk r (λ m. NotHit (view m).served (P w.name (view m).given))
+      → MatchResult r (λ m. P w.name (view m).given × Holds P None) (λ _. Holds P None)
+  rights_without P (Ok m) direct got = (subst (λ (served : Served). NotHit served (P w.name (view m).given)) direct got, tt)
+  rights_without P (Err e) direct got = tt
+
+  pub rights : (old new : Option Store) (r : Result M E) → AskedWith view past old new w now r → RightsOn view w.name old new r
+  rights None None r asked = λ P holds got. rights_without P r asked got
+  rights None (Some c) r asked = absurd asked
+  rights (Some s) None r asked = absurd asked
+  rights (Some s) (Some c) r asked = λ P holds got. right_on view (past s) s c w now P r asked holds got
+
+  -- the law of managers
+  pub answers : (width : ℕ) (old new : Option Store) (s : State) (r : Result M E) → ((c : Store) → c ≡ tallied c.limits width s → past c ≡ false)
+      → AskedWith view past old new w now r → StandsFor width old s → AnswersAs view (limits_of old) s w now r
+  answers width None None s (Ok m) within asked stands = λ i. record { given = (view m).given; served = asked i }
+  answers width None None s (Err e) within asked stands = tt
+  answers width None (Some c) s r within asked stands = absurd asked
+  answers width (Some b) None s r within asked stands = absurd asked
+  answers width (Some b) (Some c) s r within asked stands = answering view (past b) width b c s w now r stands (within b stands) asked
+
+  pub stands_then : (width later : ℕ) (old new : Option Store) (s : State) (r : Result M E) → later ≡ width → ((c : Store) → c ≡ tallied c.limits width s → past c ≡ false)
+      → AskedWith view past old new w now r → StandsFor width old s → StandsAfter view (limits_of old) later new s w now r
+  stands_then width later None None s (Ok m) same within asked stands = stands
+  stands_then width later None None s (Err e) same within asked stands = stands
+  stands_then width later None (Some c) s r same within asked stands = absurd asked
+  stands_then width later (Some b) None s r same within asked stands = absurd asked
+  stands_then width later (Some b) (Some c) s r same within asked stands = standing view (past b) width b c s w now later r same stands (within b stands) asked
+
+  -- the law of the cache's limits
+  pub bears_then : (kind : Kind) (old new : Option Store) (r : Result M E) → IsSound old
+      → ((s : Store) → is_direct s.limits w s.next ≡ false → IsSized s.limits kind w.declared)
+      → AskedWith view past old new w now r → BearsOn (BearsWith old) (BearsWith new) kind now w.declared (λ m. (view m).served) r
+  bears_then kind None None r sound sized asked = bears_direct_on (λ m. (view m).served) kind now w.declared r asked
+  bears_then kind None (Some c) r sound sized asked = absurd asked
+  bears_then kind (Some s) None r sound sized asked = absurd asked
+  bears_then kind (Some s) (Some c) r sound sized asked = bears_on view kind (past s) s c w now r sound (sized s) asked
+
+-- every manager with a cache bears no lines
+pub bears_nothing : (o : Option Store) → BearsWith o []
+bears_nothing None = λ k d within. absurd (omega (arith, within))
+bears_nothing (Some s) = bears_none s

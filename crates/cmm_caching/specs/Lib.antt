@@ -1,0 +1,10 @@
+pub mod Names
+pub mod NameLaws
+pub mod Limits
+pub mod Ask
+pub mod Store
+pub mod Asked
+pub mod Holding
+pub mod Journal
+pub mod CachingCmm
+pub mod Laws

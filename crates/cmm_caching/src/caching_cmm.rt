@@ -1,0 +1,151 @@
+//! The caching materials manager. AWS Encryption SDK Specification, "Caching CMM".
+
+ghost use Rattle.std.specs.Prelude.{◌≡◌, ◌+◌, ◌*◌, true, List, length, None, Option, IfOk, IfErr};
+ghost use Rattle.keyring_trait.specs.declared.journal.JournalLine.{JournalLine};
+ghost use Rattle.keyring_trait.specs.declared.journal.Kind.TheVariants.{Seal, Unseal};
+ghost use Rattle.keyring_trait.specs.Manager.{ManagerGoes, GivesMaterials, GivesNone, FindsMaterials, FindsNone, TellsOn, BearsOn, enc_served, dec_served};
+ghost use Rattle.keyring_trait.specs.Wrapping.{WrapKeyValue};
+ghost use Rattle.cmm_caching.specs.Ask.{State, empty, enc_handed, dec_handed, enc_wish, dec_wish};
+ghost use Rattle.cmm_caching.specs.Store.{StandsFor};
+ghost use Rattle.cmm_caching.specs.Asked.{AnswersAs, StandsAfter, limits_of};
+ghost use Rattle.cmm_caching.specs.Journal.{BearsWith, KeepsWithin};
+ghost use Rattle.cmm_caching.specs.CachingCmm.{caching_meaning, CachingTells, CachingExact};
+
+use crate::cache::Cache;
+use crate::limits::CacheLimits;
+use crate::opening::open;
+use crate::sealing::seal;
+use keyring_trait::{
+    DecMaterials, DecRequest, EncMaterials, EncRequest, JournalLine, Manager, ManagerError,
+    RingRefusal,
+};
+use std::alloc::{AllocError, Global};
+
+/// The materials manager that keeps the materials of another one, and serves the same request from them for a while. Without limits it keeps none.
+///
+/// The cache is a list of entries, the last used first. An entry has a name, a number from 1 on, the moment when it was made, its materials, and its uses, which are
+/// the encryptions that it gave. Its name is the whole request: to encrypt, the context and the required keys; to decrypt, the suite, the stored pairs, the given
+/// pairs and all encrypted data keys. Names are compared as values.
+#[derive(Drop)]
+pub struct CachingCmm<M> {
+    inner: M,
+    cache: Option<Cache>,
+}
+
+impl<M: Manager> CachingCmm<M> {
+    /// The manager over this inner one, with no entry yet. None switches the cache off. Fails only where memory runs out.
+    pub fn new(
+        alloc: Global,
+        inner: M,
+        limits: Option<CacheLimits>,
+    ) -> Result<CachingCmm<M>, AllocError>
+        ensures inner { IfOk result (λ c. c.inner ≡ inner) }
+        ensures limits { IfOk result (λ c. limits_of c.cache ≡ limits) }
+        ensures stands { IfOk result (λ c. StandsFor (M.meaning inner).wraps c.cache empty) }
+        ensures tells { IfOk result (λ c. (keys : List WrapKeyValue) → M.tells inner keys → (M.meaning inner).steady ≡ true
+            → CachingTells c.cache (M.meaning inner) (M.tells inner) keys) }
+        ensures exact { IfOk result (λ c. M.exact inner → CachingExact c.cache (M.meaning inner) (M.exact inner)) }
+    {
+        let cache = match limits {
+            Some(limits) => Some(Cache::new(alloc, limits, inner.wraps())?),
+            None => None,
+        };
+        Ok(CachingCmm { inner, cache })
+    }
+
+    /// The inner manager, as it stands.
+    pub fn into_inner(self) -> M
+        ensures { result ≡ self.inner }
+    {
+        self.inner
+    }
+
+    /// A journal of what this manager served, one line for each answer, is within the limits: no entry served beyond its age, nor for more encryptions or bytes than the
+    /// limits say. Without a cache everything was served directly. It has no work to do, and takes no memory.
+    pub fn journal_within(&self, lines: &[JournalLine])
+        requires { BearsWith self.now.cache lines.now }
+        ensures { KeepsWithin (limits_of self.now.cache) lines.now }
+    {}
+}
+
+/// A request is direct where the cache is off, where it is to encrypt and its length isn't declared or is above the limit, and once 2^63 entries were made; also to
+/// encrypt, where the inner manager makes another number of encrypted data keys than it did at first, which no manager does. The inner manager answers it, the cache
+/// stays, and it is served `Direct`.
+///
+/// An entry of the request's name serves exactly where the moment is at least the one when it was made, and less than the age later; and, to encrypt, where its uses and
+/// one more are within the limit, and so is the sum of their lengths with this one. It becomes the last used, gains this use, and `Served` is `Hit` with its number.
+///
+/// Else the inner manager is asked, and its materials become a new entry, the last used. An entry of the same name is replaced; else the one that wasn't used for the
+/// longest time drops, where the cache is full. `Served` is `New` with the number.
+///
+/// What the inner manager refuses is refused. After any error, `Memory` too, the cache is as before.
+impl<M: Manager> Manager for CachingCmm<M> {
+    ghost meaning = { λ m. caching_meaning m.cache (M.meaning m.inner) };
+
+    ghost tells = { λ m keys. CachingTells m.cache (M.meaning m.inner) (M.tells m.inner) keys };
+
+    ghost exact = { λ m. CachingExact m.cache (M.meaning m.inner) (M.exact m.inner) };
+
+    ghost bears = { λ m lines. BearsWith m.cache lines };
+
+    fn wraps(&self) -> u32 {
+        self.inner.wraps()
+    }
+
+    fn refuses(&self) -> Option<RingRefusal> {
+        self.inner.refuses()
+    }
+
+    fn for_encryption(
+        &mut self,
+        alloc: Global,
+        request: &EncRequest,
+        now: u64,
+        random: &[u8],
+    ) -> Result<EncMaterials, ManagerError>
+        requires { length random.now ≡ 32 + 12 * (M.meaning self.old.inner).wraps }
+        ensures goes { ManagerGoes (caching_meaning self.old.cache (M.meaning self.old.inner)) (caching_meaning self.new.cache (M.meaning self.new.inner)) }
+        ensures tells { TellsOn (CachingTells self.old.cache (M.meaning self.old.inner) (M.tells self.old.inner)) (CachingTells self.new.cache (M.meaning self.new.inner) (M.tells self.new.inner)) }
+        ensures exact { CachingExact self.old.cache (M.meaning self.old.inner) (M.exact self.old.inner)
+            → CachingExact self.new.cache (M.meaning self.new.inner) (M.exact self.new.inner) }
+        ensures gives { IfOk result (GivesMaterials (caching_meaning self.old.cache (M.meaning self.old.inner)) (CachingTells self.old.cache (M.meaning self.old.inner) (M.tells self.old.inner)) (CachingExact self.old.cache (M.meaning self.old.inner) (M.exact self.old.inner)) request.now random.now) }
+        ensures cause { IfErr result (GivesNone (caching_meaning self.old.cache (M.meaning self.old.inner)) (caching_meaning self.new.cache (M.meaning self.new.inner)) (CachingExact self.old.cache (M.meaning self.old.inner) (M.exact self.old.inner)) request.now) }
+        ensures bears { BearsOn (BearsWith self.old.cache) (BearsWith self.new.cache) Seal now request.now.declared enc_served result }
+        ensures answers { (s : State) → StandsFor (M.meaning self.old.inner).wraps self.old.cache s
+            → AnswersAs enc_handed (limits_of self.old.cache) s (enc_wish request.now) now result }
+        ensures stands { (s : State) → StandsFor (M.meaning self.old.inner).wraps self.old.cache s
+            → StandsAfter enc_handed (limits_of self.old.cache) (M.meaning self.new.inner).wraps self.new.cache s (enc_wish request.now) now result }
+        ensures limits { limits_of self.new.cache ≡ limits_of self.old.cache }
+    {
+        seal(
+            &mut self.cache,
+            &mut self.inner,
+            alloc,
+            request,
+            now,
+            random,
+        )
+    }
+
+    fn for_decryption(
+        &mut self,
+        alloc: Global,
+        request: &DecRequest,
+        now: u64,
+    ) -> Result<DecMaterials, ManagerError>
+        ensures goes { ManagerGoes (caching_meaning self.old.cache (M.meaning self.old.inner)) (caching_meaning self.new.cache (M.meaning self.new.inner)) }
+        ensures tells { TellsOn (CachingTells self.old.cache (M.meaning self.old.inner) (M.tells self.old.inner)) (CachingTells self.new.cache (M.meaning self.new.inner) (M.tells self.new.inner)) }
+        ensures exact { CachingExact self.old.cache (M.meaning self.old.inner) (M.exact self.old.inner)
+            → CachingExact self.new.cache (M.meaning self.new.inner) (M.exact self.new.inner) }
+        ensures finds { IfOk result (FindsMaterials (caching_meaning self.old.cache (M.meaning self.old.inner)) (caching_meaning self.new.cache (M.meaning self.new.inner)) (CachingTells self.old.cache (M.meaning self.old.inner) (M.tells self.old.inner)) (CachingExact self.old.cache (M.meaning self.old.inner) (M.exact self.old.inner)) request.now) }
+        ensures cause { IfErr result (FindsNone (caching_meaning self.old.cache (M.meaning self.old.inner)) (caching_meaning self.new.cache (M.meaning self.new.inner)) (CachingTells self.old.cache (M.meaning self.old.inner) (M.tells self.old.inner)) (CachingExact self.old.cache (M.meaning self.old.inner) (M.exact self.old.inner)) request.now) }
+        ensures bears { BearsOn (BearsWith self.old.cache) (BearsWith self.new.cache) Unseal now None dec_served result }
+        ensures answers { (s : State) → StandsFor (M.meaning self.old.inner).wraps self.old.cache s
+            → AnswersAs dec_handed (limits_of self.old.cache) s (dec_wish request.now) now result }
+        ensures stands { (s : State) → StandsFor (M.meaning self.old.inner).wraps self.old.cache s
+            → StandsAfter dec_handed (limits_of self.old.cache) (M.meaning self.new.inner).wraps self.new.cache s (dec_wish request.now) now result }
+        ensures limits { limits_of self.new.cache ≡ limits_of self.old.cache }
+    {
+        open(&mut self.cache, &mut self.inner, alloc, request, now)
+    }
+}
