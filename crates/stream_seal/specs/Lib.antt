@@ -1,0 +1,6 @@
+pub mod DeclaredLength
+pub mod FrameBuffer
+pub mod Laws
+pub mod Session
+pub mod Stands
+pub mod Start

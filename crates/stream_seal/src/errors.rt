@@ -1,0 +1,27 @@
+//! Why a call of a sealer fails.
+
+ghost use Rattle.std.specs.Prelude.{◌≡◌};
+ghost use Rattle.stream_seal.specs.declared.errors.SealError.TheVariants.{Memory};
+
+use context_codec::PairError;
+use esdk_fields::Refusal;
+use std::alloc::AllocError;
+
+/// Why a call of a sealer fails.
+#[derive(Drop)]
+pub enum SealError {
+    /// No message can be made of the materials (Q7, Q8) or of the text (Q9, Q10).
+    Refusal(Refusal),
+    /// An earlier call answered an error, or `finish` was called before.
+    Stopped,
+    /// Memory ran out.
+    Memory,
+}
+
+impl From<AllocError> for SealError {
+    ghost from_gives = { λ _ error. error ≡ Memory };
+
+    fn from(_: AllocError) -> SealError {
+        SealError::Memory
+    }
+}

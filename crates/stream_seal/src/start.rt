@@ -1,0 +1,79 @@
+//! What a message begins with: its header and the header's tag.
+
+ghost use Rattle.std.specs.Prelude.{◌≡◌, ◌+◌, ◌≤◌, length, IfErr, IfOk, OnOk, None};
+ghost use Rattle.context_codec.specs.Insert.{RefusesAs};
+ghost use Rattle.header_codec.specs.Header.{latest_end};
+ghost use Rattle.message_format.specs.Message.{header_body};
+ghost use Rattle.stream_seal.specs.Start.{StartsNot, start_of, start_refusal};
+
+use crate::errors::SealError;
+use context_codec::PairError;
+use esdk_fields::Blob;
+use header_codec::write_header;
+use keyring_trait::EncMaterials;
+use message_format::header_tag;
+use std::alloc::Global;
+use suite_table::commitment;
+
+/// The header of a message with these materials, and its tag. The header stores the pairs whose keys aren't required; the tag authenticates the others too.
+/// Q7 `TooManyDataKeys`, where there are more entries than the limit; Q8 `HeaderTooLong`, where the header would be too long.
+#[tactic(auto, unfolding(crate::specs::Start::start_of))]
+pub(crate) fn message_start(
+    alloc: Global,
+    materials: &EncMaterials,
+    frame_length: u32,
+    max_keys: Option<u16>,
+    message_id: &[u8; 32],
+) -> Result<Blob, PairError>
+    requires some { 1 ≤ frame_length }
+    ensures start { IfOk result (λ start. start ≡ start_of materials.now frame_length message_id.now) }
+    ensures taken { OnOk result (start_refusal materials.now max_keys message_id.now ≡ None) }
+    ensures cause { IfErr result (λ e. RefusesAs e (start_refusal materials.now max_keys message_id.now)) }
+{
+    let mut start = body_of_header(alloc, materials, frame_length, max_keys, message_id)?;
+    let only = materials.context().only(alloc, materials.required())?;
+    let tag = header_tag(alloc, start.bytes(), &only, materials.key(), message_id)?;
+    start.push_all(&tag)?;
+    Ok(start)
+}
+
+/// The body of the header.
+#[tactic(auto, unfolding(message_format::specs::Message::header_body), using(crate::proofs::Starting::short_body))]
+fn body_of_header(
+    alloc: Global,
+    materials: &EncMaterials,
+    frame_length: u32,
+    max_keys: Option<u16>,
+    message_id: &[u8; 32],
+) -> Result<Blob, PairError>
+    requires some { 1 ≤ frame_length }
+    ensures body { IfOk result (λ body. body ≡ header_body materials.now.context materials.now.required frame_length materials.now.key materials.now.entries message_id.now) }
+    ensures short { IfOk result (λ body. length body ≤ latest_end + 37) }
+    ensures taken { OnOk result (start_refusal materials.now max_keys message_id.now ≡ None) }
+    ensures cause { IfErr result (λ e. RefusesAs e (start_refusal materials.now max_keys message_id.now)) }
+{
+    let stored = materials.context().without(alloc, materials.required())?;
+    let commitment = commitment(materials.key().bytes(), message_id);
+    match write_header(
+        alloc,
+        message_id,
+        &stored,
+        materials.entries(),
+        frame_length,
+        &commitment,
+        max_keys,
+    ) {
+        Ok(body) => Ok(body),
+        Err(error) => Err(error),
+    }
+}
+
+/// Why a message isn't begun whose header isn't written.
+pub(crate) fn unstarted(error: PairError) -> SealError
+    ensures { StartsNot error result }
+{
+    match error {
+        PairError::Refusal(refusal) => SealError::Refusal(refusal),
+        PairError::Memory => SealError::Memory,
+    }
+}
