@@ -28,14 +28,14 @@ use Rattle.esdk_decrypt.specs.declared.errors.DecryptError.TheVariants as errors
 -- ---- a reader's answers
 
 -- something is wrong with the pairs
-offence_unlocks : (stored given : List KeyValue) (entries : List Entry) (required : List (List ℕ)) (keys : List WrapKeyValue) (fault : Fault)
+pub offence_unlocks : (stored given : List KeyValue) (entries : List Entry) (required : List (List ℕ)) (keys : List WrapKeyValue) (fault : Fault)
     → pair_offence stored given required ≡ Some fault → unlock stored entries given required keys ≡ Refuses fault
 unfolding unlock
 offence_unlocks stored given entries required keys fault e =
     ap (λ (o : Option Fault). unless o (opens_with (whole_of stored given) (only_given stored given) (unwrapped keys entries (whole_of stored given)))) e
 
 -- nothing is wrong with them
-sound_unlocks : (stored given : List KeyValue) (entries : List Entry) (required : List (List ℕ)) (keys : List WrapKeyValue) (found : Option (List ℕ))
+pub sound_unlocks : (stored given : List KeyValue) (entries : List Entry) (required : List (List ℕ)) (keys : List WrapKeyValue) (found : Option (List ℕ))
     → pair_offence stored given required ≡ None → unwrapped keys entries (whole_of stored given) ≡ found
     → unlock stored entries given required keys ≡ opens_with (whole_of stored given) (only_given stored given) found
 unfolding unlock

@@ -1,6 +1,6 @@
 -- How a run ends, by what was drawn and given before its input was taken.
 use Rattle.std.proofs.Common.{◌≡◌, ◌∙◌, ℕ, List, ◌++◌, Bool, true, false, inl, inr, Some, None, Result, IfErr, OnOk, if◌then◌else◌, nat_lt, length, ap, refl, subst, sym}
-use Rattle.std.specs.Prelude.{⊤}
+use Rattle.std.specs.Prelude.{All, ⊤}
 use Rattle.std.proofs.lemmas.Result.{on_ok_weaker, IfErr-weaker}
 use Rattle.esdk_base.specs.Streams.{EntropyState, SinkState, SourceState}
 use Rattle.esdk_fields.specs.declared.refusals.Outside.TheVariants as outsides
@@ -11,6 +11,7 @@ use Rattle.context_codec.specs.declared.insert.PairError.{PairError}
 use Rattle.context_codec.specs.declared.insert.PairError.TheVariants as pairs
 use Rattle.context_codec.specs.Insert.{RefusesAs}
 use Rattle.context_codec.specs.Parts.{stored_of}
+use Rattle.edk_codec.specs.Entry.{IsEntry}
 use Rattle.header_codec.specs.Header.{latest_end}
 use Rattle.header_codec.specs.Table.{is_over}
 use Rattle.header_codec.specs.Written.{keys_end}
@@ -79,23 +80,23 @@ of_header false false count end r is = absurd cc
 
 -- a refusal of the header's parts
 pub ends_refused : (asked : Asked) (input : SourceState) (output : SinkState) (entropy spent : EntropyState) (drawn : List ℕ) (m : EncMaterialsValue) (untouched unasked : Type 0)
-    (refusal : Refusal) → Drew asked.wraps entropy spent drawn → asked.gives (drawn_rest drawn) m → start_refusal m asked.max_keys (drawn_id drawn) ≡ Some refusal → untouched
+    (refusal : Refusal) → Drew asked.wraps entropy spent drawn → asked.gives (drawn_rest drawn) m → All IsEntry m.entries → start_refusal m asked.max_keys (drawn_id drawn) ≡ Some refusal → untouched
     → IsOfHeader refusal → EndsSo asked input input output output entropy spent untouched unasked (errors.Refusal refusal)
-ends_refused asked input output entropy spent drawn m untouched unasked (refusals.TooManyDataKeys n) drew given cause same of =
-    record { drawn = drawn; materials = m; drew = drew; given = given; cause = cause; same = same }
-ends_refused asked input output entropy spent drawn m untouched unasked (refusals.HeaderTooLong n) drew given cause same of =
-    record { drawn = drawn; materials = m; drew = drew; given = given; cause = cause; same = same }
-ends_refused asked input output entropy spent drawn m untouched unasked refusal drew given cause same of = absurd of
+ends_refused asked input output entropy spent drawn m untouched unasked (refusals.TooManyDataKeys n) drew given each cause same of =
+    record { drawn = drawn; materials = m; drew = drew; given = given; each = each; cause = cause; same = same }
+ends_refused asked input output entropy spent drawn m untouched unasked (refusals.HeaderTooLong n) drew given each cause same of =
+    record { drawn = drawn; materials = m; drew = drew; given = given; each = each; cause = cause; same = same }
+ends_refused asked input output entropy spent drawn m untouched unasked refusal drew given each cause same of = absurd of
 
 -- the same of the error that says so
 pub ends_unstarted : (asked : Asked) (input : SourceState) (output : SinkState) (entropy spent : EntropyState) (drawn : List ℕ) (m : EncMaterialsValue) (untouched unasked : Type 0)
-    (why : PairError) (error : EncryptError) → Drew asked.wraps entropy spent drawn → asked.gives (drawn_rest drawn) m → RefusesAs why (start_refusal m asked.max_keys (drawn_id drawn))
+    (why : PairError) (error : EncryptError) → Drew asked.wraps entropy spent drawn → asked.gives (drawn_rest drawn) m → All IsEntry m.entries → RefusesAs why (start_refusal m asked.max_keys (drawn_id drawn))
     → untouched → StartsNot why error → EndsSo asked input input output output entropy spent untouched unasked error
-ends_unstarted asked input output entropy spent drawn m untouched unasked (pairs.Refusal refusal) error drew given cause same is =
+ends_unstarted asked input output entropy spent drawn m untouched unasked (pairs.Refusal refusal) error drew given each cause same is =
     let count : ℕ = length m.entries in
     let end : ℕ = keys_end (drawn_id drawn) (stored_of m.required m.context) m.entries in
     let of : IsOfHeader refusal = of_header (is_over asked.max_keys count) (nat_lt latest_end end) count end refusal cause in
     subst (λ e. EndsSo asked input input output output entropy spent untouched unasked e) (sym is)
-    (ends_refused asked input output entropy spent drawn m untouched unasked refusal drew given cause same of)
-ends_unstarted asked input output entropy spent drawn m untouched unasked pairs.Memory error drew given cause same is =
+    (ends_refused asked input output entropy spent drawn m untouched unasked refusal drew given each cause same of)
+ends_unstarted asked input output entropy spent drawn m untouched unasked pairs.Memory error drew given each cause same is =
     subst (λ e. EndsSo asked input input output output entropy spent untouched unasked e) (sym is) (inl (record { drawn = drawn; drew = drew; same = same }))

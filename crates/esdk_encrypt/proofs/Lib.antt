@@ -3,5 +3,5 @@ pub mod Fitting
 pub mod Gaining
 mod Laying
 mod Starting
-mod Telling
+pub mod Telling
 mod Writing

@@ -22,12 +22,12 @@ use Rattle.esdk_encrypt.specs.Told.{asked_told, materials_of, writer_of}
 -- ---- runs about the same, of which one says more
 
 -- What is given as the first says is given as the second says, and the rest is the same.
-record SaysMore (a b : Asked) : Type 0 where
-  wraps : a.wraps ≡ b.wraps
-  gives : (random : List ℕ) (m : EncMaterialsValue) → a.gives random m → b.gives random m
-  gives_none : (error : ManagerError) → a.gives_none error → b.gives_none error
-  size : a.size ≡ b.size
-  max_keys : a.max_keys ≡ b.max_keys
+pub record SaysMore (a b : Asked) : Type 0 where
+  pub wraps : a.wraps ≡ b.wraps
+  pub gives : (random : List ℕ) (m : EncMaterialsValue) → a.gives random m → b.gives random m
+  pub gives_none : (error : ManagerError) → a.gives_none error → b.gives_none error
+  pub size : a.size ≡ b.size
+  pub max_keys : a.max_keys ≡ b.max_keys
 
 drew_more : (a b : Asked) (entropy spent : EntropyState) (drawn : List ℕ) → SaysMore a b → Drew a.wraps entropy spent drawn → Drew b.wraps entropy spent drawn
 drew_more a b entropy spent drawn more drew = subst (λ (n : ℕ). Drew n entropy spent drawn) more.wraps drew
@@ -40,7 +40,7 @@ begins_more a b entropy spent drawn m more started = record {
 }
 
 -- the whole input was encrypted
-encrypts_more : (a b : Asked) (input taken : SourceState) (output put : SinkState) (entropy spent : EntropyState) → SaysMore a b
+pub encrypts_more : (a b : Asked) (input taken : SourceState) (output put : SinkState) (entropy spent : EntropyState) → SaysMore a b
     → Encrypts a input taken output put entropy spent → Encrypts b input taken output put entropy spent
 encrypts_more a b input taken output put entropy spent more encrypts = record {
   drawn = encrypts.drawn;
@@ -75,6 +75,7 @@ start_more a b entropy spent refusal untouched more ends = record {
   materials = ends.materials;
   drew = drew_more a b entropy spent ends.drawn more ends.drew;
   given = more.gives (drawn_rest ends.drawn) ends.materials ends.given;
+  each = ends.each;
   cause = rw more.max_keys at ends.cause;
   same = ends.same;
 }
@@ -83,7 +84,7 @@ memory_more : (a b : Asked) (entropy spent : EntropyState) (untouched : Type 0) 
 memory_more a b entropy spent untouched more ends =
     record { drawn = ends.drawn; drew = drew_more a b entropy spent ends.drawn more ends.drew; same = ends.same }
 
-ends_more : (a b : Asked) (input taken : SourceState) (output put : SinkState) (entropy spent : EntropyState) (untouched unasked : Type 0) (error : EncryptError) → SaysMore a b
+pub ends_more : (a b : Asked) (input taken : SourceState) (output put : SinkState) (entropy spent : EntropyState) (untouched unasked : Type 0) (error : EncryptError) → SaysMore a b
     → EndsSo a input taken output put entropy spent untouched unasked error → EndsSo b input taken output put entropy spent untouched unasked error
 ends_more a b input taken output put entropy spent untouched unasked (errors.Outside outsides.EntropyFault) more ends = ends
 ends_more a b input taken output put entropy spent untouched unasked (errors.Outside outsides.KeyringFault) more ends =

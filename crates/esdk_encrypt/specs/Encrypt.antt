@@ -1,5 +1,5 @@
 -- What encrypting an input comes to. Standard: AWS Encryption SDK Specification, "Encrypt".
-use Rattle.std.specs.Prelude.{◌≡◌, ℕ, ◌+◌, ◌*◌, ◌-◌, ◌^◌, ◌<◌, ◌≤◌, List, ◌++◌, length, take, drop, ⊤, ◌⊎◌, Option, Some, None, Result, Ok, Err}
+use Rattle.std.specs.Prelude.{◌≡◌, ℕ, ◌+◌, ◌*◌, ◌-◌, ◌^◌, ◌<◌, ◌≤◌, List, ◌++◌, length, take, drop, All, ⊤, ◌⊎◌, Option, Some, None, Result, Ok, Err}
 use Rattle.std.specs.Io.KnownBytes.{Appends, Consumes, Keeps}
 use Rattle.esdk_fields.specs.Counts.{Rose}
 use Rattle.esdk_base.specs.Sink.{AppendsFront}
@@ -10,6 +10,7 @@ use Rattle.esdk_fields.specs.declared.refusals.Refusal.TheVariants as refusals
 use Rattle.context_codec.specs.declared.insert.PairError.{PairError}
 use Rattle.context_codec.specs.declared.insert.PairError.TheVariants as pairs
 use Rattle.context_codec.specs.Parts.{only_of, stored_of}
+use Rattle.edk_codec.specs.Entry.{IsEntry}
 use Rattle.header_codec.specs.Written.{header_refusal}
 use Rattle.keyring_trait.specs.declared.manager_errors.ManagerError.{ManagerError}
 use Rattle.keyring_trait.specs.declared.manager_errors.ManagerError.TheVariants as managers
@@ -158,12 +159,13 @@ pub record GivesNothing (asked : Asked) (entropy spent : EntropyState) (error : 
   pub cause : asked.gives_none error
   pub same : untouched
 
--- Bytes were drawn, the manager gave materials, and no header can be made of these; nothing was taken or written.
+-- Bytes were drawn, the manager gave materials, and no header can be made of these, though each of their entries is one; nothing was taken or written.
 pub record RefusesStart (asked : Asked) (entropy spent : EntropyState) (refusal : Refusal) (untouched : Type 0) : Type 0 where
   pub drawn : List ℕ
   pub materials : EncMaterialsValue
   pub drew : Drew asked.wraps entropy spent drawn
   pub given : asked.gives (drawn_rest drawn) materials
+  pub each : All IsEntry materials.entries
   pub cause : start_refusal materials asked.max_keys (drawn_id drawn) ≡ Some refusal
   pub same : untouched
 

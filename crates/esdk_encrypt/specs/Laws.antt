@@ -1,10 +1,9 @@
 -- What the laws of this crate say of an encryption over a manager that is exact and plain, and tells its wrapping keys.
-use Rattle.std.specs.Prelude.{◌≡◌, ℕ, ◌^◌, ◌<◌, ◌≤◌, List, [], ◌∷◌, ◌++◌, length, take, ⊤, IfSome, None, Option, Some}
+use Rattle.std.specs.Prelude.{◌≡◌, ℕ, ◌^◌, ◌<◌, ◌≤◌, List, ◌++◌, length, take, ⊤, IfSome, None, Option, Some}
 use Rattle.esdk_fields.specs.Counts.{Stayed}
 use Rattle.esdk_fields.specs.declared.refusals.Refusal.{Refusal}
 use Rattle.esdk_base.specs.Streams.{EntropyState, OnTold, SinkState, SourceState}
 use Rattle.context_codec.specs.Context.{IsContext}
-use Rattle.keyring_trait.specs.Wrapping.{WrapKeyValue}
 use Rattle.esdk_encrypt.specs.declared.errors.EncryptError.{EncryptError}
 use Rattle.esdk_encrypt.specs.declared.errors.EncryptError.TheVariants.{Memory}
 use Rattle.esdk_encrypt.specs.Encrypt.{Encrypts, EndsSo, draws, most_text}
@@ -27,10 +26,11 @@ GainsTheMessage = (writer : Writer) (refusal : Option Refusal) (old new : ℕ) (
 
 -- ---- what is encrypted
 
--- A wrapping key with short names, as the type of raw AES keyrings keeps them. One entry with such names has room in every header.
-pub record HasShortNames (w : WrapKeyValue) : Type 0 where
-  pub namespace : length w.namespace ≤ 1024
-  pub name : length w.name ≤ 1024
+-- The pairs are a context, and at most 64 keys wrap, which the limit on entries allows. So many entries have room in every header.
+pub record IsWithin (writer : Writer) : Type 0 where
+  pub context : IsContext writer.context
+  pub few : wraps_of writer ≤ 64
+  pub allowed : IfSome writer.max_keys (λ most. wraps_of writer ≤ most)
 
 -- The input tells these bytes, a message of this frame length has room for them, and they are fewer than are taken of an input at the most.
 pub record FitsMessage (size : ℕ) (input : SourceState) (text : List ℕ) : Type 0 where
@@ -38,17 +38,15 @@ pub record FitsMessage (size : ℕ) (input : SourceState) (text : List ℕ) : Ty
   pub room : length text ≤ most_text size
   pub few : length text < 2 ^ 62
 
--- No count of faults rose.
-pub record NothingFails (old new : ℕ) (input taken : SourceState) (output put : SinkState) (entropy spent : EntropyState) : Type 0 where
+-- No count of faults rose of the input, the output or the entropy.
+pub record NothingFails (input taken : SourceState) (output put : SinkState) (entropy spent : EntropyState) : Type 0 where
   pub source : Stayed input.faults taken.faults
   pub sink : Stayed output.faults put.faults
   pub drawing : Stayed entropy.faults spent.faults
-  pub keyring : Stayed old new
 
--- Where one wrapping key with short names writes, the request isn't refused, the input fits and nothing fails, only want of memory ends an encryption. `⊤` stands for
--- what the run left untouched, which plays no part.
+-- Where the writer is within the limits, the request isn't refused, the input fits and nothing fails, the keyrings included, only want of memory ends an encryption.
+-- `⊤` stands for what the run left untouched, which plays no part.
 abbrev pub EncryptsWhatFits : Type 0
-EncryptsWhatFits = (writer : Writer) (w : WrapKeyValue) (old new : ℕ) (text : List ℕ) (input taken : SourceState) (output put : SinkState) (entropy spent : EntropyState) (error : EncryptError)
-    → writer.keys ≡ w ∷ [] → HasShortNames w → IsContext writer.context → IfSome writer.max_keys (λ most. 1 ≤ most)
-    → FitsMessage writer.size input text → NothingFails old new input taken output put entropy spent
+EncryptsWhatFits = (writer : Writer) (old new : ℕ) (text : List ℕ) (input taken : SourceState) (output put : SinkState) (entropy spent : EntropyState) (error : EncryptError)
+    → IsWithin writer → FitsMessage writer.size input text → Stayed old new → NothingFails input taken output put entropy spent
     → EndsSo (asked_by writer None old new) input taken output put entropy spent ⊤ ⊤ error → error ≡ Memory

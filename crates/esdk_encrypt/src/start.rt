@@ -1,13 +1,15 @@
 //! What a message begins with: its header and the header's tag.
 
-ghost use Rattle.std.specs.Prelude.{◌≡◌, ◌+◌, ◌≤◌, length, IfErr, IfOk, OnOk, None};
+ghost use Rattle.std.specs.Prelude.{◌≡◌, ◌+◌, ◌≤◌, length, All, IfErr, IfOk, OnOk, None};
 ghost use Rattle.context_codec.specs.Insert.{RefusesAs};
+ghost use Rattle.edk_codec.specs.Entry.{IsEntry};
 ghost use Rattle.header_codec.specs.Header.{latest_end};
 ghost use Rattle.message_format.specs.Message.{header_body};
 ghost use Rattle.esdk_encrypt.specs.Encrypt.{start_of, start_refusal};
 
 use crate::options::EncryptOptions;
 use context_codec::PairError;
+use edk_codec::DataKeyEntry;
 use esdk_fields::Blob;
 use header_codec::write_header;
 use keyring_trait::EncMaterials;
@@ -28,7 +30,9 @@ pub(crate) fn message_start(
     ensures start { IfOk result (λ start. start ≡ start_of materials.now options.frame_length message_id.now) }
     ensures taken { OnOk result (start_refusal materials.now options.max_keys message_id.now ≡ None) }
     ensures cause { IfErr result (λ e. RefusesAs e (start_refusal materials.now options.max_keys message_id.now)) }
+    ensures each { All IsEntry materials.now.entries }
 {
+    are_entries(materials.entries());
     let mut start = body_of_header(alloc, materials, options, message_id)?;
     let only = materials.context().only(alloc, materials.required())?;
     let tag = header_tag(alloc, start.bytes(), &only, materials.key(), message_id)?;
@@ -63,5 +67,15 @@ fn body_of_header(
     ) {
         Ok(body) => Ok(body),
         Err(error) => Err(error),
+    }
+}
+
+/// Says of entries what their type keeps: no part of one has more than 65,535 bytes.
+fn are_entries(entries: &[DataKeyEntry])
+    ensures { All IsEntry entries.now }
+{
+    for entry in entries {
+        // Called for its clause alone.
+        let _provider = entry.provider();
     }
 }

@@ -16,30 +16,31 @@ use Rattle.esdk_tool.specs.declared.failure.Failure.{Failure}
 use Rattle.esdk_tool.specs.Decrypt.{DecryptionFails, DecryptsInput, limits_of}
 use Rattle.esdk_tool.specs.Encrypt.{EncryptFails, EncryptionFails, IsEncryptFailure}
 use Rattle.esdk_tool.specs.Objects.{Objects}
+use Rattle.esdk_tool.specs.Trees.{Trees}
 
 -- the command fails as its encryption does
-pub encryption_fails : (asked : EncryptWords) (before after : Objects) (entropy spent : EntropyState) (untouched unread undrawn : Type 0) (error : EncryptError) (failure : Failure)
-    → IsEncryptFailure error failure → EncryptionFails asked before after entropy spent untouched error
-    → EncryptFails asked before after entropy spent untouched unread undrawn failure
-encryption_fails asked before after entropy spent untouched unread undrawn (errors.Refusal refusal) failure is fails =
-    subst (λ (f : Failure). EncryptFails asked before after entropy spent untouched unread undrawn f) (sym is) (inr fails)
-encryption_fails asked before after entropy spent untouched unread undrawn (errors.Outside outsides.ShelfFault) failure is fails = absurd fails.ended.stops
-encryption_fails asked before after entropy spent untouched unread undrawn (errors.Outside outside) failure is fails =
-    subst (λ (f : Failure). EncryptFails asked before after entropy spent untouched unread undrawn f) (sym is) fails
-encryption_fails asked before after entropy spent untouched unread undrawn errors.Memory failure is fails =
-    subst (λ (f : Failure). EncryptFails asked before after entropy spent untouched unread undrawn f) (sym is) (inr fails)
+pub encryption_fails : (trees : Trees) (asked : EncryptWords) (before after : Objects) (entropy spent : EntropyState) (untouched unread undrawn : Type 0) (error : EncryptError) (failure : Failure)
+    → IsEncryptFailure error failure → EncryptionFails trees asked before after entropy spent untouched error
+    → EncryptFails trees asked before after entropy spent untouched unread undrawn failure
+encryption_fails trees asked before after entropy spent untouched unread undrawn (errors.Refusal refusal) failure is fails =
+    subst (λ (f : Failure). EncryptFails trees asked before after entropy spent untouched unread undrawn f) (sym is) (inr fails)
+encryption_fails trees asked before after entropy spent untouched unread undrawn (errors.Outside outsides.ShelfFault) failure is fails = absurd fails.ended.stops
+encryption_fails trees asked before after entropy spent untouched unread undrawn (errors.Outside outside) failure is fails =
+    subst (λ (f : Failure). EncryptFails trees asked before after entropy spent untouched unread undrawn f) (sym is) fails
+encryption_fails trees asked before after entropy spent untouched unread undrawn errors.Memory failure is fails =
+    subst (λ (f : Failure). EncryptFails trees asked before after entropy spent untouched unread undrawn f) (sym is) (inr fails)
 
 -- Where memory is wanting for the line of the context, the output has the whole content, which is a front of itself.
-pub line_lost : (asked : DecryptWords) (before after : Objects) (context : List KeyValue) (unwritten : Type 0) → DecryptsInput asked before after context
-    → DecryptionFails asked before after unwritten ends.Memory
-line_lost asked before after context unwritten done =
+pub line_lost : (trees : Trees) (asked : DecryptWords) (before after : Objects) (context : List KeyValue) (unwritten : Type 0) → DecryptsInput trees asked before after context
+    → DecryptionFails trees asked before after unwritten ends.Memory
+line_lost trees asked before after context unwritten done =
     let run = done.done in
     let whole : List ℕ = content (judged run.bytes (limits_of asked) (Unlocks context run.only run.key)) in
     record {
       given = done.given;
-      key = done.key;
-      pairs = done.pairs;
-      file = done.file;
+      tree = done.tree;
+      left = done.left;
+      has = done.has;
       ended = inr (record {
         bytes = run.bytes;
         answer = Unlocks context run.only run.key;

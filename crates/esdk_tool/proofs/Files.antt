@@ -1,23 +1,23 @@
--- The key that a told keyring file holds is the key that was read.
-use Rattle.std.proofs.Common.{◌≡◌, ◌∙◌, ℕ, List, true, Some, None, Ok, Err, inl, inr, sym, ap, arith}
+-- The tree that a told keyring file holds is the tree that was read.
+use Rattle.std.proofs.Common.{◌≡◌, ◌∙◌, ℕ, List, [], ◌∷◌, true, Some, None, Ok, Err, inl, inr, sym, ap, subst, arith}
+use Rattle.std.specs.Prelude.{IfSome}
 use Rattle.std.specs.declared.option.Option.{Option}
+use Rattle.std.specs.declared.result.Result.{Result}
 use Rattle.esdk_fields.specs.Counts.{Stayed}
 use Rattle.esdk_base.specs.Shelf.{Files, Holds, is_missing}
 use Rattle.esdk_base.specs.Streams.{ShelfState}
 use Rattle.esdk_fields.specs.declared.refusals.FileRefusal.{FileRefusal}
-use Rattle.keyring_trait.specs.Wrapping.{WrapKeyValue}
-use Rattle.keyring_file.specs.KeyFile.{key_of}
-use Rattle.keyring_file.proofs.Lines.{file_is_spelled}
-use Rattle.esdk_encrypt.specs.Laws.{HasShortNames}
-use Rattle.esdk_tool.specs.KeyInput.{FileIsRefused, FileIsUnread, KeyIs}
-use Rattle.esdk_tool.specs.Told.{HoldsKey}
+use Rattle.keyring_trait.specs.Keyring.{KeyringMeaning}
+use Rattle.esdk_tool.specs.Told.{HoldsTree, TreeStayed}
+use Rattle.esdk_tool.specs.Trees.{FileIsRefused, FileIsUnread, TreeIs, Trees}
 
--- the key that was read
-pub key_is_held : (old new : ShelfState) (name : List ℕ) (v w : WrapKeyValue) → HoldsKey old.files name w → KeyIs old new name v → v ≡ w
-key_is_held old new name v w held is =
-    let same : Ok w ≡ key_of is.bytes = sym held.read ∙ ap key_of (is.file.whole held.bytes held.holds) in
-    let read : Ok w ≡ Ok v = same ∙ is.read in
-    cc
+one_tree : (t u : KeyringMeaning) (read : Result (List KeyringMeaning) FileRefusal) → read ≡ Ok (t ∷ []) → read ≡ Ok (u ∷ []) → t ≡ u
+one_tree t u read is_t is_u = let same : Ok (t ∷ []) ≡ Ok (u ∷ []) = sym is_t ∙ is_u in cc
+
+-- the tree that was read
+pub tree_is_held : (trees : Trees) (old new : ShelfState) (name : List ℕ) (read held : KeyringMeaning) → HoldsTree trees old.files name held → TreeIs trees.read old new name read → read ≡ held
+tree_is_held trees old new name read held holds is =
+    one_tree read held (trees.read is.bytes) is.is (ap trees.read (sym (is.file.whole holds.bytes holds.holds)) ∙ holds.is)
 
 -- a held file is there
 held_is_there : (files : Option Files) (name bytes : List ℕ) → Holds files name bytes → is_missing files name ≡ true → ⊥
@@ -25,20 +25,21 @@ held_is_there None name bytes holds missing = absurd cc
 held_is_there (Some files) name bytes holds missing = absurd cc
 
 -- it is read, unless the shelf fails
-pub held_is_read : (old new : ShelfState) (name : List ℕ) (w : WrapKeyValue) → HoldsKey old.files name w → Stayed old.faults new.faults → FileIsUnread old new name → ⊥
-held_is_read old new name w held stayed (inl rose) = absurd (omega (arith, stayed, rose))
-held_is_read old new name w held stayed (inr missing) = held_is_there old.files name held.bytes held.holds missing.0
+pub held_is_read : (trees : Trees) (old new : ShelfState) (name : List ℕ) (tree : KeyringMeaning) → HoldsTree trees old.files name tree → Stayed old.faults new.faults → FileIsUnread old new name → ⊥
+held_is_read trees old new name tree held stayed (inl rose) = absurd (omega (arith, stayed, rose))
+held_is_read trees old new name tree held stayed (inr missing) = held_is_there old.files name held.bytes held.holds missing.0
 
 -- it isn't refused
-pub held_is_taken : (old new : ShelfState) (name : List ℕ) (w : WrapKeyValue) (refusal : FileRefusal) → HoldsKey old.files name w → FileIsRefused old new name refusal → ⊥
-held_is_taken old new name w refusal held (inl long) = absurd (omega (arith, held.few, long.1.many held.bytes held.holds))
-held_is_taken old new name w refusal held (inr refused) =
-    let same : Ok w ≡ key_of refused.bytes = sym held.read ∙ ap key_of (refused.file.whole held.bytes held.holds) in
-    let read : Ok w ≡ Err refusal = same ∙ refused.read in
+pub held_is_taken : (trees : Trees) (old new : ShelfState) (name : List ℕ) (tree : KeyringMeaning) (refusal : FileRefusal) → HoldsTree trees old.files name tree
+    → FileIsRefused trees.read old new name refusal → ⊥
+held_is_taken trees old new name tree refusal held (inl long) = absurd (omega (arith, held.few, long.1.many held.bytes held.holds))
+held_is_taken trees old new name tree refusal held (inr refused) =
+    let same : Ok (tree ∷ []) ≡ trees.read refused.bytes = sym held.is ∙ ap trees.read (refused.file.whole held.bytes held.holds) in
+    let read : Ok (tree ∷ []) ≡ Err refusal = same ∙ refused.is in
     absurd cc
 
--- its names are short
-pub read_has_short_names : (bytes : List ℕ) (w : WrapKeyValue) → key_of bytes ≡ Ok w → HasShortNames w
-read_has_short_names bytes w read =
-    let line = (file_is_spelled bytes w read).1.key in
-    record { namespace = line.namespace.short; name = line.name.short }
+-- of a tree that stayed what is left stayed
+pub left_stayed : (trees : Trees) (tree held left : KeyringMeaning) → tree ≡ held → trees.kept ≡ Some left → TreeStayed held trees → Stayed tree.faults left.faults
+left_stayed trees tree held left is kept stayed =
+    subst (λ (t : KeyringMeaning). Stayed t.faults left.faults) (sym is)
+    (subst (λ (o : Option KeyringMeaning). IfSome o (λ l. Stayed held.faults l.faults)) kept stayed)

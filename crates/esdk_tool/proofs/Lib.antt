@@ -5,6 +5,7 @@ pub mod Shown
 pub mod Asked
 pub mod Given
 pub mod Chain
+pub mod Keys
 pub mod Ended
 pub mod Files
 pub mod Statuses

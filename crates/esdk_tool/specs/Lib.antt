@@ -2,7 +2,6 @@ pub mod ContextLine
 pub mod Decrypt
 pub mod Encrypt
 pub mod HeaderInput
-pub mod KeyInput
 pub mod List
 pub mod Listing
 pub mod Objects
@@ -10,3 +9,4 @@ pub mod Report
 pub mod Run
 pub mod Told
 pub mod Pairs
+pub mod Trees

@@ -10,10 +10,8 @@ use Rattle.context_codec.specs.Context.{KeyValue, IsContext}
 use Rattle.context_codec.specs.Insert.{refusal_of}
 use Rattle.context_codec.specs.KeySet.{with_keys}
 use Rattle.esdk_args.specs.declared.pair_words.PairWord.{PairWord}
-use Rattle.esdk_base.specs.Streams.{ShelfState}
 use Rattle.esdk_tool.specs.declared.failure.Failure.{Failure}
 use Rattle.esdk_tool.specs.declared.failure.Failure.TheVariants as failures
-use Rattle.esdk_tool.specs.KeyInput.{KeyCause}
 
 -- the pair of a word, if it has a value
 abbrev pub pair_in : PairWord → Option KeyValue
@@ -60,9 +58,3 @@ IsPairsFailure errors.Memory failure = failure ≡ failures.Memory
 pub record RefusesWordPairs (words : List PairWord) (refusal : Refusal) (unread : Type 0) : Type 0 where
   pub refused : context_in words ≡ Err refusal
   pub shelf : unread
-
--- The words give a context, and the keyring file gives no key for this reason.
-pub record HasNoKey (words : List PairWord) (name : List ℕ) (old new : ShelfState) (failure : Failure) : Type 0 where
-  pub context : List KeyValue
-  pub given : GivesContext words context
-  pub cause : KeyCause old new name failure

@@ -16,6 +16,7 @@ use Rattle.esdk_tool.specs.Encrypt.{EncryptFails, EncryptsInput}
 use Rattle.esdk_tool.specs.List.{IsListCause, LeavesOutput, Lists}
 use Rattle.esdk_tool.specs.Objects.{Objects}
 use Rattle.esdk_tool.specs.Report.{Reports, TellsContext}
+use Rattle.esdk_tool.specs.Trees.{IsUntouched, Trees}
 
 -- the statuses with which a run may end
 abbrev pub is_status : ℕ → Bool
@@ -67,22 +68,22 @@ ListRuns input taken output put same code report reported =
     ⊎ Fails (λ failure. IsListCause failure input taken output put × LeavesOutput failure input output put same) code report reported
 
 -- of `encrypt`
-abbrev pub EncryptRuns : EncryptWords → Objects → Objects → EntropyState → EntropyState → Type 0 → Type 0 → Type 0 → ℕ → SinkState → SinkState → Type 0
-EncryptRuns asked before after entropy spent untouched unread undrawn code report reported =
-    (IsDone code report reported × EncryptsInput asked before after entropy spent)
-    ⊎ Fails (EncryptFails asked before after entropy spent untouched unread undrawn) code report reported
+abbrev pub EncryptRuns : Trees → EncryptWords → Objects → Objects → EntropyState → EntropyState → Type 0 → Type 0 → Type 0 → ℕ → SinkState → SinkState → Type 0
+EncryptRuns trees asked before after entropy spent untouched unread undrawn code report reported =
+    (IsDone code report reported × EncryptsInput trees asked before after entropy spent)
+    ⊎ Fails (EncryptFails trees asked before after entropy spent untouched unread undrawn) code report reported
 
 -- The input was decrypted, and the report was told its whole context.
-pub record DecryptsAndTells (asked : DecryptWords) (before after : Objects) (code : ℕ) (report reported : SinkState) : Type 0 where
+pub record DecryptsAndTells (trees : Trees) (asked : DecryptWords) (before after : Objects) (code : ℕ) (report reported : SinkState) : Type 0 where
   pub context : List KeyValue
-  pub done : DecryptsInput asked before after context
+  pub done : DecryptsInput trees asked before after context
   pub told : TellsContext context code report reported
 
 -- of `decrypt`
-abbrev pub DecryptRuns : DecryptWords → Objects → Objects → Type 0 → Type 0 → Type 0 → ℕ → SinkState → SinkState → Type 0
-DecryptRuns asked before after untouched unwritten unread code report reported =
-    DecryptsAndTells asked before after code report reported
-    ⊎ Fails (DecryptFails asked before after untouched unwritten unread) code report reported
+abbrev pub DecryptRuns : Trees → DecryptWords → Objects → Objects → Type 0 → Type 0 → Type 0 → ℕ → SinkState → SinkState → Type 0
+DecryptRuns trees asked before after untouched unwritten unread code report reported =
+    DecryptsAndTells trees asked before after code report reported
+    ⊎ Fails (DecryptFails trees asked before after untouched unwritten unread) code report reported
 
 -- No input that begins with a header and its tag is refused for a fault, and no other is done.
 abbrev pub AgreesWith : ℕ → Option Fault → Type 0
@@ -91,13 +92,14 @@ AgreesWith code (Some fault) = code ≢ 0
 
 -- ---- of any words
 
--- What a run comes to, by what its words ask for. `untouched` says that input and output are as before, `unwritten` that the output is, `unread` that the shelf is,
--- and `undrawn` that the entropy is.
-abbrev pub RunsAs : Result Request WordsFault → Objects → Objects → EntropyState → EntropyState → Type 0 → Type 0 → Type 0 → Type 0 → ℕ → SinkState → SinkState → Type 0
-RunsAs (Ok requests.List) before after entropy spent untouched unwritten unread undrawn code report reported =
-    ListRuns before.input after.input before.output after.output unwritten code report reported
-RunsAs (Ok (requests.Encrypt asked)) before after entropy spent untouched unwritten unread undrawn code report reported =
-    EncryptRuns asked before after entropy spent untouched unread undrawn code report reported
-RunsAs (Ok (requests.Decrypt asked)) before after entropy spent untouched unwritten unread undrawn code report reported =
-    DecryptRuns asked before after untouched unwritten unread code report reported
-RunsAs (Err fault) before after entropy spent untouched unwritten unread undrawn code report reported = untouched × RefusesWords fault code report reported
+-- What a run comes to, by what its words ask for. It gives a tree back only where it read one. `untouched` says that input and output are as before, `unwritten` that the
+-- output is, `unread` that the shelf is, and `undrawn` that the entropy is.
+abbrev pub RunsAs : Trees → Result Request WordsFault → Objects → Objects → EntropyState → EntropyState → Type 0 → Type 0 → Type 0 → Type 0 → ℕ → SinkState → SinkState → Type 0
+RunsAs trees (Ok requests.List) before after entropy spent untouched unwritten unread undrawn code report reported =
+    (trees.kept ≡ None) × ListRuns before.input after.input before.output after.output unwritten code report reported
+RunsAs trees (Ok (requests.Encrypt asked)) before after entropy spent untouched unwritten unread undrawn code report reported =
+    EncryptRuns trees asked before after entropy spent untouched unread undrawn code report reported
+RunsAs trees (Ok (requests.Decrypt asked)) before after entropy spent untouched unwritten unread undrawn code report reported =
+    DecryptRuns trees asked before after untouched unwritten unread code report reported
+RunsAs trees (Err fault) before after entropy spent untouched unwritten unread undrawn code report reported =
+    IsUntouched trees untouched × RefusesWords fault code report reported

@@ -1,14 +1,15 @@
 //! The command `decrypt`.
-ghost use Rattle.std.specs.Prelude.{◌≡◌, ◌+◌, ◌≤◌, ◌^◌, IfErr, IfOk};
+ghost use Rattle.std.specs.Prelude.{◌≡◌, ◌+◌, ◌<◌, ◌≤◌, ◌^◌, length, IfErr, IfOk};
 ghost use Rattle.esdk_base.specs.Streams.{sink_state, source_state};
 ghost use Rattle.esdk_decrypt.specs.Decrypt.{Decrypts, EndsSo};
-ghost use Rattle.esdk_decrypt.specs.Told.{asked_by};
-ghost use Rattle.esdk_tool.specs.Decrypt.{DecryptFails, DecryptsInput, IsDecryptFailure, reader_of};
+ghost use Rattle.esdk_tool.specs.Decrypt.{DecryptFails, DecryptsInput, IsDecryptFailure, asked_of};
 ghost use Rattle.esdk_tool.specs.Objects.{objects};
 ghost use Rattle.esdk_tool.specs.Pairs.{required_in};
+ghost use Rattle.esdk_tool.specs.Trees.{IsLawful, TreeGoes, trees_of};
 
 use crate::failure::Failure;
-use crate::key_input::read_keyring;
+use crate::keyring_input::read_keyring;
+use crate::outcome::{Outcome, without_tree};
 use crate::pair_input::{context_of, pairs_failure, required_of};
 use cmm_default::DefaultCmm;
 use cmm_required::RequiredCmm;
@@ -17,24 +18,29 @@ use esdk_args::DecryptWords;
 use esdk_base::{Shelf, Sink, Source};
 use esdk_decrypt::{DecryptError, decrypt};
 use header_codec::Settings;
-use raw_aes_keyring::RawAes;
+use keyring_file::Plug;
+use keyring_trait::Keyring;
+use multi_keyring::Node;
 use std::alloc::Global;
 
-/// Writes what the judgement of the input releases under the key that the keyring file holds, with the pairs of
-/// the words given and their required keys demanded, and answers the whole context.
+/// Writes what the judgement of the input releases under the tree that the keyring file is read as, with the pairs of
+/// the words given and their required keys demanded, and answers the whole context. The tree is given back as it is
+/// left, also after an error.
 ///
 /// The pairs are read first, then the keyring file, and then the whole input is taken.
-pub fn decrypt_input<S: Source, O: Sink, F: Shelf>(
+pub fn decrypt_input<P: Keyring, S: Source, O: Sink, F: Shelf>(
     alloc: Global,
     asked: &DecryptWords,
     input: &mut S,
     output: &mut O,
     shelf: &mut F,
-) -> Result<Context, Failure>
-    ensures done { IfOk result (DecryptsInput asked.now
+    plugs: Vec<Plug<P>>,
+) -> Outcome<Result<Context, Failure>, Option<Node<P>>>
+    requires plugs { length plugs.items < 2 ^ 24 }
+    ensures done { IfOk result.ended (DecryptsInput (trees_of P.meaning plugs.items result.tree) asked.now
         (objects S.left S.given S.faults O.written O.faults F.files F.faults input.old output.old shelf.old)
         (objects S.left S.given S.faults O.written O.faults F.files F.faults input.new output.new shelf.new)) }
-    ensures fails { IfErr result (DecryptFails asked.now
+    ensures fails { IfErr result.ended (DecryptFails (trees_of P.meaning plugs.items result.tree) asked.now
         (objects S.left S.given S.faults O.written O.faults F.files F.faults input.old output.old shelf.old)
         (objects S.left S.given S.faults O.written O.faults F.files F.faults input.new output.new shelf.new)
         ((input.new ≡ input.old) × (output.new ≡ output.old)) (output.new ≡ output.old) (shelf.new ≡ shelf.old)) }
@@ -43,48 +49,65 @@ pub fn decrypt_input<S: Source, O: Sink, F: Shelf>(
 {
     let given = match context_of(alloc, asked.pairs.words()) {
         Ok(given) => given,
-        Err(error) => return Err(pairs_failure(error)),
+        Err(error) => return without_tree(pairs_failure(error)),
     };
     let required = match required_of(alloc, asked.pairs.words()) {
         Ok(required) => required,
-        Err(_) => return Err(Failure::Memory),
+        Err(_) => return without_tree(Failure::Memory),
     };
-    let key = match read_keyring(alloc, shelf, asked.keyring.as_str()) {
-        Ok(key) => key,
-        Err(failure) => return Err(failure),
+    let tree = match read_keyring(alloc, shelf, asked.keyring.as_str(), plugs) {
+        Ok(tree) => tree,
+        Err(failure) => return without_tree(failure),
     };
-    match decrypt_under(alloc, asked, &given, required, key, input, output) {
-        Ok(context) => Ok(context),
-        Err(error) => Err(failure_of(error)),
+    let Outcome { ended, tree } = decrypt_under(
+        alloc, asked, &given, required, tree, input, output,
+    );
+    match ended {
+        Ok(context) => Outcome {
+            ended: Ok(context),
+            tree: Some(tree),
+        },
+        Err(error) => Outcome {
+            ended: Err(failure_of(error)),
+            tree: Some(tree),
+        },
     }
 }
 
-/// Writes what the judgement of the input releases under this key, with these pairs given and these keys required,
+/// Writes what the judgement of the input releases under this tree, with these pairs given and these keys required,
 /// and answers the whole context.
-fn decrypt_under<S: Source, O: Sink>(
+fn decrypt_under<K: Keyring, S: Source, O: Sink>(
     alloc: Global,
     asked: &DecryptWords,
     given: &Context,
     required: KeySet,
-    key: RawAes,
+    tree: K,
     input: &mut S,
     output: &mut O,
-) -> Result<Context, DecryptError>
+) -> Outcome<Result<Context, DecryptError>, K>
     requires keys { required ≡ required_in asked.now.pairs }
-    ensures done { IfOk result (λ context. Decrypts (asked_by (reader_of asked.now given.now key))
+    ensures done { IfOk result.ended (λ context. Decrypts (asked_of asked.now given.now (K.meaning tree) (K.meaning result.tree))
         (source_state S.left S.given S.faults input.old) (source_state S.left S.given S.faults input.new)
         (sink_state O.written O.faults output.old) (sink_state O.written O.faults output.new) context) }
-    ensures ends { IfErr result (EndsSo (asked_by (reader_of asked.now given.now key))
+    ensures ends { IfErr result.ended (EndsSo (asked_of asked.now given.now (K.meaning tree) (K.meaning result.tree))
         (source_state S.left S.given S.faults input.old) (source_state S.left S.given S.faults input.new)
         (sink_state O.written O.faults output.old) (sink_state O.written O.faults output.new) (output.new ≡ output.old)) }
+    ensures lawful { IsLawful (K.meaning tree) }
+    ensures goes { TreeGoes (K.meaning tree) (K.meaning result.tree) }
     ensures taken { S.given input.new ≤ S.given input.old + 2 ^ 62 }
 {
-    let mut manager = RequiredCmm::new(DefaultCmm::new(key), required);
+    // Called for its clauses alone, which say what every keyring keeps.
+    let _wraps = tree.wraps();
+    let mut manager = RequiredCmm::new(DefaultCmm::new(tree), required);
     let settings = Settings {
         max_keys: asked.max_keys,
         max_unit: asked.max_unit,
     };
-    decrypt(alloc, &mut manager, 0, settings, given, input, output)
+    let ended = decrypt(alloc, &mut manager, 0, settings, given, input, output);
+    Outcome {
+        ended,
+        tree: manager.into_inner().into_ring(),
+    }
 }
 
 /// What a decryption's error is called in the program.

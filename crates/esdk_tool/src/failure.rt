@@ -19,7 +19,7 @@ pub enum Failure {
     Fault(Fault),
     /// The keyring file is refused.
     File(FileRefusal),
-    /// The input, the output, the shelf or the entropy failed, or the input is too long.
+    /// The input, the output, the shelf, the entropy or a keyring failed, or the input is too long.
     Outside(Outside),
     /// What was asked for is refused.
     Refusal(Refusal),

@@ -1,9 +1,12 @@
 //! `esdk` encrypts files into messages of the AWS Encryption SDK's message format 2.0, decrypts them,
 //! and lists what stands in their headers.
 //!
-//! The program is one call, `run`, over its words, its input, its two outputs, a shelf of files and
-//! an entropy; `main` makes the real ones, calls it, and ends with its status.
+//! The program is one call, `run`, over its words, its input, its two outputs, a shelf of files, an
+//! entropy, a clock and the keyrings that a keyring file may name; `main` makes the real ones, calls it,
+//! and ends with its status.
 #![tactic(auto)]
+
+ghost use Rattle.std.specs.Prelude.{◌≡◌, length, IfOk};
 
 mod commands;
 mod context_line;
@@ -11,9 +14,10 @@ mod decrypt;
 mod encrypt;
 mod failure;
 mod header_input;
-mod key_input;
+mod keyring_input;
 mod list;
 mod listing;
+mod outcome;
 mod pair_input;
 mod report;
 mod status;
@@ -22,39 +26,74 @@ mod tests;
 mod top_call;
 mod words;
 
-use esdk_base::{FileShelf, RngEntropy, StdSink, StdSource};
+use esdk_base::{FileShelf, RngEntropy, Sink, StdSink, StdSource, SystemClock};
 use esdk_fields::Text;
 use failure::Failure;
+use keydir_keyring::KeydirKeyring;
+use keyring_file::Plug;
+use raw_aes_keyring::RawError;
 use report::report_failure;
+use status::Status;
 use std::io::ErrorKind;
 use std::process::ExitCode;
 use std::{env, io};
 use top_call::run;
 
+/// The keyring that `main` hands in: one key, in a file of the folder that the program runs in.
+type Keydir = KeydirKeyring<FileShelf>;
+
 /// Runs the program over standard input, standard output and standard error, the files of the folder
-/// that it runs in, and a generator that the system seeds.
+/// that it runs in, a generator that the system seeds, the system's clock, and the plug `keydir`.
 fn main(rt: HostRuntime) -> ExitCode {
-    let alloc = rt.alloc();
     let mut report = StdSink::new(rt.stderr());
-    let status = match words_of(&rt) {
-        Ok(words) => {
-            let mut input = StdSource::new(rt.stdin());
-            let mut output = StdSink::new(rt.stdout());
-            let mut shelf = FileShelf::new(rt);
-            let mut entropy = RngEntropy::new(rand::make_rng(&rt).ok());
-            run(
-                alloc,
-                &words,
-                &mut input,
-                &mut output,
-                &mut report,
-                &mut shelf,
-                &mut entropy,
-            )
-        }
-        Err(failure) => report_failure(alloc, &failure, &mut report),
+    let status = match run_words(rt, &mut report) {
+        Ok(status) => status,
+        Err(failure) => report_failure(rt.alloc(), &failure, &mut report),
     };
     ExitCode::from(status.code)
+}
+
+/// Runs the program over the words of the command line.
+fn run_words<R: Sink>(rt: HostRuntime, report: &mut R) -> Result<Status, Failure> {
+    let words = words_of(&rt)?;
+    let plugs = plugs_of(rt)?;
+    let mut input = StdSource::new(rt.stdin());
+    let mut output = StdSink::new(rt.stdout());
+    let mut shelf = FileShelf::new(rt);
+    let mut entropy = RngEntropy::new(rand::make_rng(&rt).ok());
+    let mut clock = SystemClock::new(rt);
+    let ended = run(
+        rt.alloc(),
+        &words,
+        &mut input,
+        &mut output,
+        report,
+        &mut shelf,
+        &mut entropy,
+        &mut clock,
+        plugs,
+    );
+    Ok(ended.status)
+}
+
+/// The plug `keydir`, whose key stands in the file `esdk.key`.
+fn plugs_of(rt: HostRuntime) -> Result<Vec<Plug<Keydir>>, Failure>
+    ensures { IfOk result (λ plugs. length plugs.items ≡ 1) }
+{
+    let alloc = rt.alloc();
+    let keyring = match KeydirKeyring::new(
+        alloc,
+        FileShelf::new(rt),
+        "esdk.key",
+        "keydir",
+        "esdk.key",
+    ) {
+        Ok(keyring) => keyring,
+        Err(RawError::ReservedNamespace) => unreachable!(),
+        Err(RawError::Memory) => return Err(Failure::Memory),
+    };
+    let name = Text::new(alloc, "keydir")?;
+    Ok(Vec::from_array(alloc, [Plug { name, keyring }])?)
 }
 
 /// The words of the command line after the program's name. Words that aren't UTF-8 aren't those of

@@ -7,3 +7,4 @@ mod messages;
 mod pairs;
 mod refusing;
 mod runs;
+mod trees;

@@ -20,7 +20,6 @@ use Rattle.raw_aes_keyring.specs.RawKey.{reserved_namespace}
 use Rattle.keyring_file.specs.KeyLine.{key_in, key_line, key_of_parts, parts_in, space_parts}
 use Rattle.keyring_file.specs.declared.key_line.KeyLine.{KeyLine}
 use Rattle.keyring_file.specs.Found.{FindsKey, key_value}
-use Rattle.keyring_file.specs.KeyFile.{is_json, key_of}
 use Rattle.keyring_file.specs.Spelling.{IsKeyLine, IsLineEnd, IsLineKey}
 use Rattle.keyring_file.proofs.Keys.{AreParts, parts_read, parts_are_read, word_is, word_length}
 use Rattle.keyring_file.proofs.Splitting.{AreUnspaced, IsUnspaced, ended, strip_last-no, strip_last-yes, three_parts, unspaced_parts}
@@ -28,10 +27,6 @@ use Rattle.keyring_file.proofs.Splitting.{AreUnspaced, IsUnspaced, ended, strip_
 when_true : (b : Bool) (r : Result WrapKeyValue FileRefusal) (w : WrapKeyValue) → (if b then r else Err (BadShape 1)) ≡ Ok w → (b ≡ true) × (r ≡ Ok w)
 when_true true r w e = (refl, e)
 when_true false r w e = absurd cc
-
-when_false : (b : Bool) (r : Result WrapKeyValue FileRefusal) (w : WrapKeyValue) → (if b then Err (BadShape 0) else r) ≡ Ok w → (b ≡ false) × (r ≡ Ok w)
-when_false true r w e = absurd cc
-when_false false r w e = (refl, e)
 
 true_other : true ≡ false → ⊥
 true_other e = cc
@@ -125,14 +120,6 @@ spelled_is_read bytes w s =
       spelled = s.spelled;
     }) in
     rw (is_utf8-from_IsUtf8 bytes s.text) read
-
-pub file_is_spelled : (bytes : List ℕ) (w : WrapKeyValue) → key_of bytes ≡ Ok w → (is_json bytes ≡ false) × IsKeyLine bytes w
-unfolding key_of
-file_is_spelled bytes w e = let t = when_false (is_json bytes) (key_line bytes) w e in (t.0, line_is_spelled bytes w t.1)
-
-pub file_is_read : (bytes : List ℕ) (w : WrapKeyValue) → is_json bytes ≡ false → IsKeyLine bytes w → key_of bytes ≡ Ok w
-unfolding key_of
-file_is_read bytes w plain s = rw plain (spelled_is_read bytes w s)
 
 -- ---- what the code finds
 

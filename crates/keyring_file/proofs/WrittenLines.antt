@@ -12,10 +12,11 @@ use Rattle.hex.specs.Hex.{IsBytes, decode_sized, encode_lower, encode_upper, is_
 use Rattle.hex.proofs.HexLemmas.{IsAscii-encode_with, decode_of-encode_upper, decode_sized-encode_lower, decode_sized-twice, length-encode_with}
 use Rattle.esdk_fields.specs.Bytes.{AreBytes}
 use Rattle.keyring_trait.specs.Wrapping.{WrapKeyValue}
-use Rattle.keyring_file.specs.KeyFile.{is_blank, is_json, key_of}
+use Rattle.keyring_file.specs.KeyLine.{key_line}
+use Rattle.keyring_file.specs.KeyFile.{is_blank, is_json}
 use Rattle.keyring_file.specs.Spelling.{IsLineEnd, line_text}
 use Rattle.keyring_file.specs.Laws.{HasLine}
-use Rattle.keyring_file.proofs.Lines.{AreDigits, digit_other, digits_of, file_is_read}
+use Rattle.keyring_file.proofs.Lines.{AreDigits, digit_other, digits_of, spelled_is_read}
 
 -- what is no JSON file at its front, and none behind, is none
 unbraced : (xs ys : List ℕ) → is_json xs ≡ false → is_json ys ≡ false → is_json (xs ++ ys) ≡ false
@@ -53,7 +54,11 @@ bytes_of key bytes = λ i. elim (cases_lt i (length key)) [
 ascii_by_test : (xs : List ℕ) → list_all (λ b. nat_lt b 128) xs ≡ true → IsAscii xs
 ascii_by_test xs all = let pass = AllPass-from_list_all (λ b. nat_lt b 128) xs all in IsAscii-from_all xs (λ k d lt. ltb-true (get_or xs k d) 128 (pass k d lt))
 
-pub line_is_read : (w : WrapKeyValue) (digits end : List ℕ) → HasLine w → decode_sized digits 32 ≡ Ok w.key → IsAscii digits → IsLineEnd end → key_of (line_text w digits end) ≡ Ok w
+-- no JSON file, and the line of this key
+abbrev pub IsReadAs : List ℕ → WrapKeyValue → Type 0
+IsReadAs bytes w = (is_json bytes ≡ false) × (key_line bytes ≡ Ok w)
+
+pub line_is_read : (w : WrapKeyValue) (digits end : List ℕ) → HasLine w → decode_sized digits 32 ≡ Ok w.key → IsAscii digits → IsLineEnd end → IsReadAs (line_text w digits end) w
 line_is_read w digits end has spelled ascii ends =
     let are = digits_of digits w.key spelled in
     let front = w.namespace ++ 32 ∷ w.name in
@@ -61,22 +66,24 @@ line_is_read w digits end has spelled ascii ends =
     let space : IsUtf8 (32 ∷ []) = IsUtf8-from_ascii (32 ∷ []) (IsAscii-cons 32 [] (omega arith) IsAscii-nil) in
     let text : IsUtf8 (line_text w digits end) =
     IsUtf8-append (front ++ 32 ∷ digits) end (IsUtf8-append front (32 ∷ digits) (IsUtf8-append w.namespace (32 ∷ w.name) has.namespace (IsUtf8-append (32 ∷ []) w.name space has.name))
-    (IsUtf8-append (32 ∷ []) digits space (IsUtf8-from_ascii digits ascii))) (end_text end ends) in
-    file_is_read (line_text w digits end) w plain (record {
-      digits = digits;
-      end = end;
-      key = has.key;
-      spelled = spelled;
-      ends = ends;
-      line = refl;
-      text = text;
-    })
+    (IsUtf8-append (32 ∷ []) digits space (IsUtf8-from_ascii digits ascii))) (end_text end ends) in (
+      plain,
+      spelled_is_read (line_text w digits end) w (record {
+        digits = digits;
+        end = end;
+        key = has.key;
+        spelled = spelled;
+        ends = ends;
+        line = refl;
+        text = text;
+      }),
+    )
 
-pub lower_is_read : (w : WrapKeyValue) (end : List ℕ) → HasLine w → IsLineEnd end → key_of (line_text w (encode_lower w.key) end) ≡ Ok w
+pub lower_is_read : (w : WrapKeyValue) (end : List ℕ) → HasLine w → IsLineEnd end → IsReadAs (line_text w (encode_lower w.key) end) w
 lower_is_read w end has ends =
     line_is_read w (encode_lower w.key) end has (decode_sized-encode_lower w.key 32 has.long (bytes_of w.key has.bytes)) (IsAscii-encode_with lower_digits w.key (ascii_by_test lower_digits refl)) ends
 
-pub upper_is_read : (w : WrapKeyValue) (end : List ℕ) → HasLine w → IsLineEnd end → key_of (line_text w (encode_upper w.key) end) ≡ Ok w
+pub upper_is_read : (w : WrapKeyValue) (end : List ℕ) → HasLine w → IsLineEnd end → IsReadAs (line_text w (encode_upper w.key) end) w
 upper_is_read w end has ends =
     let twice : length (encode_upper w.key) ≡ 2 * 32 = length-encode_with upper_digits w.key ∙ omega (arith, has.long) in
     line_is_read w (encode_upper w.key) end has (decode_sized-twice (encode_upper w.key) 32 twice ∙ decode_of-encode_upper w.key (bytes_of w.key has.bytes)) (IsAscii-encode_with upper_digits w.key (ascii_by_test upper_digits refl)) ends

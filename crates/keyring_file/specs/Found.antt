@@ -1,11 +1,26 @@
--- A key line where it stands in the bytes.
-use Rattle.std.specs.Prelude.{◌≡◌, ◌≢◌, ℕ, List, [], ◌∷◌, length, Option, Some, None, Result, Ok, Err}
+-- What the code finds, where it stands in the bytes.
+use Rattle.std.specs.Prelude.{◌≡◌, ◌≢◌, ◌<◌, ℕ, slice_index_or, List, [], ◌∷◌, length, Option, Some, None, option_map, Result, Ok, Err}
 use Rattle.std.specs.Borrow.{Bor}
+use Rattle.std.specs.List.{remove}
 use Rattle.esdk_fields.specs.declared.refusals.FileRefusal.{FileRefusal}
+use Rattle.esdk_fields.specs.declared.refusals.FileRefusal.TheVariants.{NotJson}
 use Rattle.keyring_trait.specs.Wrapping.{WrapKeyValue}
+use Rattle.keyring_trait.specs.Keyring.{KeyringMeaning}
+use Rattle.serde_json.specs.declared.value.Value.{Value}
+use Rattle.serde_json.specs.Data.{Data}
+use Rattle.serde_json.specs.View.{view, items_view}
 use Rattle.keyring_file.specs.KeyLine.{space_parts}
 use Rattle.keyring_file.specs.declared.key_line.Parts.{Parts}
 use Rattle.keyring_file.specs.declared.key_line.KeyLine.{KeyLine}
+use Rattle.keyring_file.specs.declared.key_file.TreeError.{TreeError}
+use Rattle.keyring_file.specs.declared.key_file.TreeError.TheVariants.{File, Memory}
+use Rattle.keyring_file.specs.declared.form.Form as form
+use Rattle.keyring_file.specs.declared.form.Form.TheVariants as forms
+use Rattle.keyring_file.specs.declared.plugs.Plug.{Plug}
+use Rattle.keyring_file.specs.declared.walk.Walk.{Walk}
+use Rattle.keyring_file.specs.Plugs.{taken}
+use Rattle.keyring_file.specs.Walk.{Met}
+use Rattle.keyring_file.specs.Form.{Form, RawForm, PlugForm, MultiForm}
 
 -- the parts of the text are what stands before the first space and the parts of what stands behind it; or the text is the one part
 abbrev pub SplitsAtSpace : Option (Bor (List ℕ) × Bor (List ℕ)) → List ℕ → Type 0
@@ -25,3 +40,56 @@ key_value line = record { namespace = line.namespace.now; name = line.name.now; 
 abbrev pub FindsKey : Result KeyLine FileRefusal → Result WrapKeyValue FileRefusal → Type 0
 FindsKey (Ok line) reading = reading ≡ Ok (key_value line)
 FindsKey (Err refusal) reading = reading ≡ Err refusal
+
+-- ---- JSON
+
+-- this value; or the bytes are no JSON, and only then are they refused
+abbrev pub ReadsValue : Result Value TreeError → Option Data → Type 0
+ReadsValue (Ok value) found = found ≡ Some (view value)
+ReadsValue (Err (File refusal)) found = (refusal ≡ NotJson) × (found ≡ None)
+ReadsValue (Err Memory) found = Unit {0}
+
+-- a node's form, where its parts stand in the file
+abbrev pub form_value : form.Form → Form
+form_value (forms.Raw namespace name key) = RawForm namespace.now name.now key.now
+form_value (forms.Plug name) = PlugForm name.now
+form_value (forms.Multi generator children) = MultiForm (option_map (λ node. view node.now) generator) (items_view children.now)
+
+-- ---- plugs
+
+-- how many leaves a keyring that is handed over counts as
+abbrev pub wraps_of : {P : Type 0} → (P → KeyringMeaning) → P → ℕ
+wraps_of meaning keyring = (meaning keyring).wraps
+
+-- the first plug of the name stands at this index; or no plug has the name
+abbrev pub IsIndexOf : {P : Type 0} → List ℕ → List (Plug P) → Option ℕ → Type 0
+IsIndexOf {P = P} name plugs (Some index) =
+    (index < length plugs) × ((plug : Plug P) → slice_index_or plugs index plug ≡ plug → taken name plugs ≡ Some (plug.keyring, remove plugs index))
+IsIndexOf name plugs None = taken name plugs ≡ None
+
+-- the first keyring of the name, and the plugs that are left; or no plug has the name, and all are left
+abbrev pub Takes : {P : Type 0} → List ℕ → List (Plug P) → List (Plug P) → Option P → Type 0
+Takes name old new (Some keyring) = taken name old ≡ Some (keyring, new)
+Takes name old new None = (taken name old ≡ None) × (new ≡ old)
+
+-- ---- the walk
+
+-- what a walk has met
+abbrev pub met : {P : Type 0} → Walk P → Met P
+met walk = record { nodes = walk.nodes; leaves = walk.leaves; keys = walk.keys.items; plugs = walk.plugs.items }
+
+-- this value, and what is met then; or this refusal. Want of memory may come at any time.
+abbrev pub Gives : {P A B : Type 0} → (A → B) → Result A TreeError → Walk P → Result (B × Met P) FileRefusal → Type 0
+Gives means (Ok x) now reading = reading ≡ Ok (means x, met now)
+Gives means (Err (File refusal)) now reading = reading ≡ Err refusal
+Gives means (Err Memory) now reading = Unit {0}
+
+-- the same without a value
+abbrev pub GivesNothing : {P A : Type 0} → Result A TreeError → Walk P → Result (Unit {0} × Met P) FileRefusal → Type 0
+GivesNothing result now reading = Gives (λ _. tt) result now reading
+
+-- the keyring of this key; only memory may be wanting
+abbrev pub IsKeyring : WrapKeyValue → Result WrapKeyValue TreeError → Type 0
+IsKeyring w (Ok made) = made ≡ w
+IsKeyring w (Err (File refusal)) = ⊥
+IsKeyring w (Err Memory) = Unit {0}

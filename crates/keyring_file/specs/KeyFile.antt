@@ -1,11 +1,20 @@
 -- A keyring file. A JSON file is one whose first byte is a brace, but for blanks; any other file is a key line. The form is this library's.
-use Rattle.std.specs.Prelude.{◌≡◌, ℕ, Bool, false, ◌||◌, ◌==◌, List, [], ◌∷◌, Result, Ok, Err, if◌then◌else◌}
+use Rattle.std.specs.Prelude.{◌≡◌, ℕ, Bool, false, ◌||◌, ◌==◌, List, [], ◌∷◌, Option, Some, None, Result, Ok, Err, if◌then◌else◌}
 use Rattle.esdk_fields.specs.declared.refusals.FileRefusal.{FileRefusal}
-use Rattle.esdk_fields.specs.declared.refusals.FileRefusal.TheVariants.{BadShape}
+use Rattle.esdk_fields.specs.declared.refusals.FileRefusal.TheVariants.{NotJson, BadShape}
 use Rattle.keyring_trait.specs.Wrapping.{WrapKeyValue}
-use Rattle.keyring_file.specs.declared.key_file.KeyFileError.{KeyFileError}
-use Rattle.keyring_file.specs.declared.key_file.KeyFileError.TheVariants.{File, Memory}
+use Rattle.keyring_file.specs.declared.key_file.TreeError.{TreeError}
+use Rattle.keyring_file.specs.declared.key_file.TreeError.TheVariants.{File, Memory}
+use Rattle.serde_json.specs.Data.{Data}
+use Rattle.multi_keyring.specs.declared.tree.Node.{Node}
+use Rattle.multi_keyring.specs.Forest.{Forest, Nil, RawThen}
+use Rattle.multi_keyring.specs.Nodes.{forest}
+use Rattle.keyring_file.specs.declared.plugs.Plug.{Plug}
 use Rattle.keyring_file.specs.KeyLine.{key_line}
+use Rattle.keyring_file.specs.Json.{value_of}
+use Rattle.keyring_file.specs.Form.{ring_of}
+use Rattle.keyring_file.specs.Walk.{Met}
+use Rattle.keyring_file.specs.Tree.{tree}
 
 -- a space, a tab, a line feed or a carriage return
 abbrev pub is_blank : ℕ → Bool
@@ -16,12 +25,42 @@ unfoldable pub is_json : List ℕ → Bool
 is_json [] = false
 is_json (b ∷ bytes) = if is_blank b then is_json bytes else b == 123
 
--- The key of a file. JSON files are not read: K2, at the file's own place.
-unfoldable pub key_of : List ℕ → Result WrapKeyValue FileRefusal
-key_of bytes = if is_json bytes then Err (BadShape 0) else key_line bytes
+-- A key line means the tree of its one raw key.
+abbrev pub line_tree : {P : Type 0} → Result WrapKeyValue FileRefusal → Result (Forest P) FileRefusal
+line_tree (Ok w) = Ok (RawThen w Nil)
+line_tree (Err refusal) = Err refusal
 
--- This key, or this refusal; want of memory may come at any time.
-abbrev pub Answers : Result WrapKeyValue KeyFileError → Result WrapKeyValue FileRefusal → Type 0
-Answers (Ok key) reading = reading ≡ Ok key
+-- what was read, without what was met
+abbrev pub only_tree : {P : Type 0} → Result (Forest P × Met P) FileRefusal → Result (Forest P) FileRefusal
+only_tree (Ok read) = Ok read.0
+only_tree (Err refusal) = Err refusal
+
+-- before the first node
+abbrev pub start : {P : Type 0} → List (Plug P) → Met P
+start plugs = record { nodes = 0; leaves = 0; keys = []; plugs = plugs }
+
+-- K2, at the file's own place, where the file has another form than {"version":1,"ring":NODE}; then what its node means, which may have 8 levels
+abbrev pub node_tree : {P : Type 0} → (P → ℕ) → List (Plug P) → Option Data → Result (Forest P) FileRefusal
+node_tree wraps plugs (Some node) = only_tree (tree wraps 8 node (start plugs))
+node_tree wraps plugs None = Err (BadShape 0)
+
+-- K1, where the file is no JSON
+abbrev pub json_tree : {P : Type 0} → (P → ℕ) → List (Plug P) → Option Data → Result (Forest P) FileRefusal
+json_tree wraps plugs (Some file) = node_tree wraps plugs (ring_of file)
+json_tree wraps plugs None = Err NotJson
+
+-- The tree that a file means, where these keyrings are handed over and each counts as so many leaves; or the first refusal.
+unfoldable pub tree_of : {P : Type 0} → (wraps : P → ℕ) → (bytes : List ℕ) → (plugs : List (Plug P)) → Result (Forest P) FileRefusal
+tree_of wraps bytes plugs = if is_json bytes then json_tree wraps plugs (value_of bytes) else line_tree (key_line bytes)
+
+-- This tree, or this refusal; want of memory may come at any time.
+abbrev pub Answers : {P : Type 0} → Result (Node P) TreeError → Result (Forest P) FileRefusal → Type 0
+Answers (Ok node) reading = reading ≡ Ok (forest (node ∷ []))
 Answers (Err (File refusal)) reading = reading ≡ Err refusal
 Answers (Err Memory) reading = Unit {0}
+
+-- the same for a key line
+abbrev pub AnswersKey : Result WrapKeyValue TreeError → Result WrapKeyValue FileRefusal → Type 0
+AnswersKey (Ok key) reading = reading ≡ Ok key
+AnswersKey (Err (File refusal)) reading = reading ≡ Err refusal
+AnswersKey (Err Memory) reading = Unit {0}

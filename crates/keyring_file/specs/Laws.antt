@@ -1,15 +1,19 @@
--- What the laws of this crate say of key lines.
-use Rattle.std.specs.Prelude.{◌≡◌, ◌↔◌, ℕ, false, List, ◌∷◌, ◌++◌, length, Ok}
+-- What the laws of this crate say.
+use Rattle.std.specs.Prelude.{◌≡◌, ◌↔◌, ◌<◌, ◌≤◌, ◌^◌, ℕ, false, List, ◌∷◌, ◌++◌, length, Ok}
 use Rattle.std.specs.Str.{IsUtf8}
 use Rattle.hex.specs.Hex.{encode_lower, encode_upper}
 use Rattle.esdk_fields.specs.Bytes.{AreBytes}
 use Rattle.keyring_trait.specs.Wrapping.{WrapKeyValue}
-use Rattle.keyring_file.specs.KeyFile.{is_json, key_of}
+use Rattle.multi_keyring.specs.Forest.{Forest, Nil, RawThen, tallest}
+use Rattle.keyring_file.specs.declared.plugs.Plug.{Plug}
+use Rattle.keyring_file.specs.Counts.{leaves_of, raw_keys, AreOfOneKey}
+use Rattle.keyring_file.specs.KeyFile.{is_json, tree_of}
 use Rattle.keyring_file.specs.Spelling.{IsLineKey, IsLineEnd, IsKeyLine, line_text}
 
--- A file is read as a key exactly where it is that key's line, and no JSON file.
-abbrev pub ReadsKeyLines : Type 0
-ReadsKeyLines = (bytes : List ℕ) (w : WrapKeyValue) → (key_of bytes ≡ Ok w) ↔ ((is_json bytes ≡ false) × IsKeyLine bytes w)
+-- A file that is no JSON file is read as one raw key exactly where it is that key's line.
+abbrev pub ReadsKeyLines : Type 0 → Type 0
+ReadsKeyLines P = (wraps : P → ℕ) (bytes : List ℕ) (plugs : List (Plug P)) (w : WrapKeyValue)
+    → is_json bytes ≡ false → (tree_of wraps bytes plugs ≡ Ok (RawThen w Nil)) ↔ IsKeyLine bytes w
 
 -- A key that a line can have: 32 bytes, and texts for namespace and name, which don't begin as a JSON file does.
 pub record HasLine (w : WrapKeyValue) : Type 0 where
@@ -21,6 +25,16 @@ pub record HasLine (w : WrapKeyValue) : Type 0 where
   pub plain : is_json (w.namespace ++ 32 ∷ w.name) ≡ false
 
 -- The digits may be written in lower case or in upper case, and a line feed may stand at the end or not: the key is read back.
-abbrev pub WrittenLinesAreRead : Type 0
-WrittenLinesAreRead = (w : WrapKeyValue) (end : List ℕ) → HasLine w → IsLineEnd end
-    → (key_of (line_text w (encode_lower w.key) end) ≡ Ok w) × (key_of (line_text w (encode_upper w.key) end) ≡ Ok w)
+abbrev pub WrittenLinesAreRead : Type 0 → Type 0
+WrittenLinesAreRead P = (wraps : P → ℕ) (plugs : List (Plug P)) (w : WrapKeyValue) (end : List ℕ) → HasLine w → IsLineEnd end
+    → (tree_of wraps (line_text w (encode_lower w.key) end) plugs ≡ Ok (RawThen w Nil))
+    × (tree_of wraps (line_text w (encode_upper w.key) end) plugs ≡ Ok (RawThen w Nil))
+
+-- A tree that is read has at most 8 levels and at most 64 leaves, where a keyring that is handed over counts as many as it wraps.
+abbrev pub TreesAreSmall : Type 0 → Type 0
+TreesAreSmall P = (wraps : P → ℕ) (bytes : List ℕ) (plugs : List (Plug P)) (tree : Forest P)
+    → length plugs < 2 ^ 24 → tree_of wraps bytes plugs ≡ Ok tree → (tallest tree ≤ 8) × (leaves_of wraps tree ≤ 64)
+
+-- In a tree that is read, raw keys of one namespace and name are one key.
+abbrev pub RawKeysAgree : Type 0 → Type 0
+RawKeysAgree P = (wraps : P → ℕ) (bytes : List ℕ) (plugs : List (Plug P)) (tree : Forest P) → tree_of wraps bytes plugs ≡ Ok tree → AreOfOneKey (raw_keys tree)

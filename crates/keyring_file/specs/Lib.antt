@@ -1,5 +1,14 @@
 pub mod KeyLine
-pub mod KeyFile
 pub mod Spelling
+pub mod Json
+pub mod Form
+pub mod Base64Key
+pub mod Plugs
+pub mod Walk
+pub mod Leaves
+pub mod Tree
+pub mod KeyFile
+pub mod Room
+pub mod Counts
 pub mod Found
 pub mod Laws

@@ -1,54 +1,98 @@
 //! Reading a keyring file.
 
-ghost use Rattle.std.specs.Prelude.{◌≡◌, IfOk};
-ghost use Rattle.keyring_file.specs.KeyFile.{is_blank, is_json, key_of, Answers};
-ghost use Rattle.keyring_file.specs.Spelling.{IsLineKey};
+ghost use Rattle.std.specs.Prelude.{◌≡◌, ◌<◌, ◌^◌, length};
+ghost use Rattle.keyring_file.specs.KeyLine.{key_line};
+ghost use Rattle.keyring_file.specs.KeyFile.{is_blank, is_json, tree_of, Answers, AnswersKey};
+ghost use Rattle.keyring_file.specs.Found.{wraps_of};
 
+use crate::form::ring_of;
+use crate::json::value_of;
 use crate::key_line::key_line;
-use esdk_fields::{FileRefusal, Text};
-use keyring_trait::WrapKey;
-use std::alloc::{AllocError, Global};
+use crate::plugs::Plug;
+use crate::walk::{Walk, raw_keyring};
+use esdk_fields::FileRefusal;
+use keyring_trait::Keyring;
+use multi_keyring::Node;
+use raw_aes_keyring::RawAes;
+use std::alloc::{AllocError, AllocFailed, Global};
 
-/// Why a keyring file gives no key.
+/// The most levels that a tree may have.
+const LEVELS: u32 = 8;
+
+/// Why a keyring file gives no tree.
 #[derive(Drop)]
-pub enum KeyFileError {
+pub enum TreeError {
     /// The file is refused.
     File(FileRefusal),
     /// Memory ran out.
     Memory,
 }
 
-impl From<AllocError> for KeyFileError {
+impl From<AllocError> for TreeError {
     ghost use Rattle.std.specs.Prelude.{◌≡◌};
-    ghost use Rattle.keyring_file.specs.declared.key_file.KeyFileError.TheVariants.{Memory};
+    ghost use Rattle.keyring_file.specs.declared.key_file.TreeError.TheVariants.{Memory};
 
     ghost from_gives = { λ _ e. e ≡ Memory };
 
-    fn from(_: AllocError) -> KeyFileError {
-        KeyFileError::Memory
+    fn from(_: AllocError) -> TreeError {
+        TreeError::Memory
     }
 }
 
-/// The wrapping key of a keyring file.
-///
-/// K2(0) `BadShape` where the file is a JSON file. Else, of a key line: K2(1) where the bytes aren't UTF-8, don't split at single spaces into exactly
-/// three parts, or the first or the second part is empty or has more than 1,024 bytes; then K4 `ReservedNamespace` where the namespace is `aws-kms`; then
-/// K3(1) `BadKey` where the third part isn't 64 hexadecimal digits. `Memory` where memory runs out.
-#[tactic(auto, unfolding(crate::specs::KeyFile::key_of))]
-pub fn read_key_file(alloc: Global, bytes: &[u8]) -> Result<WrapKey, KeyFileError>
-    ensures read { Answers result (key_of bytes.now) }
-    ensures key { IfOk result IsLineKey }
-{
-    if is_json(bytes) {
-        return Err(KeyFileError::File(FileRefusal::BadShape(0)));
+impl<T: Drop> From<AllocFailed<T>> for TreeError {
+    ghost use Rattle.std.specs.Prelude.{◌≡◌};
+    ghost use Rattle.keyring_file.specs.declared.key_file.TreeError.TheVariants.{Memory};
+
+    ghost from_gives = { λ _ e. e ≡ Memory };
+
+    fn from(_: AllocFailed<T>) -> TreeError {
+        TreeError::Memory
     }
+}
+
+/// The tree of a keyring file, over the keyrings that are handed over. A file is a JSON file where its first byte that is no blank is a brace, else a key line.
+///
+/// A key line means the tree of one raw key: `{"version":1,"ring":NODE}` means what its node means. A node is `{"raw":{"namespace":TEXT,"name":TEXT,"key":TEXT}}`,
+/// with a key of 32 bytes in base64; `{"plug":TEXT}`, the first keyring that is left of those handed over under that name; or
+/// `{"multi":{"generator":NODE,"children":[NODE, ..]}}`, where each of the two may be absent and there is a generator or a child. Nodes have numbers from 1 in the
+/// order in which they are met, a generator before the children. Keyrings that no node names are dropped.
+///
+/// The first refusal that applies, in this order, and without it the tree:
+/// - of a key line K2(1) `BadShape` where the bytes aren't UTF-8, don't split at single spaces into exactly three parts, or the first or the second part is
+///   empty or has more than 1,024 bytes; K4 `ReservedNamespace` where the namespace is `aws-kms`; K3(1) `BadKey` where the third part isn't 64 hexadecimal digits;
+/// - of a JSON file K1 `NotJson` where it is no JSON in UTF-8; K2(0) where it has another form;
+/// - then for each node, in the order of the numbers: K2 at its number where it has another form, or a namespace or a name has more than 1,024 bytes; K6
+///   `TooDeep` where it stands on the ninth level; of a raw key K4, K3 at its number, and K5 `ClashingKeys` where an earlier one has its namespace and its name
+///   and another key; of another leaf K8 `NoSuchPlug` where no keyring of its name is left; of both K7 `TooManyLeaves` where the leaves so far are over 64, where
+///   a keyring that was handed over counts as many as it wraps.
+///
+/// `Memory` where memory runs out.
+#[tactic(auto, unfolding(crate::specs::KeyFile::tree_of))]
+pub fn read_tree<P: Keyring>(
+    alloc: Global,
+    bytes: &[u8],
+    plugs: Vec<Plug<P>>,
+) -> Result<Node<P>, TreeError>
+    requires { length plugs.items < 2 ^ 24 }
+    ensures { Answers result (tree_of (wraps_of P.meaning) bytes.now plugs.items) }
+{
+    if !is_json(bytes) {
+        return Ok(Node::Raw(line_keyring(alloc, bytes)?));
+    }
+    let file = value_of(alloc, bytes)?;
+    let Some(node) = ring_of(&file) else {
+        return Err(TreeError::File(FileRefusal::BadShape(0)));
+    };
+    Walk::new(alloc, plugs).tree(alloc, node, LEVELS)
+}
+
+/// The keyring of a key line, or why it has none.
+fn line_keyring(alloc: Global, bytes: &[u8]) -> Result<RawAes, TreeError>
+    ensures { AnswersKey result (key_line bytes.now) }
+{
     match key_line(bytes) {
-        Ok(line) => Ok(WrapKey {
-            namespace: Text::new(alloc, line.namespace)?,
-            name: Text::new(alloc, line.name)?,
-            key: line.key,
-        }),
-        Err(refusal) => Err(KeyFileError::File(refusal)),
+        Ok(line) => raw_keyring(alloc, line.namespace, line.name, line.key),
+        Err(refusal) => Err(TreeError::File(refusal)),
     }
 }
 

@@ -9,7 +9,7 @@ ghost use Rattle.keyring_file.specs.Spelling.{IsLineKey};
 use esdk_fields::FileRefusal;
 
 /// The namespace that is kept for AWS KMS keyrings.
-const RESERVED: &str = "aws-kms";
+pub(crate) const RESERVED: &str = "aws-kms";
 
 /// The most bytes that a namespace or a name may have.
 const LONGEST: usize = 1024;

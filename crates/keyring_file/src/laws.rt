@@ -1,13 +1,23 @@
-//! Laws about key lines. A law is a function that does nothing: its contract is what is proved.
+//! Laws about keyring files. A law is a function that does nothing: its contract is what is proved, for each type of keyrings that are handed over.
 
-ghost use Rattle.keyring_file.specs.Laws.{ReadsKeyLines, WrittenLinesAreRead};
+ghost use Rattle.keyring_file.specs.Laws.{ReadsKeyLines, WrittenLinesAreRead, TreesAreSmall, RawKeysAgree};
 
-/// A file is read as a key exactly where it is that key's line, and no JSON file.
-pub fn key_lines_are_read()
-    ensures { ReadsKeyLines }
+/// A file that is no JSON file is read as one raw key exactly where it is that key's line.
+pub fn key_lines_are_read<P>()
+    ensures { ReadsKeyLines P }
 {}
 
 /// A key's line is read as that key, with digits of either case, with or without a line feed at the end.
-pub fn written_lines_are_read()
-    ensures { WrittenLinesAreRead }
+pub fn written_lines_are_read<P>()
+    ensures { WrittenLinesAreRead P }
+{}
+
+/// A tree that is read has at most 8 levels and at most 64 leaves, where a keyring that is handed over counts as many as it wraps.
+pub fn trees_are_small<P>()
+    ensures { TreesAreSmall P }
+{}
+
+/// In a tree that is read, raw keys of one namespace and name are one key.
+pub fn raw_keys_agree<P>()
+    ensures { RawKeysAgree P }
 {}

@@ -1,15 +1,23 @@
-//! Keyring files: which wrapping key a file holds. A file is a key line: the namespace of a raw AES key, one space, its name, one space, the key in
-//! 64 hexadecimal digits, and at most one line feed at the end. JSON files are not read yet.
+//! Keyring files: which tree of keyrings a file means. A file is a JSON file, or a key line: the namespace of a raw AES key, one space, its name, one space, the
+//! key in 64 hexadecimal digits, and at most one line feed at the end.
 //!
-//! `specs/KeyFile.antt` and `specs/KeyLine.antt` say what a file is read as, `specs/Spelling.antt` the same without splitting.
+//! `specs/KeyFile.antt` says what a file is read as. `specs/KeyLine.antt` reads a key line, and `specs/Spelling.antt` says the same without splitting;
+//! `specs/Form.antt` has the forms of a JSON file and its nodes, and `specs/Tree.antt` the order in which nodes are read and refused.
 #![tactic(auto)]
 
+mod base64_key;
+mod form;
+mod json;
 mod key_file;
 mod key_line;
 mod laws;
+mod plugs;
+mod tree;
+mod walk;
 
-pub use key_file::{KeyFileError, read_key_file};
-pub use laws::{key_lines_are_read, written_lines_are_read};
+pub use key_file::{TreeError, read_tree};
+pub use laws::{key_lines_are_read, raw_keys_agree, trees_are_small, written_lines_are_read};
+pub use plugs::Plug;
 
 #[cfg(test)]
 mod tests;

@@ -92,7 +92,7 @@ fn keyring_files_of_another_form_are_refused(rt: HostRuntime) -> Result<(), Fail
         ("", "esdk: K2 BadShape 1\n"),
         ("ns k", "esdk: K2 BadShape 1\n"),
         (
-            "{\"version\":1,\"ring\":{\"raw\":{\"namespace\":\"ns\",\"name\":\"k\",\"key\":\"AAECAwQFBgcICQoLDA0ODxAREhMUFRYXGBkaGxwdHh8=\"}}}",
+            "{\"version\":2,\"ring\":{\"plug\":\"keydir\"}}",
             "esdk: K2 BadShape 0\n",
         ),
         (

@@ -1,7 +1,12 @@
 //! A run over objects in memory: what it is given, and what it leaves.
+ghost use Rattle.std.specs.Prelude.{◌<◌, ◌^◌, length};
+
 use crate::top_call::run;
-use esdk_base::{Entropy, ListEntropy, MemShelf, MemSink, MemSource};
+use esdk_base::{Entropy, ListClock, ListEntropy, MemShelf, MemSink, MemSource};
 use esdk_fields::{Blob, Text};
+use keyring_file::Plug;
+use keyring_trait::Keyring;
+use raw_aes_keyring::RawAes;
 use std::alloc::{AllocError, Global};
 use std::process::Abort;
 use whole_input::take_all;
@@ -15,7 +20,7 @@ pub const KEY_LINE: &[u8] =
 pub struct Behaviour {
     /// How many bytes a read of the input gives at most, at least 1.
     pub most: usize,
-    /// How many bytes there are to draw, all of them 22.
+    /// How many bytes there are to draw: at most 76 of them are 22, and those behind are 33.
     pub draws: usize,
     /// The failing read of the input.
     pub failing_read: u64,
@@ -53,6 +58,8 @@ pub struct Left {
     pub rest: Blob,
     /// Nothing was drawn.
     pub is_undrawn: bool,
+    /// A tree was given back.
+    pub has_tree: bool,
 }
 
 /// The objects of a run.
@@ -63,6 +70,7 @@ struct World {
     report: MemSink,
     shelf: MemShelf,
     entropy: ListEntropy,
+    clock: ListClock,
 }
 
 /// Runs the top call over the words of the line, which stand between single spaces, and a shelf on
@@ -74,15 +82,37 @@ pub fn left_by(
     bytes: &[u8],
     objects: Behaviour,
 ) -> Result<Left, AllocError> {
-    let words = words_of(alloc, line)?;
-    let mut world = world_of(alloc, key_file, bytes, objects)?;
-    let code = run_over(alloc, &words, &mut world);
-    left_in(alloc, code, &mut world, objects)
+    left_with::<RawAes>(alloc, line, key_file, bytes, objects, Vec::new(alloc))
 }
 
-/// Runs the top call, and answers the status.
-fn run_over(alloc: Global, words: &[Text], world: &mut World) -> u8 {
-    let status = run(
+/// The same, with these plugs, which are at most 100.
+pub fn left_with<P: Keyring>(
+    alloc: Global,
+    line: &str,
+    key_file: Option<&[u8]>,
+    bytes: &[u8],
+    objects: Behaviour,
+    plugs: Vec<Plug<P>>,
+) -> Result<Left, AllocError> {
+    if plugs.len() > 100 {
+        return Err(AllocError);
+    }
+    let words = words_of(alloc, line)?;
+    let mut world = world_of(alloc, key_file, bytes, objects)?;
+    let (code, has_tree) = run_over(alloc, &words, &mut world, plugs);
+    left_in(alloc, code, has_tree, &mut world, objects)
+}
+
+/// Runs the top call, and answers the status, and whether a tree was given back.
+fn run_over<P: Keyring>(
+    alloc: Global,
+    words: &[Text],
+    world: &mut World,
+    plugs: Vec<Plug<P>>,
+) -> (u8, bool)
+    requires { length plugs.items < 2 ^ 24 }
+{
+    let ended = run(
         alloc,
         words,
         &mut world.input,
@@ -90,14 +120,17 @@ fn run_over(alloc: Global, words: &[Text], world: &mut World) -> u8 {
         &mut world.report,
         &mut world.shelf,
         &mut world.entropy,
+        &mut world.clock,
+        plugs,
     );
-    status.code
+    (ended.status.code, ended.tree.is_some())
 }
 
 /// What a run with this status left in the objects.
 fn left_in(
     alloc: Global,
     code: u8,
+    has_tree: bool,
     world: &mut World,
     objects: Behaviour,
 ) -> Result<Left, AllocError> {
@@ -108,6 +141,7 @@ fn left_in(
         report: Vec::from_slice(alloc, world.report.written())?,
         rest: take_all(alloc, &mut world.input)?.bytes,
         is_undrawn: world.entropy.fill(&mut draws).is_ok(),
+        has_tree,
     })
 }
 
@@ -123,6 +157,7 @@ fn world_of(
         report: MemSink::new(alloc, 1000, call(alloc, objects.failing_report)?)?,
         shelf: shelf_of(alloc, key_file, objects)?,
         entropy: entropy_of(alloc, objects)?,
+        clock: ListClock::new(Vec::new(alloc)),
     })
 }
 
@@ -162,7 +197,9 @@ fn shelf_of(
 }
 
 fn drawn(alloc: Global, objects: Behaviour) -> Result<Vec<u8>, AllocError> {
-    vec![in alloc; 0x22u8; objects.draws]
+    let mut bytes = vec![in alloc; 0x22u8; objects.draws.min(76)]?;
+    bytes.resize(objects.draws, 0x33)?;
+    Ok(bytes)
 }
 
 fn entropy_of(alloc: Global, objects: Behaviour) -> Result<ListEntropy, AllocError> {

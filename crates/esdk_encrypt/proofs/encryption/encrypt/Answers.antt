@@ -16,7 +16,7 @@ returns-in-Err-message_start-clause-ends g c =
     let drew = rw (c.in-Ok.is, c.wraps-wraps.ensures.value) at c.draw.ensures.drew in
     let given = rw (c.in-Ok-for_encryption.is, c.rest.ensures) at c.for_encryption.ensures.gives in
     let cause = rw (c.in-Err-message_start.is, c.message_id-id.ensures) at c.message_start.ensures.cause in
-    ends_unstarted asked _ _ _ _ c.in-Ok.draws c.in-Ok-for_encryption.materials _ _ c.in-Err-message_start.error c.unstarted.result drew given cause
+    ends_unstarted asked _ _ _ _ c.in-Ok.draws c.in-Ok-for_encryption.materials _ _ c.in-Err-message_start.error c.unstarted.result drew given c.message_start.ensures.each cause
     (refl {a = c.args.input.now}, refl {a = c.args.output.now}) c.unstarted.ensures
 
 pub returns-in-Err-message_start-clause-stops : goal.returns-in-Err-message_start-clause-stops

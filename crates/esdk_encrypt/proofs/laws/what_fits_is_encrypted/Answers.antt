@@ -1,6 +1,8 @@
-use Rattle.std.specs.Prelude.{⊤}
-use Rattle.esdk_encrypt.proofs.Fitting.{only_memory_ends}
+use Rattle.std.specs.Prelude.{None, ⊤}
+use Rattle.esdk_encrypt.specs.Told.{asked_by}
+use Rattle.esdk_encrypt.proofs.Fitting.{only_memory_ends, told_granted}
 use Rattle.esdk_encrypt.proofs.laws.what_fits_is_encrypted.Goals as goal
 
 pub returns : goal.returns
-returns c = λ writer w old new text input taken output put entropy spent. only_memory_ends writer w old new text input taken output put entropy spent ⊤ ⊤
+returns c = λ writer old new text input taken output put entropy spent error within fits stayed nothing ends.
+    only_memory_ends (asked_by writer None old new) text input taken output put entropy spent ⊤ ⊤ error (told_granted writer old new within stayed) fits nothing ends

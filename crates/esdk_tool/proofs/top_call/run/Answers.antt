@@ -1,24 +1,24 @@
-use Rattle.esdk_tool.proofs.Asked.{decrypt_asked, encrypt_asked, encrypt_limits}
+use Rattle.esdk_tool.proofs.Asked.{decrypt_asked, encrypt_asked}
 use Rattle.esdk_tool.proofs.Decryption.{decrypts_whole_messages, reads_back, says_the_judgement}
 use Rattle.esdk_tool.proofs.Encryption.{encrypts_what_fits, writes_the_message}
 use Rattle.esdk_tool.proofs.top_call.run.Goals as goal
 
 pub returns-clause-message : goal.returns-clause-message
 returns-clause-message g c = λ asked is.
-    writes_the_message asked _ _ _ _ _ _ _ _ _ _ (encrypt_asked _ asked _ _ _ _ _ _ _ _ _ _ _ is c.carry_out.ensures.runs)
+    writes_the_message _ asked _ _ _ _ _ _ _ _ _ _ (encrypt_asked _ _ asked _ _ _ _ _ _ _ _ _ _ _ is c.carry_out.ensures.runs)
 
 pub returns-clause-fits : goal.returns-clause-fits
 returns-clause-fits g c = λ asked is.
-    encrypts_what_fits asked _ _ _ _ _ _ _ _ _ _ (encrypt_limits _ asked is) (encrypt_asked _ asked _ _ _ _ _ _ _ _ _ _ _ is c.carry_out.ensures.runs)
+    encrypts_what_fits _ asked _ _ _ _ _ _ _ _ _ _ (encrypt_asked _ _ asked _ _ _ _ _ _ _ _ _ _ _ is c.carry_out.ensures.runs)
 
 pub returns-clause-judgement : goal.returns-clause-judgement
 returns-clause-judgement g c = λ asked is.
-    says_the_judgement asked _ _ _ _ _ _ _ _ (decrypt_asked _ asked _ _ _ _ _ _ _ _ _ _ _ is c.carry_out.ensures.runs)
+    says_the_judgement _ asked _ _ _ _ _ _ _ _ (decrypt_asked _ _ asked _ _ _ _ _ _ _ _ _ _ _ is c.carry_out.ensures.runs)
 
 pub returns-clause-whole : goal.returns-clause-whole
 returns-clause-whole g c = λ asked is.
-    decrypts_whole_messages asked _ _ _ _ _ _ _ _ (decrypt_asked _ asked _ _ _ _ _ _ _ _ _ _ _ is c.carry_out.ensures.runs)
+    decrypts_whole_messages _ asked _ _ _ _ _ _ _ _ (decrypt_asked _ _ asked _ _ _ _ _ _ _ _ _ _ _ is c.carry_out.ensures.runs)
 
 pub returns-clause-round_trip : goal.returns-clause-round_trip
 returns-clause-round_trip g c = λ asked is.
-    reads_back asked _ _ _ _ _ _ _ _ (decrypt_asked _ asked _ _ _ _ _ _ _ _ _ _ _ is c.carry_out.ensures.runs)
+    reads_back _ asked _ _ _ _ _ _ _ _ (decrypt_asked _ _ asked _ _ _ _ _ _ _ _ _ _ _ is c.carry_out.ensures.runs)

@@ -1,7 +1,7 @@
 use Rattle.std.proofs.Common.{◌∙◌, sym, ap}
 use Rattle.std.proofs.lemmas.List.{drop_all}
 use Rattle.keyring_file.specs.KeyFile.{is_json}
-use Rattle.keyring_file.proofs.Json.{blank_skipped, first_judged}
+use Rattle.keyring_file.proofs.Blanks.{blank_skipped, first_judged}
 use Rattle.keyring_file.proofs.key_file.is_json.Goals as goal
 
 pub returns-then-not-is_blank : goal.returns-then-not-is_blank

@@ -1,0 +1,78 @@
+-- The tree of a whole file.
+use Rattle.std.proofs.Common.{◌≡◌, ◌≢◌, ◌<◌, ◌≤◌, ◌+◌, ◌*◌, ℕ, Bool, true, false, List, [], ◌∷◌, length, refl, sym, ap, subst, ◌∙◌, inl, inr, arith}
+use Rattle.std.specs.Prelude.{◌^◌, ◌⊎◌, Option, Some, None, Result, Ok, Err, if◌then◌else◌}
+use Rattle.serde_json.specs.Data.{Data}
+use Rattle.esdk_fields.specs.declared.refusals.FileRefusal.{FileRefusal}
+use Rattle.keyring_trait.specs.Wrapping.{WrapKeyValue}
+use Rattle.multi_keyring.specs.Forest.{Forest, Nil, RawThen, tallest}
+use Rattle.keyring_file.specs.declared.plugs.Plug.{Plug}
+use Rattle.keyring_file.specs.KeyLine.{key_line}
+use Rattle.keyring_file.specs.KeyFile.{is_json, line_tree, only_tree, start, node_tree, json_tree, tree_of}
+use Rattle.keyring_file.specs.Json.{value_of}
+use Rattle.keyring_file.specs.Form.{ring_of}
+use Rattle.keyring_file.specs.Walk.{Met}
+use Rattle.keyring_file.specs.Tree.{tree}
+use Rattle.keyring_file.specs.Room.{HasRoom}
+use Rattle.keyring_file.specs.Counts.{leaves_of, raw_keys, AreOfOneKey}
+use Rattle.keyring_file.proofs.Agreeing.{agree_more}
+use Rattle.keyring_file.proofs.Facts.{AreRead, IsRead, IsSettled, tree_read}
+
+pub start_room : {P : Type 0} (plugs : List (Plug P)) → length plugs < 2 ^ 24 → HasRoom 8 (start plugs)
+start_room plugs few = record { few = omega arith; leaves = omega arith; keys = omega arith; nodes = omega (arith, few) }
+
+-- the raw key of a line, or what a walk read
+data IsOf {P : Type 0} (wraps : P → ℕ) (plugs : List (Plug P)) (trees : Forest P) : Type 0 where
+  of_line : (w : WrapKeyValue) → RawThen w Nil ≡ trees → IsOf wraps plugs trees
+  of_node : (new : Met P) → IsRead wraps 8 trees (start plugs) new → IsOf wraps plugs trees
+
+of_key : {P : Type 0} (wraps : P → ℕ) (plugs : List (Plug P)) (trees : Forest P) (key : Result WrapKeyValue FileRefusal) → line_tree key ≡ Ok trees → IsOf wraps plugs trees
+of_key wraps plugs trees (Ok w) e = of_line w cc
+of_key wraps plugs trees (Err refusal) e = absurd cc
+
+of_walk : {P : Type 0} (wraps : P → ℕ) (plugs : List (Plug P)) (trees : Forest P) (node : Data) (r : Result (Forest P × Met P) FileRefusal)
+    → tree wraps 8 node (start plugs) ≡ r → only_tree r ≡ Ok trees → IsOf wraps plugs trees
+of_walk wraps plugs trees node (Ok y) is e =
+    let same : y.0 ≡ trees = cc in
+    of_node y.1 (subst (λ t. IsRead wraps 8 t (start plugs) y.1) same (tree_read wraps 8 node (start plugs) y is))
+of_walk wraps plugs trees node (Err refusal) is e = absurd cc
+
+of_ring : {P : Type 0} (wraps : P → ℕ) (plugs : List (Plug P)) (trees : Forest P) (ring : Option Data) → node_tree wraps plugs ring ≡ Ok trees → IsOf wraps plugs trees
+of_ring wraps plugs trees (Some node) e = of_walk wraps plugs trees node (tree wraps 8 node (start plugs)) refl e
+of_ring wraps plugs trees None e = absurd cc
+
+of_json : {P : Type 0} (wraps : P → ℕ) (plugs : List (Plug P)) (trees : Forest P) (file : Option Data) → json_tree wraps plugs file ≡ Ok trees → IsOf wraps plugs trees
+of_json wraps plugs trees (Some file) e = of_ring wraps plugs trees (ring_of file) e
+of_json wraps plugs trees None e = absurd cc
+
+of_either : {P : Type 0} (wraps : P → ℕ) (bytes : List ℕ) (plugs : List (Plug P)) (trees : Forest P) (json : Bool)
+    → (if json then json_tree wraps plugs (value_of bytes) else line_tree (key_line bytes)) ≡ Ok trees → IsOf wraps plugs trees
+of_either wraps bytes plugs trees true e = of_json wraps plugs trees (value_of bytes) e
+of_either wraps bytes plugs trees false e = of_key wraps plugs trees (key_line bytes) e
+
+of_file : {P : Type 0} (wraps : P → ℕ) (bytes : List ℕ) (plugs : List (Plug P)) (trees : Forest P) → tree_of wraps bytes plugs ≡ Ok trees → IsOf wraps plugs trees
+unfolding tree_of
+of_file wraps bytes plugs trees e = of_either wraps bytes plugs trees (is_json bytes) e
+
+low_of : {P : Type 0} (wraps : P → ℕ) (plugs : List (Plug P)) (trees : Forest P) → length plugs < 2 ^ 24 → IsOf wraps plugs trees
+    → (tallest trees ≤ 8) × (leaves_of wraps trees ≤ 64)
+low_of wraps plugs trees few (of_line w is) = subst (λ t. (tallest t ≤ 8) × (leaves_of wraps t ≤ 64)) is (omega arith, omega arith)
+low_of wraps plugs trees few (of_node new r) =
+    let settled = r.read.settled (omega (arith, r.one)) (start_room plugs few) in
+    (r.read.low, omega (arith, r.read.leaves, settled.leaves))
+
+pub file_is_low : {P : Type 0} (wraps : P → ℕ) (bytes : List ℕ) (plugs : List (Plug P)) (trees : Forest P) → length plugs < 2 ^ 24 → tree_of wraps bytes plugs ≡ Ok trees
+    → (tallest trees ≤ 8) × (leaves_of wraps trees ≤ 64)
+file_is_low wraps bytes plugs trees few e = low_of wraps plugs trees few (of_file wraps bytes plugs trees e)
+
+one_agrees : (w : WrapKeyValue) → AreOfOneKey (w ∷ [])
+one_agrees w = agree_more [] w refl (λ u v one two namespace name. absurd (omega (arith, one.1)))
+
+none_agree : AreOfOneKey []
+none_agree = λ u v one two namespace name. absurd (omega (arith, one.1))
+
+agree_of : {P : Type 0} (wraps : P → ℕ) (plugs : List (Plug P)) (trees : Forest P) → IsOf wraps plugs trees → AreOfOneKey (raw_keys trees)
+agree_of wraps plugs trees (of_line w is) = subst (λ t. AreOfOneKey (raw_keys t)) is (one_agrees w)
+agree_of wraps plugs trees (of_node new r) = subst AreOfOneKey r.read.keys (r.read.agree none_agree)
+
+pub file_agrees : {P : Type 0} (wraps : P → ℕ) (bytes : List ℕ) (plugs : List (Plug P)) (trees : Forest P) → tree_of wraps bytes plugs ≡ Ok trees → AreOfOneKey (raw_keys trees)
+file_agrees wraps bytes plugs trees e = agree_of wraps plugs trees (of_file wraps bytes plugs trees e)

@@ -1,0 +1,88 @@
+-- The forms of a JSON keyring file and of its nodes. They are this library's.
+use Rattle.std.specs.Prelude.{◌≡◌, ◌≤◌, ℕ, Bool, true, false, ◌+◌, ◌||◌, ◌==◌, not, nat_le, List, length, codes, Option, Some, None, is_some, option_map}
+use Rattle.serde_json.specs.Data.{Data, Items, no_items, item}
+use Rattle.serde_json.specs.Find.{get, as_str, as_array, as_number, as_u64}
+use Rattle.keyring_file.specs.Json.{◌>>=◌, ◌>>◌, provided, member_count, text_at}
+
+-- A node: a raw key by its namespace, its name and its key in base64; a keyring that is handed over under a name; or a multi-keyring of nodes.
+pub data Form : Type 0 where
+  RawForm : (namespace name key : List ℕ) → Form
+  PlugForm : (name : List ℕ) → Form
+  MultiForm : (generator : Option Data) (children : Items) → Form
+
+-- the text that the member of this name is, where it has at most 1,024 bytes
+abbrev pub short : List ℕ → Option (List ℕ)
+short text = do
+  provided (nat_le (length text) 1024)
+  Some text
+
+unfoldable pub short_text_at : List ℕ → Data → Option (List ℕ)
+short_text_at name d = text_at name d >>= short
+
+-- {"namespace":TEXT,"name":TEXT,"key":TEXT}
+unfoldable pub raw_form : Data → Option Form
+raw_form d = do
+  provided (member_count d == 3)
+  namespace ← short_text_at (codes "namespace") d
+  name ← short_text_at (codes "name") d
+  key ← text_at (codes "key") d
+  Some (RawForm namespace name key)
+
+-- TEXT
+abbrev pub plug_form : Data → Option Form
+plug_form d = option_map PlugForm (as_str d)
+
+-- the nodes of a list; none where the member is absent
+abbrev pub children_of : Option Data → Option Items
+children_of (Some list) = as_array list
+children_of None = Some no_items
+
+abbrev pub count : Option Data → ℕ
+count (Some d) = 1
+count None = 0
+
+abbrev pub is_empty : Items → Bool
+is_empty no_items = true
+is_empty (item d children) = false
+
+-- there is a generator or a child
+abbrev pub has_node : Option Data → Items → Bool
+has_node generator children = is_some generator || not (is_empty children)
+
+-- {"generator":NODE,"children":[NODE, ..]}, where each of the two may be absent
+unfoldable pub multi_form : Data → Option Form
+multi_form d = do
+  provided (member_count d == count (get (codes "generator") d) + count (get (codes "children") d))
+  children ← children_of (get (codes "children") d)
+  provided (has_node (get (codes "generator") d) children)
+  Some (MultiForm (get (codes "generator") d) children)
+
+abbrev pub only_form : Option Data → Option Data → Option Data → Option Form
+only_form (Some raw) plug multi = raw_form raw
+only_form None (Some plug) multi = plug_form plug
+only_form None None (Some multi) = multi_form multi
+only_form None None None = None
+
+-- {"raw":..}, {"plug":..} or {"multi":..}
+unfoldable pub form_of : Data → Option Form
+form_of d = do
+  provided (member_count d == 1)
+  only_form (get (codes "raw") d) (get (codes "plug") d) (get (codes "multi") d)
+
+-- the number that a member is, where it is one of 64 bits without a point or an exponent
+abbrev pub number_at : List ℕ → Data → Option ℕ
+number_at name d = get name d >>= as_number >>= as_u64
+
+-- {"version":1,"ring":NODE}
+unfoldable pub ring_of : Data → Option Data
+ring_of d = do
+  provided (member_count d == 2)
+  version ← number_at (codes "version") d
+  provided (version == 1)
+  get (codes "ring") d
+
+-- What the form of a node keeps: no namespace and no name is too long, and a multi-keyring has a member.
+abbrev pub IsFit : Form → Type 0
+IsFit (RawForm namespace name key) = (length namespace ≤ 1024) × (length name ≤ 1024)
+IsFit (PlugForm name) = Unit {0}
+IsFit (MultiForm generator children) = has_node generator children ≡ true

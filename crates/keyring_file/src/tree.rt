@@ -1,0 +1,130 @@
+//! The tree that a JSON keyring file means.
+
+ghost use Rattle.std.specs.Prelude.{◌≡◌, ◌≤◌, true, [], ◌∷◌, is_some, option_map, option_to_list, IfOk};
+ghost use Rattle.serde_json.specs.View.{view, items_view};
+ghost use Rattle.multi_keyring.specs.Nodes.{forest};
+ghost use Rattle.keyring_file.specs.Form.{IsFit, has_node};
+ghost use Rattle.keyring_file.specs.Room.{HasRoom};
+ghost use Rattle.keyring_file.specs.Tree.{tree, formed, multi, optional, row};
+ghost use Rattle.keyring_file.specs.Found.{met, Gives, wraps_of, form_value};
+
+use crate::form::{Form, form_of};
+use crate::key_file::TreeError;
+use crate::walk::Walk;
+use esdk_fields::FileRefusal;
+use keyring_trait::Keyring;
+use multi_keyring::{Multi, Node};
+use serde_json::Value;
+use std::alloc::Global;
+
+impl<P: Keyring> Walk<P> {
+    /// The tree of a node, which may have so many levels. K2 `BadShape` at its number where it has none of the three forms; then K6 `TooDeep` where no level is
+    /// left for it; then the refusals of its form.
+    #[cycle(tree)]
+    pub(crate) fn tree(
+        &mut self,
+        alloc: Global,
+        node: &Value,
+        levels: u32,
+    ) -> Result<Node<P>, TreeError>
+        requires { HasRoom levels (met self.old) }
+        ensures { Gives (λ node. forest (node ∷ [])) result self.new (tree (wraps_of P.meaning) levels (view node.now) (met self.old)) }
+    {
+        self.nodes += 1;
+        let Some(form) = form_of(node) else {
+            return Err(TreeError::File(FileRefusal::BadShape(self.nodes)));
+        };
+        if levels == 0 {
+            return Err(TreeError::File(FileRefusal::TooDeep));
+        }
+        self.formed(alloc, form, levels - 1)
+    }
+
+    /// The tree of a node of this form, which stands at the last number. The nodes below it may have so many levels.
+    #[cycle(tree)]
+    fn formed(&mut self, alloc: Global, form: Form<'_>, levels: u32) -> Result<Node<P>, TreeError>
+        requires room { HasRoom levels (met self.old) }
+        requires low { levels ≤ 7 }
+        requires fit { IsFit (form_value form) }
+        ensures { Gives (λ node. forest (node ∷ [])) result self.new
+            (formed (wraps_of P.meaning) (tree (wraps_of P.meaning) levels) self.old.nodes (form_value form.entry) (met self.old)) }
+    {
+        match form {
+            Form::Raw {
+                namespace,
+                name,
+                key,
+            } => Ok(Node::Raw(self.raw_leaf(alloc, namespace, name, key)?)),
+            Form::Plug(name) => Ok(Node::Handed(self.plug_leaf(alloc, name)?)),
+            Form::Multi {
+                generator,
+                children,
+            } => {
+                let multi = self.multi(alloc, generator, children, levels)?;
+                Ok(Node::Multi(Box::new(alloc, multi)?))
+            }
+        }
+    }
+
+    /// A multi-keyring: its generator, then its children, each with what is below it.
+    #[cycle(tree)]
+    #[tactic(auto, unfolding(crate::specs::Tree::multi))]
+    fn multi(
+        &mut self,
+        alloc: Global,
+        generator: Option<&Value>,
+        children: &[Value],
+        levels: u32,
+    ) -> Result<Multi<P>, TreeError>
+        requires room { HasRoom levels (met self.old) }
+        requires low { levels ≤ 7 }
+        requires member { has_node (option_map (λ node. view node.now) generator) (items_view children.now) ≡ true }
+        ensures { Gives (λ multi. multi) result self.new
+            (multi (tree (wraps_of P.meaning) levels) (option_map (λ node. view node.now) generator.entry) (items_view children.now) (met self.old)) }
+    {
+        let generator = self.optional(alloc, generator, levels)?;
+        let children = self.row(alloc, children, levels)?;
+        match Multi::new(generator, children) {
+            Ok(multi) => Ok(multi),
+            Err(_refusal) => unreachable!(),
+        }
+    }
+
+    /// The tree of a node that may be absent.
+    #[cycle(tree)]
+    fn optional(
+        &mut self,
+        alloc: Global,
+        node: Option<&Value>,
+        levels: u32,
+    ) -> Result<Option<Node<P>>, TreeError>
+        requires { HasRoom levels (met self.old) }
+        ensures gives { Gives (λ node. forest (option_to_list node)) result self.new
+            (optional (tree (wraps_of P.meaning) levels) (option_map (λ node. view node.now) node.entry) (met self.old)) }
+        ensures there { IfOk result (λ found. is_some found ≡ is_some node.entry) }
+    {
+        match node {
+            Some(node) => Ok(Some(self.tree(alloc, node, levels)?)),
+            None => Ok(None),
+        }
+    }
+
+    /// The trees of these nodes, one after the other.
+    #[cycle(tree)]
+    fn row(
+        &mut self,
+        alloc: Global,
+        nodes: &[Value],
+        levels: u32,
+    ) -> Result<Vec<Node<P>>, TreeError>
+        requires { HasRoom levels (met self.old) }
+        ensures { Gives (λ trees. forest trees.items) result self.new (row (tree (wraps_of P.meaning) levels) (items_view nodes.now) (met self.old)) }
+    {
+        let mut trees = Vec::new(alloc);
+        for node in nodes {
+            let tree = self.tree(alloc, node, levels)?;
+            trees.push(tree)?;
+        }
+        Ok(trees)
+    }
+}
