@@ -11,7 +11,5 @@ mod four;
 mod key;
 mod key_schedule;
 mod sbox;
-#[cfg(test)]
-mod tests;
 
 pub use key::Key256;

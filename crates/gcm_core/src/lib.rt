@@ -3,7 +3,7 @@
 //!
 //! A text is enciphered eight blocks at a time and hashed four at a time, piece by piece, so that a piece is still in
 //! the first cache when it is hashed. The functions whose names end in `by_blocks` do the same one block at a time: they
-//! serve the ends of texts, and tests compare with them.
+//! serve the ends of texts.
 //!
 //! Nothing here takes memory or copies the text. The associated data is given as two slices, which count as one text,
 //! so that a caller need not join them. One key must never seal two texts under the same initialization vector.
@@ -15,7 +15,5 @@ mod counter_mode;
 mod masks;
 mod same;
 mod seal;
-#[cfg(test)]
-mod tests;
 
 pub use seal::{open_in_place, seal_in_place};

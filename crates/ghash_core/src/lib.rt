@@ -7,8 +7,6 @@
 mod hasher;
 pub mod laws;
 mod product;
-#[cfg(test)]
-mod tests;
 mod vector;
 
 pub use hasher::Ghash;

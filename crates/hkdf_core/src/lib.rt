@@ -5,8 +5,6 @@
 
 mod hkdf;
 mod hmac;
-#[cfg(test)]
-mod tests;
 
 pub use hkdf::hkdf512;
 pub use hmac::hmac512;

@@ -9,6 +9,3 @@ mod suite;
 pub use keys::{commitment, derived};
 pub use laws::{commitment_bytes, commitment_length, derived_bytes, derived_length};
 pub use suite::{Suite, suite_of};
-
-#[cfg(test)]
-mod tests;

@@ -1,0 +1,129 @@
+//! What each call answers.
+
+use crate::bytes::{blocks_of, sized};
+use crate::shown::{put, put_text};
+use crate::wrong::Wrong;
+use aes_core::Key256;
+use gcm_core::{open_in_place, seal_in_place};
+use ghash_core::Ghash;
+use hkdf_core::{hkdf512, hmac512};
+use suite_table::{Suite, commitment, derived, suite_of};
+
+/// The most bytes of a text or of associated data.
+const MOST: usize = 1_048_576;
+
+/// One block, four or eight, enciphered by the function that takes so many.
+pub fn ecb(out: &mut String, key: &[u8], blocks: &[u8]) -> Result<(), Wrong> {
+    let key = Key256::new(sized(key)?);
+    match blocks_of(blocks)? {
+        [a] => put(out, &key.block(*a)),
+        [a, b, c, d] => put(out, key.blocks4([*a, *b, *c, *d]).as_flattened()),
+        [a, b, c, d, e, f, g, h] => {
+            let eight = key.blocks8([*a, *b, *c, *d, *e, *f, *g, *h]);
+            put(out, eight.as_flattened())
+        }
+        _ => Err(Wrong("neither one block, four nor eight")),
+    }
+}
+
+/// The hash of blocks, taken one by one.
+pub fn ghash(out: &mut String, key: &[u8], blocks: &[u8]) -> Result<(), Wrong> {
+    let mut hash = Ghash::new(*sized(key)?);
+    for block in blocks_of(blocks)? {
+        hash.block(*block);
+    }
+    put(out, &hash.value())
+}
+
+/// The hash of blocks, taken by fours as long as there are four.
+pub fn ghash_by_fours(out: &mut String, key: &[u8], blocks: &[u8]) -> Result<(), Wrong> {
+    let mut hash = Ghash::new(*sized(key)?);
+    let (fours, rest) = blocks_of(blocks)?.as_chunks();
+    for four in fours {
+        hash.four(*four);
+    }
+    for block in rest {
+        hash.block(*block);
+    }
+    put(out, &hash.value())
+}
+
+/// The ciphertext and the tag.
+pub fn seal(
+    out: &mut String,
+    key: &[u8],
+    iv: &[u8],
+    first: &[u8],
+    second: &[u8],
+    text: &[u8],
+) -> Result<(), Wrong> {
+    if first.len() > MOST || second.len() > MOST || text.len() > MOST {
+        return Err(Wrong("too many bytes"));
+    }
+    let (key, iv) = (sized(key)?, sized(iv)?);
+    let mut text = text.to_vec(*out.allocator())?;
+    let tag = seal_in_place(&Key256::new(key), iv, first, second, text.as_mut_slice());
+    put(out, &text)?;
+    put_text(out, " ")?;
+    put(out, &tag)
+}
+
+/// Whether the tag is the right one, and what stands in the text then.
+pub fn open(
+    out: &mut String,
+    key: &[u8],
+    iv: &[u8],
+    first: &[u8],
+    second: &[u8],
+    text: &[u8],
+    tag: &[u8],
+) -> Result<(), Wrong> {
+    if first.len() > MOST || second.len() > MOST || text.len() > MOST {
+        return Err(Wrong("too many bytes"));
+    }
+    let (key, iv, tag) = (sized(key)?, sized(iv)?, sized(tag)?);
+    let mut text = text.to_vec(*out.allocator())?;
+    let key = Key256::new(key);
+    let opened = open_in_place(&key, iv, first, second, text.as_mut_slice(), tag);
+    put_text(out, if opened { "opened " } else { "refused " })?;
+    put(out, &text)
+}
+
+/// The keyed hash of a text.
+pub fn hmac(out: &mut String, key: &[u8], text: &[u8]) -> Result<(), Wrong> {
+    put(out, &hmac512(key, text))
+}
+
+/// As many bytes as `held` has, derived from a key and written over it.
+pub fn hkdf(
+    out: &mut String,
+    key: &[u8],
+    salt: &[u8],
+    info: &[u8],
+    held: &[u8],
+) -> Result<(), Wrong> {
+    if held.len() > 16_320 {
+        return Err(Wrong("too many bytes"));
+    }
+    let mut made = held.to_vec(*out.allocator())?;
+    hkdf512(key, salt, info, made.as_mut_slice());
+    put(out, &made)
+}
+
+/// The key that is derived from a data key and a message id.
+pub fn derived_key(out: &mut String, key: &[u8], id: &[u8]) -> Result<(), Wrong> {
+    let id: &[u8; 32] = sized(id)?;
+    put(out, &derived(Suite::Committing, sized(key)?, id))
+}
+
+/// The commitment to a data key.
+pub fn key_commitment(out: &mut String, key: &[u8], id: &[u8]) -> Result<(), Wrong> {
+    let id: &[u8; 32] = sized(id)?;
+    put(out, &commitment(sized(key)?, id))
+}
+
+/// Whether the suite of an id of two bytes is known.
+pub fn suite(out: &mut String, id: &[u8]) -> Result<(), Wrong> {
+    let known = suite_of(u16::from_be_bytes(*sized(id)?)).is_some();
+    put_text(out, if known { "known" } else { "unknown" })
+}
