@@ -6,7 +6,7 @@ use crate::texts::Text;
 use std::alloc::{AllocError, Global};
 
 /// What is wrong with the bytes of an encryption context.
-#[derive(Clone, Copy, PartialEq, Eq)]
+#[derive(Debug, Clone, Copy, PartialEq, Eq)]
 pub enum ContextFault {
     /// The counts and lengths don't fit the number of bytes.
     Length,

@@ -1,6 +1,6 @@
 //! Laws of the definitions. Each function does nothing: its contract is the law, and its proof is checked with the crate.
 
-ghost use Rattle.std.specs.Prelude.{ℕ, List, ◌^◌};
+ghost use Rattle.std.specs.Prelude.{ℕ, ◌^◌};
 ghost use Rattle.std.specs.Int.{Width, w8, w16, w32, w64};
 ghost use Rattle.esdk_fields.specs.Reading.{Reader, bytes, number, repeat};
 ghost use Rattle.esdk_fields.specs.Sequential.{IsSequential};
@@ -13,10 +13,10 @@ pub fn fields_come_in_order()
     ensures counted { (n count : ℕ) → IsSequential (repeat (bytes n) count) }
 {}
 
-/// What a sequential reader says of some bytes stands whatever follows them, and comes with the last byte that it rests on. Each format states
-/// this for its own reader; here it is stated for the readers of byte strings.
-pub fn judgement_stands()
-    ensures { (read : Reader (List ℕ)) → IsSequential read → JudgesInOrder read }
+/// What a sequential reader says of some bytes stands whatever follows them, and comes with the last byte that it rests on, of whatever type its
+/// values are.
+pub fn judgement_stands<A>()
+    ensures { (read : Reader A) → IsSequential read → JudgesInOrder read }
 {}
 
 /// A number that was written is read back, at each width.

@@ -10,6 +10,7 @@ mod fields;
 mod laws;
 mod refusals;
 mod report;
+mod shown;
 mod stops;
 mod texts;
 
@@ -23,6 +24,3 @@ pub use refusals::{FieldError, FileRefusal, Outside, Refusal};
 pub use report::{fault_text, file_text, outside_text, printed, refusal_text};
 pub use stops::{Stop, refused};
 pub use texts::Text;
-
-#[cfg(test)]
-mod tests;

@@ -88,7 +88,7 @@ impl FileRefusal {
 }
 
 /// What failed outside of the library. Its number is the one on the printed line.
-#[derive(Clone, Copy, PartialEq, Eq)]
+#[derive(Debug, Clone, Copy, PartialEq, Eq)]
 pub enum Outside {
     /// X1: the input couldn't be read.
     SourceFault,
