@@ -1,7 +1,8 @@
 -- What a source, a sink, a shelf and an entropy tell and count at one moment.
-use Rattle.std.specs.Prelude.{ℕ, List, ⊤}
+use Rattle.std.specs.Prelude.{◌≡◌, ◌⊎◌, ℕ, List, true, ⊤}
 use Rattle.std.specs.Prelude.{Option, Some, None}
-use Rattle.esdk_base.specs.Shelf.{Files}
+use Rattle.esdk_fields.specs.Counts.{Rose}
+use Rattle.esdk_base.specs.Shelf.{Files, is_missing}
 
 -- the bytes left, and the counts of bytes given and of faults
 pub record SourceState : Type 0 where
@@ -14,9 +15,10 @@ pub record SinkState : Type 0 where
   pub written : Option (List ℕ)
   pub faults : ℕ
 
--- the files, and the count of faults
+-- the files, and the counts of bytes given and of faults
 pub record ShelfState : Type 0 where
   pub files : Option Files
+  pub given : ℕ
   pub faults : ℕ
 
 -- the bytes to come, and the count of faults
@@ -33,12 +35,16 @@ abbrev pub sink_state : {S : Type 0} → (S → Option (List ℕ)) → (S → �
 sink_state written faults sink = record { written = written sink; faults = faults sink }
 
 -- the state of a shelf that tells and counts so
-abbrev pub shelf_state : {S : Type 0} → (S → Option Files) → (S → ℕ) → S → ShelfState
-shelf_state files faults shelf = record { files = files shelf; faults = faults shelf }
+abbrev pub shelf_state : {S : Type 0} → (S → Option Files) → (S → ℕ) → (S → ℕ) → S → ShelfState
+shelf_state files given faults shelf = record { files = files shelf; given = given shelf; faults = faults shelf }
 
 -- the state of an entropy that tells and counts so
 abbrev pub entropy_state : {S : Type 0} → (S → Option (List ℕ)) → (S → ℕ) → S → EntropyState
 entropy_state to_come faults entropy = record { to_come = to_come entropy; faults = faults entropy }
+
+-- why a file can't be read: the shelf failed, or tells that the name isn't there
+abbrev pub FailsToRead : ShelfState → ShelfState → List ℕ → Type 0
+FailsToRead old new name = Rose old.faults new.faults ⊎ ((is_missing old.files name ≡ true) × (new.faults ≡ old.faults))
 
 -- of bytes that are told
 abbrev pub OnTold : Option (List ℕ) → (List ℕ → Type 0) → Type 0

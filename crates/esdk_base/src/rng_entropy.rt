@@ -55,29 +55,3 @@ impl Entropy for RngEntropy {
         Ok(())
     }
 }
-
-#[cfg(test)]
-mod tests {
-    use super::*;
-    use rand_core::SeedableRng;
-
-    /// The bytes are the key stream of ChaCha20 under the key and nonce of zeros (RFC 8439, appendix A.1).
-    #[test]
-    fn a_seeded_generator_fills_in_turn(rt: HostRuntime) {
-        let mut entropy = RngEntropy::new(Some(ChaCha20Rng::from_seed([0; 32])));
-        let mut out = [0; 8];
-        assert!(rt; entropy.fill(&mut out).is_ok());
-        assert!(rt; out == [0x76, 0xb8, 0xe0, 0xad, 0xa0, 0xf1, 0x3d, 0x90]);
-        assert!(rt; entropy.fill(&mut out).is_ok());
-        assert!(rt; out == [0x40, 0x5d, 0x6a, 0xe5, 0x53, 0x86, 0xbd, 0x28]);
-        assert!(rt; entropy.faults == 0);
-    }
-
-    #[test]
-    fn without_a_generator_each_fill_fails(rt: HostRuntime) {
-        let mut entropy = RngEntropy::new(None);
-        assert!(rt; entropy.fill(&mut [0; 2]).is_err());
-        assert!(rt; entropy.fill(&mut []).is_err());
-        assert!(rt; entropy.faults == 2);
-    }
-}

@@ -56,17 +56,3 @@ impl Clock for SystemClock {
         self.last
     }
 }
-
-#[cfg(test)]
-mod tests {
-    use super::*;
-
-    /// The first second of 2020, as `date` prints it.
-    const START_OF_2020: u64 = 1_577_836_800;
-
-    #[test]
-    fn the_present_is_after_2020(rt: HostRuntime) {
-        let mut clock = SystemClock::new(rt);
-        assert!(rt; clock.now() > START_OF_2020);
-    }
-}

@@ -1,20 +1,31 @@
 -- A file's front that grows piece by piece.
-use Rattle.std.proofs.Common.{◌≡◌, ◌≤◌, ◌<◌, ℕ, List, [], ◌++◌, inl, inr, length, drop, Bool, true, false, Option, Err, refl, ap, subst, sym, arith, ◌∙◌, append-nil, length-append}
+use Rattle.std.proofs.Common.{◌≡◌, ◌≤◌, ◌<◌, ◌+◌, ℕ, List, [], ◌++◌, inl, inr, length, drop, Bool, true, false, Option, Err, refl, ap, subst, sym, arith, ◌∙◌, append-nil, length-append}
+use Rattle.esdk_fields.specs.Counts.{RoseBy}
 use Rattle.esdk_base.specs.Shelf.{Files, Holds, is_missing}
-use Rattle.esdk_base.specs.Streams.{ShelfState}
+use Rattle.esdk_base.specs.Streams.{FailsToRead, ShelfState}
 use Rattle.whole_input.specs.declared.file.FileError.{FileError}
 use Rattle.whole_input.specs.declared.file.FileError.TheVariants.{Shelf, TooLong, Memory}
 use Rattle.whole_input.specs.File.{Adds, FileCause, IsFile, IsFront, IsLong, Piece, most_file}
 
--- Where the shelf tells, these bytes are the file's front; if there are any, the file is there. No read failed.
+-- Where the shelf tells, these bytes are the file's front; if there are any, the file is there. Just so many were given, and no read failed.
 pub record Adding (first now : ShelfState) (name bytes : List ℕ) : Type 0 where
   pub front : IsFront first.files name bytes
   pub there : 0 < length bytes → is_missing first.files name ≡ false
   pub files : now.files ≡ first.files
+  pub given : RoseBy (length bytes) first.given now.given
+  pub most : now.given ≤ first.given + length bytes
   pub faults : now.faults ≡ first.faults
 
+-- no piece yet
 pub adding_none : (first : ShelfState) (name : List ℕ) → Adding first first name []
-adding_none first name = record { front = λ told holds. refl; there = λ some. absurd (omega (arith, some)); files = refl; faults = refl }
+adding_none first name = record {
+  front = λ told holds. refl;
+  there = λ some. absurd (omega (arith, some));
+  files = refl;
+  given = omega arith;
+  most = omega arith;
+  faults = refl;
+}
 
 -- one piece more
 pub adding_more : (first old new : ShelfState) (name before after : List ℕ) (more : Bool) → Adding first old name before → Piece old new name before after more
@@ -23,6 +34,8 @@ adding_more first old new name before after more adding piece stays = record {
   front = let P : Option Files → Type 0 = λ f. IsFront f name before → IsFront f name after in subst P adding.files piece.front adding.front;
   there = λ some. subst (λ f. is_missing f name ≡ false) adding.files piece.there;
   files = stays ∙ adding.files;
+  given = omega (arith, adding.given, piece.given, piece.no_shorter);
+  most = omega (arith, adding.most, piece.given, piece.no_shorter);
   faults = piece.faults ∙ adding.faults;
 }
 
@@ -35,6 +48,8 @@ adding_ends first old new name before after adding piece few = record {
       let ended = subst (λ f. Holds f name told → drop (length before) told ≡ []) adding.files (piece.end refl told) holds in
       adding.front told holds ∙ ap (λ b. before ++ b) ended ∙ append-nil before ∙ sym (piece.same refl);
   few = omega (arith, few, ap length (piece.same refl));
+  given = omega (arith, adding.given, piece.given, piece.no_shorter);
+  most = omega (arith, adding.most, piece.given, piece.no_shorter);
   faults = piece.faults ∙ adding.faults;
 }
 
@@ -43,14 +58,22 @@ pub adding_long : (first now : ShelfState) (name bytes : List ℕ) → Adding fi
 adding_long first now name bytes adding many = record {
   there = adding.there (omega (arith, many));
   many = λ told holds. omega (arith, many, ap length (adding.front told holds), length-append bytes (drop (length bytes) told));
+  given = omega (arith, adding.given, many);
   faults = adding.faults;
 }
 
 -- a read that failed
-pub adding_fails : (first old new : ShelfState) (name before after : List ℕ) (error : FileError) → Adding first old name before
-    → Adds old new name before after (Err error) → FileCause first new name error
-adding_fails first old new name before after Shelf adding (inl rose) = inl (omega (arith, rose, adding.faults))
-adding_fails first old new name before after Shelf adding (inr absent) =
+reading_fails : (first old new : ShelfState) (name before : List ℕ) → Adding first old name before → FailsToRead old new name → FailsToRead first new name
+reading_fails first old new name before adding (inl rose) = inl (omega (arith, rose, adding.faults))
+reading_fails first old new name before adding (inr absent) =
     inr (subst (λ f. is_missing f name ≡ true) adding.files absent.0, absent.1 ∙ adding.faults)
-adding_fails first old new name before after TooLong adding adds = absurd adds
-adding_fails first old new name before after Memory adding adds = tt
+
+-- why the taking fails there
+pub adding_fails : (first old new : ShelfState) (name before after : List ℕ) (error : FileError) → Adding first old name before
+    → length before ≤ most_file → Adds old new name before after (Err error) → FileCause first new name error
+adding_fails first old new name before after Shelf adding few fails = record {
+  cause = reading_fails first old new name before adding fails.0;
+  most = omega (arith, adding.most, few, fails.1);
+}
+adding_fails first old new name before after TooLong adding few adds = absurd adds
+adding_fails first old new name before after Memory adding few adds = tt

@@ -1,8 +1,8 @@
 -- What is taken of a file.
-use Rattle.std.specs.Prelude.{◌≡◌, ◌⊎◌, ℕ, ◌<◌, ◌≤◌, List, ◌++◌, length, [], drop, Bool, true, false, ⊤, Option, Result, Ok, Err}
-use Rattle.esdk_fields.specs.Counts.{Rose}
+use Rattle.std.specs.Prelude.{◌≡◌, ℕ, ◌+◌, ◌-◌, ◌<◌, ◌≤◌, List, ◌++◌, length, [], drop, Bool, true, false, ⊤, Option, Result, Ok, Err}
+use Rattle.esdk_fields.specs.Counts.{RoseBy, counted}
 use Rattle.esdk_base.specs.Shelf.{Files, Holds, is_missing}
-use Rattle.esdk_base.specs.Streams.{ShelfState}
+use Rattle.esdk_base.specs.Streams.{FailsToRead, ShelfState}
 use Rattle.whole_input.specs.declared.file.FileError.{FileError}
 use Rattle.whole_input.specs.declared.file.FileError.TheVariants.{Shelf, TooLong, Memory}
 
@@ -10,22 +10,30 @@ use Rattle.whole_input.specs.declared.file.FileError.TheVariants.{Shelf, TooLong
 abbrev pub most_file : ℕ
 most_file = 1048576
 
--- The file has just these bytes, where the shelf tells; there are at most 1,048,576, and no read failed.
+-- The file has just these bytes, where the shelf tells, and just so many were given; there are at most 1,048,576, and no read failed.
 pub record IsFile (old new : ShelfState) (name bytes : List ℕ) : Type 0 where
   pub there : is_missing old.files name ≡ false
   pub whole : (told : List ℕ) → Holds old.files name told → told ≡ bytes
   pub few : length bytes ≤ most_file
+  pub given : RoseBy (length bytes) old.given new.given
+  pub most : new.given ≤ old.given + length bytes
   pub faults : new.faults ≡ old.faults
 
--- The file has more than 1,048,576 bytes, where the shelf tells, and no read failed.
+-- The file gave more than 1,048,576 bytes, and has more, where the shelf tells; no read failed.
 pub record IsLong (old new : ShelfState) (name : List ℕ) : Type 0 where
   pub there : is_missing old.files name ≡ false
   pub many : (told : List ℕ) → Holds old.files name told → most_file < length told
+  pub given : RoseBy (most_file + 1) old.given new.given
   pub faults : new.faults ≡ old.faults
+
+-- A read failed, before the file gave more than 1,048,576 bytes.
+pub record IsUnread (old new : ShelfState) (name : List ℕ) : Type 0 where
+  pub cause : FailsToRead old new name
+  pub most : new.given ≤ old.given + most_file
 
 -- why a file wasn't taken
 abbrev pub FileCause : ShelfState → ShelfState → List ℕ → FileError → Type 0
-FileCause old new name Shelf = Rose old.faults new.faults ⊎ ((is_missing old.files name ≡ true) × (new.faults ≡ old.faults))
+FileCause old new name Shelf = IsUnread old new name
 FileCause old new name TooLong = IsLong old new name
 FileCause old new name Memory = ⊤
 
@@ -37,14 +45,16 @@ IsFront files name bytes = (told : List ℕ) → Holds files name told → told 
 pub record Piece (old new : ShelfState) (name before after : List ℕ) (more : Bool) : Type 0 where
   pub there : is_missing old.files name ≡ false
   pub front : IsFront old.files name before → IsFront old.files name after
+  pub no_shorter : length before ≤ length after
   pub longer : more ≡ true → length before < length after
   pub same : more ≡ false → after ≡ before
   pub end : more ≡ false → (told : List ℕ) → Holds old.files name told → drop (length before) told ≡ []
+  pub given : new.given ≡ counted old.given (length after - length before)
   pub faults : new.faults ≡ old.faults
 
 -- what adding a piece to a file's front comes to
 abbrev pub Adds : ShelfState → ShelfState → List ℕ → List ℕ → List ℕ → Result Bool FileError → Type 0
 Adds old new name before after (Ok more) = Piece old new name before after more
-Adds old new name before after (Err Shelf) = Rose old.faults new.faults ⊎ ((is_missing old.files name ≡ true) × (new.faults ≡ old.faults))
+Adds old new name before after (Err Shelf) = FailsToRead old new name × (new.given ≡ old.given)
 Adds old new name before after (Err TooLong) = ⊥
 Adds old new name before after (Err Memory) = ⊤

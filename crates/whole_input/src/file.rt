@@ -39,8 +39,8 @@ impl From<AllocError> for FileError {
 /// Takes all bytes of the file that has this name on the shelf, at most 1,048,576. The shelf stays
 /// as it is.
 pub fn take_file<F: Shelf>(alloc: Global, shelf: &mut F, name: &str) -> Result<Blob, FileError>
-    ensures file { IfOk result (λ bytes. IsFile (shelf_state F.files F.faults shelf.old) (shelf_state F.files F.faults shelf.new) name.now bytes) }
-    ensures cause { IfErr result (λ error. FileCause (shelf_state F.files F.faults shelf.old) (shelf_state F.files F.faults shelf.new) name.now error) }
+    ensures file { IfOk result (λ bytes. IsFile (shelf_state F.files F.given F.faults shelf.old) (shelf_state F.files F.given F.faults shelf.new) name.now bytes) }
+    ensures cause { IfErr result (λ error. FileCause (shelf_state F.files F.given F.faults shelf.old) (shelf_state F.files F.given F.faults shelf.new) name.now error) }
     ensures stays { F.files shelf.new ≡ F.files shelf.old }
 {
     let mut buffer = buffer_of(alloc, PIECE)?;
@@ -58,8 +58,8 @@ fn fill<F: Shelf>(
 ) -> Result<(), FileError>
     requires room { 0 < length buffer.old }
     requires empty { bytes.old ≡ [] }
-    ensures file { OnOk result (IsFile (shelf_state F.files F.faults shelf.old) (shelf_state F.files F.faults shelf.new) name.now bytes.new) }
-    ensures cause { IfErr result (λ error. FileCause (shelf_state F.files F.faults shelf.old) (shelf_state F.files F.faults shelf.new) name.now error) }
+    ensures file { OnOk result (IsFile (shelf_state F.files F.given F.faults shelf.old) (shelf_state F.files F.given F.faults shelf.new) name.now bytes.new) }
+    ensures cause { IfErr result (λ error. FileCause (shelf_state F.files F.given F.faults shelf.old) (shelf_state F.files F.given F.faults shelf.new) name.now error) }
     ensures stays { F.files shelf.new ≡ F.files shelf.old }
 {
     while bytes.bytes().len() <= MOST_FILE {
@@ -81,7 +81,7 @@ fn add_piece<F: Shelf>(
     bytes: &mut Blob,
 ) -> Result<bool, FileError>
     requires room { 0 < length buffer.old }
-    ensures adds { Adds (shelf_state F.files F.faults shelf.old) (shelf_state F.files F.faults shelf.new) name.now bytes.old bytes.new result }
+    ensures adds { Adds (shelf_state F.files F.given F.faults shelf.old) (shelf_state F.files F.given F.faults shelf.new) name.now bytes.old bytes.new result }
     ensures stays { F.files shelf.new ≡ F.files shelf.old }
 {
     let Ok(count) = shelf.read_at(name, bytes.bytes().len() as u64, buffer) else {

@@ -7,8 +7,6 @@
 mod buffer;
 mod file;
 mod taken;
-#[cfg(test)]
-mod tests;
 
 pub use file::{FileError, take_file};
 pub use taken::{End, Taken, take_all};

@@ -5,7 +5,7 @@ use Rattle.whole_input.proofs.file.fill.Goals as goal
 
 pub loop-bytes-init : goal.loop-bytes-init
 loop-bytes-init g c =
-    let first = shelf_state g.F.Shelf.files g.F.Shelf.faults c.args.shelf.now in
+    let first = shelf_state g.F.Shelf.files g.F.Shelf.given g.F.Shelf.faults c.args.shelf.now in
     subst (λ b. Adding first first c.args.name.now b) (sym c.requires.empty) (adding_none first c.args.name.now)
 
 pub loop-bytes-preserved : goal.loop-bytes-preserved
@@ -26,7 +26,7 @@ returns-in-Ok-false-clause-file g c =
 pub returns-in-Err-clause-cause : goal.returns-in-Err-clause-cause
 returns-in-Err-clause-cause g c =
     let adds = rw c.in-Err.is at c.add_piece.ensures.adds in
-    adding_fails _ _ _ _ c.loop-bytes.bytes c.add_piece.new.bytes c.in-Err.error c.loop-bytes.invariant adds
+    adding_fails _ _ _ _ c.loop-bytes.bytes c.add_piece.new.bytes c.in-Err.error c.loop-bytes.invariant (omega (arith, c.loop-bytes-test.true, ap length c.bytes.ensures)) adds
 
 pub returns-clause-cause : goal.returns-clause-cause
 returns-clause-cause g c = adding_long _ _ _ c.loop-bytes.bytes c.loop-bytes.invariant (omega (arith, c.loop-bytes-test.false, ap length c.bytes.ensures))
