@@ -19,3 +19,5 @@ pub mod KeyPlaces
 pub mod KeySets
 pub mod JoinedPairs
 pub mod JoinFaults
+pub mod Least
+pub mod Whole

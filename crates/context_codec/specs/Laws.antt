@@ -1,10 +1,14 @@
 -- What the laws of this crate say of contexts and the bytes that spell them.
-use Rattle.std.specs.Prelude.{◌≡◌, ◌↔◌, ◌⊎◌, ℕ, ◌≤◌, List, length, Some, None, Contains}
+use Rattle.std.specs.Prelude.{◌≡◌, ◌↔◌, ◌⊎◌, ℕ, ◌≤◌, Bool, true, false, List, length, Some, None, Contains, find, option_map}
+use Rattle.std.specs.Ordering.{nat_cmp}
+use Rattle.std.specs.declared.cmp.Ordering.TheVariants.{Less}
+use Rattle.std.specs.Cmp.Lexicographic.{slice_cmp}
 use Rattle.esdk_fields.specs.declared.faults.ContextFault.TheVariants.{Length, Utf8, Duplicate}
 use Rattle.esdk_fields.specs.Bytes.{AreBytes}
-use Rattle.context_codec.specs.Context.{KeyValue, ctx_text, IsContext}
+use Rattle.context_codec.specs.Context.{KeyValue, ctx_text, IsAscending, IsContext}
 use Rattle.context_codec.specs.Split.{split, context_fault, SpellsContext}
 use Rattle.context_codec.specs.KeySet.{AreAscendingKeys, with_key}
+use Rattle.context_codec.specs.Parts.{holds, whole_of}
 use Rattle.context_codec.specs.Spelling.{IsSpelling, AreTexts, AreDistinct, IsSpelledContext}
 
 -- bytes that a length field of two bytes can stand before
@@ -59,3 +63,27 @@ HoldsOneMoreKey = (keys : List (List ℕ)) (key other : List ℕ) → Contains (
 -- With one more key the keys of a set still ascend.
 abbrev pub AscendsWithOneMoreKey : Type 0
 AscendsWithOneMoreKey = (keys : List (List ℕ)) (key : List ℕ) → AreAscendingKeys keys → AreAscendingKeys (with_key keys key)
+
+-- The keys ascend, and the pairs are the stored ones and those of the given ones whose keys are not stored.
+pub record IsWhole (stored given whole : List KeyValue) : Type 0 where
+  pub ascending : IsAscending whole
+  pub pairs : (p : KeyValue) → Contains whole p ↔ (Contains stored p ⊎ (Contains given p × (holds stored p.0 ≡ false)))
+
+-- Stored and given pairs are joined to just that.
+abbrev pub JoinsPairs : Type 0
+JoinsPairs = (stored given : List KeyValue) → IsAscending stored → IsAscending given → IsWhole stored given (whole_of stored given)
+
+-- The key fits, and no key below it does.
+pub record IsLeast (Fits : List ℕ → Type 0) (key : List ℕ) : Type 0 where
+  pub fits : Fits key
+  pub least : (other : List ℕ) → Fits other → ¬ (slice_cmp nat_cmp other key ≡ Less)
+
+-- The first key of a set that passes a test is the least that does.
+abbrev pub FindsTheLeastKey : Type 0
+FindsTheLeastKey = (test : List ℕ → Bool) (keys : List (List ℕ)) → AreAscendingKeys keys → (key : List ℕ)
+    → (find test keys ≡ Some key) ↔ IsLeast (λ k. Contains keys k × (test k ≡ true)) key
+
+-- So is the key of the first pair of a context whose key passes it.
+abbrev pub FindsThePairOfTheLeastKey : Type 0
+FindsThePairOfTheLeastKey = (test : List ℕ → Bool) (pairs : List KeyValue) → IsAscending pairs → (key : List ℕ)
+    → (option_map (λ p. p.0) (find (λ p. test p.0) pairs) ≡ Some key) ↔ IsLeast (λ k. (holds pairs k ≡ true) × (test k ≡ true)) key

@@ -1,6 +1,6 @@
 //! The laws of contexts, of the bytes that spell them and of key sets, each a function with an empty body whose contract is the law.
 
-ghost use Rattle.context_codec.specs.Laws.{SplitsSpellings, ReadsSpelledContexts, SpellsSomeContext, SpellsOneContext, TakesTexts, RefusesOtherBytes, RefusesOtherTexts, RefusesDuplicates, ReadsBack, HoldsOneMoreKey, AscendsWithOneMoreKey};
+ghost use Rattle.context_codec.specs.Laws.{SplitsSpellings, ReadsSpelledContexts, SpellsSomeContext, SpellsOneContext, TakesTexts, RefusesOtherBytes, RefusesOtherTexts, RefusesDuplicates, ReadsBack, HoldsOneMoreKey, AscendsWithOneMoreKey, JoinsPairs, FindsTheLeastKey, FindsThePairOfTheLeastKey};
 
 /// The reader splits bytes into pairs exactly where the bytes are the spelling of these pairs: the count and the pairs one after another.
 pub fn spellings_are_split()
@@ -55,4 +55,19 @@ pub fn one_more_key_is_held()
 /// With one more key, at its place, the keys of a set still ascend.
 pub fn one_more_key_keeps_the_order()
     ensures { AscendsWithOneMoreKey }
+{}
+
+/// The whole of stored and given pairs ascends, and holds the stored pairs and the given ones whose keys aren't stored, and no others.
+pub fn stored_and_given_pairs_are_joined()
+    ensures { JoinsPairs }
+{}
+
+/// The first key of a set that passes a test is the least that does. So Q4 names the least required key that the context hasn't.
+pub fn the_least_key_is_found()
+    ensures { FindsTheLeastKey }
+{}
+
+/// The first pair of a context whose key passes a test has the least key that does. So Q1 names the least reserved key.
+pub fn the_pair_of_the_least_key_is_found()
+    ensures { FindsThePairOfTheLeastKey }
 {}

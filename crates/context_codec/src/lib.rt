@@ -27,10 +27,8 @@ pub use laws::{
     duplicate_keys_are_refused, one_context_is_spelled, one_more_key_is_held,
     one_more_key_keeps_the_order, other_bytes_are_refused, other_texts_are_refused,
     spelled_contexts_are_read, spelled_texts_are_taken, spellings_are_split,
-    taken_bytes_spell_a_context, written_contexts_are_read,
+    stored_and_given_pairs_are_joined, taken_bytes_spell_a_context, the_least_key_is_found,
+    the_pair_of_the_least_key_is_found, written_contexts_are_read,
 };
 pub use pair::Pair;
 pub use read::read_field;
-
-#[cfg(test)]
-mod tests;
