@@ -18,6 +18,3 @@ pub use laws::{
 };
 pub use verdicts::Verdict;
 pub use written::{write_body, write_final_frame, write_regular_frame};
-
-#[cfg(test)]
-mod tests;

@@ -13,6 +13,3 @@ pub use laws::{an_entry_is_never_refused, read_entry_is_written, written_entry_i
 pub use raw_infos::{info_parts, raw_info};
 pub use reading::read_entry;
 pub use writing::write_entry;
-
-#[cfg(test)]
-mod tests;

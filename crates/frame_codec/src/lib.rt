@@ -20,6 +20,3 @@ pub use laws::{
 };
 pub use unit_heads::{Head, UnitHead, judge_head, unit_head_of};
 pub use written::{final_head, number_after, regular_head, write_single};
-
-#[cfg(test)]
-mod tests;

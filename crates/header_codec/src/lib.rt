@@ -23,6 +23,3 @@ pub use laws::{
 pub use session::{HeaderReader, HeaderStep};
 pub use settings::Settings;
 pub use written::write_header;
-
-#[cfg(test)]
-mod tests;

@@ -20,6 +20,3 @@ pub use laws::{
     written_messages_are_read, written_messages_are_whole,
 };
 pub use locks::{header_tag, lock_fault};
-
-#[cfg(test)]
-mod tests;
