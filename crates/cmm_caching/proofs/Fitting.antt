@@ -8,6 +8,7 @@ use Rattle.keyring_trait.specs.Wrapping.{WrapKeyValue}
 use Rattle.cmm_caching.specs.Names.{NameValue, enc_name, dec_name}
 use Rattle.cmm_caching.specs.Ask.{GivenValue, HandedValue, enc_given, dec_given, enc_handed, dec_handed}
 use Rattle.cmm_caching.specs.Store.{Store, FitsSeal, FitsUnseal, FitsName, is_past}
+use Rattle.cmm_caching.specs.CachingCmm.{WasGiven, WasFound}
 use Rattle.cmm_caching.proofs.Asking.{same_width}
 
 -- ---- to encrypt
@@ -18,6 +19,10 @@ pub gave_fits : (m : ManagerMeaning) (tells : List WrapKeyValue → Type 0) (Exa
 gave_fits m tells Exact request random made given gives is materials =
     subst (FitsSeal m.wraps (enc_name request)) (sym is)
     (record { context = gives.context; only = refl; required = gives.required; count = gives.count; materials = materials })
+
+-- what the inner manager gave is what it gave last
+pub was_given : (Gave : EncMaterialsValue → Type 0) (made : EncMaterialsValue) (given : GivenValue) → Gave made → given ≡ enc_given made → WasGiven Gave given
+was_given Gave made given gave is = subst (WasGiven Gave) (sym is) (record { way = made.served; last = gave })
 
 -- what fits the request fits its name in the cache, and the other way round
 pub fits_name : (wraps : ℕ) (s : Store) (request : EncRequestValue) (name : NameValue) (given : GivenValue) → is_past wraps s ≡ false → name ≡ enc_name request
@@ -31,6 +36,9 @@ name_fits wraps s request name given within is fits =
     subst (λ (width : ℕ). FitsSeal width (enc_name request) given) (sym (same_width wraps s within)) (subst (λ (n : NameValue). FitsName s.width n given) is fits)
 
 -- ---- to decrypt
+
+pub was_found : (Found : DecMaterialsValue → Type 0) (found : DecMaterialsValue) (given : GivenValue) → Found found → given ≡ dec_given found → WasFound Found given
+was_found Found found given last is = subst (WasFound Found) (sym is) (record { way = found.served; last = last })
 
 pub found_fits_name : (width : ℕ) (request : DecRequestValue) (name : NameValue) (given : GivenValue) → name ≡ dec_name request
     → FitsUnseal (dec_name request) given → FitsName width name given

@@ -1,5 +1,5 @@
 -- What a manager with a cache means before and after a call.
-use Rattle.std.proofs.Common.{◌≡◌, ◌&&◌, List, Option, is_none, Result, Ok, Err, IfOk, MatchResult, refl, sym, subst, ◌∙◌}
+use Rattle.std.proofs.Common.{◌≡◌, ◌&&◌, true, List, Option, None, Some, is_none, Result, Ok, Err, IfOk, MatchResult, refl, sym, subst, ◌∙◌}
 use Rattle.keyring_trait.specs.declared.served.Served.{Served}
 use Rattle.keyring_trait.specs.declared.served.Served.TheVariants.{Direct, New, Hit}
 use Rattle.context_codec.specs.Context.{KeyValue}
@@ -80,6 +80,12 @@ tells_on old new m n told later goes on right = λ keys t. record {
   steady = goes.steady ∙ t.steady;
   right = right keys t;
 }
+
+-- a plain one tells nothing else then
+pub tells_back : (old new : Option Store) (m n : ManagerMeaning) (told later : List WrapKeyValue → Type 0) → ManagerGoes m n → (m.plain ≡ true → TellsOn later told)
+    → (caching_meaning old m).plain ≡ true → TellsOn (CachingTells new n later) (CachingTells old m told)
+tells_back None new m n told later goes back plain = λ keys t. record { told = back plain keys t.told; steady = sym goes.steady ∙ t.steady; right = tt }
+tells_back (Some store) new m n told later goes back plain = absurd cc
 
 pub exact_on : (old new : Option Store) (m n : ManagerMeaning) (Exact Later : Type 0) → ManagerGoes m n → (Exact → Later)
     → (CachingExact old m Exact → Holds (IsExact (unfailing m)) new) → CachingExact old m Exact → CachingExact new n Later

@@ -9,13 +9,13 @@ use Rattle.keyring_trait.specs.Wrapping.{WrapKeyValue}
 use Rattle.cmm_caching.specs.Names.{dec_name}
 use Rattle.cmm_caching.specs.Ask.{State, dec_given, dec_handed, dec_wish}
 use Rattle.cmm_caching.specs.Store.{Store, FitsUnseal, StandsFor}
-use Rattle.cmm_caching.specs.Asked.{AskedWith, AnswersAs, StandsAfter, IsSound, NotHit, limits_of}
+use Rattle.cmm_caching.specs.Asked.{AskedWith, AnswersAs, StandsAfter, IsSound, NotHit, WhereAnswered, WhereKept, limits_of}
 use Rattle.cmm_caching.specs.Holding.{IsRight, IsExact, unfailing}
 use Rattle.cmm_caching.specs.Journal.{BearsWith}
 use Rattle.cmm_caching.specs.CachingCmm.{caching_meaning, CachingTells, CachingExact, GaveToOpen}
 use Rattle.cmm_caching.proofs.Finds.{found_right, found_exact, finds_materials, finds_none}
 use Rattle.cmm_caching.proofs.Meanings.{map_not_hit, map_ok, holds_then, goes_caching, tells_on, exact_on}
-use Rattle.cmm_caching.proofs.Whole.{same_kind, same_limits, none_direct, rights, answers, stands_then, bears_then}
+use Rattle.cmm_caching.proofs.Whole.{same_kind, same_limits, none_direct, rights, answers, stands_then, bears_then, where_answered}
 
 -- nothing that is decrypted goes past the cache for the number of encrypted data keys
 abbrev never : Store → Bool
@@ -84,6 +84,11 @@ module _ (old new : Option Store) (m n : ManagerMeaning) (told : List WrapKeyVal
       → IfErr r (FindsNone (caching_meaning old m) (caching_meaning new n) (CachingTells old m told) (CachingExact old m Exact) request)
   open_cause (Ok found) none = tt
   open_cause (Err e) none = finds_none m n told Exact request old new e none
+
+-- what is so where an entry of the cache answers, is so where one of the state does
+pub open_answered : (P : Type 0) (old : Option Store) (m : ManagerMeaning) (request : DecRequestValue) (now : ℕ) (s : State)
+    → WhereKept (λ _. false) old (dec_wish request) now P → StandsFor m.wraps old s → WhereAnswered (limits_of old) s (dec_wish request) now P
+open_answered P old m request now s kept stands = where_answered (λ _. false) (dec_wish request) now P m.wraps old s (λ c e. refl) kept stands
 
 -- All that is promised of the answer.
 pub record OpenPromises (old new : Option Store) (m n : ManagerMeaning) (told later : List WrapKeyValue → Type 0) (Exact Later : Type 0) (request : DecRequestValue) (now : ℕ)

@@ -9,7 +9,7 @@ use Rattle.keyring_trait.specs.Wrapping.{WrapKeyValue}
 use Rattle.cmm_caching.specs.Names.{enc_name}
 use Rattle.cmm_caching.specs.Ask.{State, enc_given, enc_handed, enc_wish}
 use Rattle.cmm_caching.specs.Store.{Store, FitsSeal, StandsFor, is_past}
-use Rattle.cmm_caching.specs.Asked.{AskedWith, AnswersAs, StandsAfter, IsSound, NotHit, limits_of}
+use Rattle.cmm_caching.specs.Asked.{AskedWith, AnswersAs, StandsAfter, IsSound, NotHit, WhereAnswered, WhereKept, limits_of}
 use Rattle.cmm_caching.specs.Holding.{IsRight, IsExact, unfailing}
 use Rattle.cmm_caching.specs.Journal.{BearsWith}
 use Rattle.cmm_caching.specs.CachingCmm.{caching_meaning, CachingTells, CachingExact, GaveToSeal}
@@ -18,7 +18,7 @@ use Rattle.cmm_caching.proofs.Finds.{gives_none}
 use Rattle.cmm_caching.proofs.Gives.{gave_right, gave_exact, gives_materials}
 use Rattle.cmm_caching.proofs.Meanings.{map_not_hit, map_ok, holds_then, goes_caching, tells_on, exact_on}
 use Rattle.cmm_caching.proofs.Tallies.{not_past}
-use Rattle.cmm_caching.proofs.Whole.{same_kind, same_limits, none_direct, rights, answers, stands_then, bears_then}
+use Rattle.cmm_caching.proofs.Whole.{same_kind, same_limits, none_direct, rights, answers, stands_then, bears_then, where_answered}
 
 module _ (old new : Option Store) (m n : ManagerMeaning) (told later : List WrapKeyValue → Type 0) (Exact Later : Type 0) (request : EncRequestValue) (now : ℕ) (random : List ℕ)
     (r : Result EncMaterialsValue ManagerError) where
@@ -85,6 +85,11 @@ module _ (old new : Option Store) (m n : ManagerMeaning) (told : List WrapKeyVal
       → IfErr r (GivesNone (caching_meaning old m) (caching_meaning new n) (CachingExact old m Exact) request)
   seal_cause (Ok made) none = tt
   seal_cause (Err e) none = gives_none m n Exact request old new e none
+
+-- what is so where an entry of the cache answers, is so where one of the state does
+pub seal_answered : (P : Type 0) (old : Option Store) (m : ManagerMeaning) (request : EncRequestValue) (now : ℕ) (s : State)
+    → WhereKept (is_past m.wraps) old (enc_wish request) now P → StandsFor m.wraps old s → WhereAnswered (limits_of old) s (enc_wish request) now P
+seal_answered P old m request now s kept stands = where_answered (is_past m.wraps) (enc_wish request) now P m.wraps old s (λ c e. not_past m.wraps c s e) kept stands
 
 -- All that is promised of the answer.
 pub record SealPromises (old new : Option Store) (m n : ManagerMeaning) (told later : List WrapKeyValue → Type 0) (Exact Later : Type 0) (request : EncRequestValue) (now : ℕ)

@@ -71,7 +71,7 @@ put_tallied capacity name k e es is = rw (lookup_tallied name es) (by_found (loo
 
 -- ---- what is answered
 
-serving_tallied : (l : LimitsValue) (width : ℕ) (s : State) (w : Wish) (now : ℕ) → kept_for (tallied l width s) w now ≡ option_map tally (serving l s w now)
+pub serving_tallied : (l : LimitsValue) (width : ℕ) (s : State) (w : Wish) (now : ℕ) → kept_for (tallied l width s) w now ≡ option_map tally (serving l s w now)
 serving_tallied l width s w now = rw (lookup_tallied w.name s.entries) (by_found (lookup (name_eq w.name) s.entries))
   where
     by_test : (b : Bool) (e : CacheEntry) → cond b (Some (tally e)) None ≡ option_map tally (cond b (Some e) None)

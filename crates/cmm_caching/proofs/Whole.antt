@@ -1,18 +1,20 @@
 -- With a cache or without: what an answer is, what is true of all entries then, and what the manager bears.
-use Rattle.std.proofs.Common.{◌≡◌, ℕ, Bool, true, false, [], Option, Some, None, is_none, Result, Ok, Err, IfOk, MatchResult, refl, subst, arith}
+use Rattle.std.proofs.Common.{◌≡◌, ℕ, Bool, true, false, cond, List, [], Option, Some, None, is_none, option_map, Result, Ok, Err, IfOk, IfSome, MatchResult, refl, ap, subst, arith, ◌∙◌}
+use Rattle.keyring_trait.specs.declared.journal.JournalLine.{JournalLine}
 use Rattle.keyring_trait.specs.declared.journal.Kind.{Kind}
 use Rattle.keyring_trait.specs.declared.served.Served.{Served}
 use Rattle.keyring_trait.specs.declared.served.Served.TheVariants.{Direct}
 use Rattle.keyring_trait.specs.Manager.{BearsOn}
+use Rattle.cmm_caching.specs.Limits.{LimitsValue}
 use Rattle.cmm_caching.specs.Names.{NameValue}
-use Rattle.cmm_caching.specs.Ask.{GivenValue, HandedValue, State, Wish, is_direct}
-use Rattle.cmm_caching.specs.Store.{Store, StandsFor, tallied}
-use Rattle.cmm_caching.specs.Asked.{AskedWith, AnswersAs, StandsAfter, IsSound, NotHit, limits_of}
+use Rattle.cmm_caching.specs.Ask.{GivenValue, HandedValue, CacheEntry, State, Wish, is_direct, serving}
+use Rattle.cmm_caching.specs.Store.{Store, StandsFor, kept_for, tally, tallied}
+use Rattle.cmm_caching.specs.Asked.{AskedWith, AnswersAs, StandsAfter, IsSound, NotHit, WhereAnswered, WhereKept, limits_of}
 use Rattle.cmm_caching.specs.Holding.{Holds}
-use Rattle.cmm_caching.specs.Journal.{BearsWith}
+use Rattle.cmm_caching.specs.Journal.{BearsWith, KeepsWithin}
 use Rattle.cmm_caching.proofs.Bearing.{IsSized, bears_on, bears_direct_on, bears_none}
 use Rattle.cmm_caching.proofs.Meanings.{RightsOn}
-use Rattle.cmm_caching.proofs.Tallies.{answering, standing}
+use Rattle.cmm_caching.proofs.Tallies.{answering, serving_tallied, standing}
 use Rattle.cmm_caching.proofs.Ways.{right_on, limits_kept}
 
 -- without a cache everything is served directly
@@ -21,6 +23,23 @@ pub none_direct : {M : Type 0} (E : Type 0) (view : M → HandedValue) (past : S
 none_direct E view past w now None None m asked none = asked
 none_direct E view past w now None (Some c) m asked none = absurd asked
 none_direct E view past w now (Some s) new m asked none = absurd cc
+
+module _ (past : Store → Bool) (w : Wish) (now : ℕ) where
+  -- what is so where an entry of the cache answers, is so where one of the state does
+  pub where_answered : (P : Type 0) (width : ℕ) (old : Option Store) (s : State) → ((c : Store) → c ≡ tallied c.limits width s → past c ≡ false)
+      → WhereKept past old w now P → StandsFor width old s → WhereAnswered (limits_of old) s w now P
+  where_answered P width None s within kept stands = tt
+  where_answered P width (Some c) s within kept stands = by_direct (is_direct c.limits w s.next) refl
+    where
+      by_serving : (o : Option CacheEntry) → serving c.limits s w now ≡ o → is_direct c.limits w s.next ≡ false → IfSome o (λ _. P)
+      by_serving None e direct = tt
+      by_serving (Some x) e direct =
+          kept (within c stands) (ap (λ (t : Store). is_direct c.limits w t.next) stands ∙ direct) (tally x)
+          (ap (λ (t : Store). kept_for t w now) stands ∙ serving_tallied c.limits width s w now ∙ ap (option_map tally) e)
+
+      by_direct : (b : Bool) → is_direct c.limits w s.next ≡ b → IfSome (cond b None (serving c.limits s w now)) (λ _. P)
+      by_direct true e = tt
+      by_direct false e = by_serving (serving c.limits s w now) refl e
 
 module _ {M E : Type 0} (view : M → HandedValue) (past : Store → Bool) (w : Wish) (now : ℕ) where
   pub same_kind : (old new : Option Store) (r : Result M E) → AskedWith view past old new w now r → is_none new ≡ is_none old
@@ -76,3 +95,12 @@ module _ {M E : Type 0} (view : M → HandedValue) (past : Store → Bool) (w : 
 pub bears_nothing : (o : Option Store) → BearsWith o []
 bears_nothing None = λ k d within. absurd (omega (arith, within))
 bears_nothing (Some s) = bears_none s
+
+-- what it bears is within the limits
+pub bears_within : (o : Option Store) (lines : List JournalLine) → BearsWith o lines → KeepsWithin (limits_of o) lines
+bears_within None lines direct = direct
+bears_within (Some s) lines bears = bears.within
+
+-- limits that stay aren't widened
+pub within_kept : (old new : Option LimitsValue) (lines : List JournalLine) → new ≡ old → KeepsWithin new lines → KeepsWithin old lines
+within_kept old new lines same within = subst (λ (l : Option LimitsValue). KeepsWithin l lines) same within

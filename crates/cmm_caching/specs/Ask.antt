@@ -110,6 +110,10 @@ kept_if test x = if test x then Some x else None
 abbrev pub serving : LimitsValue → State → Wish → ℕ → Option CacheEntry
 serving l s w now = option_and_then (kept_if (λ e. serves l e.made (length e.uses) (sum e.uses) w.declared now)) (lookup (name_eq w.name) s.entries)
 
+-- the entry that answers the request, where one does
+abbrev pub answering : LimitsValue → State → Wish → ℕ → Option CacheEntry
+answering l s w now = if is_direct l w s.next then None else serving l s w now
+
 -- ---- what is answered
 
 -- the entry of that name goes to the front, as e

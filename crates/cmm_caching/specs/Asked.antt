@@ -1,10 +1,11 @@
 -- What a request to a manager with a cache comes to.
-use Rattle.std.specs.Prelude.{◌≡◌, ℕ, Bool, ⊤, Option, Some, None, Result, MatchResult, IfOk}
+use Rattle.std.specs.Prelude.{◌≡◌, ℕ, Bool, false, ⊤, Option, Some, None, Result, MatchResult, IfOk, IfSome}
 use Rattle.keyring_trait.specs.declared.served.Served.{Served}
 use Rattle.keyring_trait.specs.declared.served.Served.TheVariants.{Direct, New, Hit}
+use Rattle.cmm_caching.specs.declared.kept.Kept.{Kept}
 use Rattle.cmm_caching.specs.Limits.{LimitsValue}
-use Rattle.cmm_caching.specs.Ask.{GivenValue, HandedValue, State, Wish, Step, ask, passed_on}
-use Rattle.cmm_caching.specs.Store.{Store, StoreStep, Sound, StandsFor, ask_kept}
+use Rattle.cmm_caching.specs.Ask.{GivenValue, HandedValue, CacheEntry, State, Wish, Step, answering, ask, is_direct, passed_on}
+use Rattle.cmm_caching.specs.Store.{Store, StoreStep, Sound, StandsFor, ask_kept, kept_for}
 
 abbrev pub store_step : HandedValue → Store → StoreStep
 store_step handed after = record { handed = handed; after = after }
@@ -13,6 +14,20 @@ store_step handed after = record { handed = handed; after = after }
 abbrev pub asked_with : Option LimitsValue → State → Wish → ℕ → GivenValue → Step
 asked_with None s w now got = passed_on s got
 asked_with (Some l) s w now got = ask l s w now got
+
+-- the entry that answers the request, where there is a cache and one does
+abbrev pub answering_with : Option LimitsValue → State → Wish → ℕ → Option CacheEntry
+answering_with None s w now = None
+answering_with (Some l) s w now = answering l s w now
+
+-- P, where an entry of the state answers the request
+abbrev pub WhereAnswered : Option LimitsValue → State → Wish → ℕ → Type 0 → Type 0
+WhereAnswered limits s w now P = IfSome (answering_with limits s w now) (λ _. P)
+
+-- P, where an entry of the cache answers the request
+abbrev pub WhereKept : (Store → Bool) → Option Store → Wish → ℕ → Type 0 → Type 0
+WhereKept past None w now P = ⊤
+WhereKept past (Some s) w now P = past s ≡ false → is_direct s.limits w s.next ≡ false → (k : Kept) → kept_for s w now ≡ Some k → P
 
 abbrev pub limits_of : Option Store → Option LimitsValue
 limits_of None = None

@@ -2,9 +2,11 @@
 use Rattle.std.specs.Prelude.{◌≡◌, ℕ, true, ◌&&◌, List, Option, is_none}
 use Rattle.keyring_trait.specs.declared.served.Served.{Served}
 use Rattle.keyring_trait.specs.Manager.{ManagerMeaning, GivesMaterials, FindsMaterials}
+use Rattle.keyring_trait.specs.Materials.{EncMaterialsValue, DecMaterialsValue}
 use Rattle.keyring_trait.specs.Requests.{EncRequestValue, DecRequestValue}
 use Rattle.keyring_trait.specs.Wrapping.{WrapKeyValue}
-use Rattle.cmm_caching.specs.Ask.{GivenValue, seal_materials, open_materials}
+use Rattle.cmm_caching.specs.Ask.{GivenValue, enc_given, dec_given, seal_materials, open_materials}
+use Rattle.cmm_caching.specs.Asked.{NotHit}
 use Rattle.cmm_caching.specs.Store.{Store}
 use Rattle.cmm_caching.specs.Holding.{Holds, IsRight, IsExact, unfailing}
 
@@ -34,3 +36,20 @@ pub record GaveToSeal (m : ManagerMeaning) (tells : List WrapKeyValue → Type 0
 pub record GaveToOpen (old new : ManagerMeaning) (tells : List WrapKeyValue → Type 0) (Exact : Type 0) (request : DecRequestValue) (given : GivenValue) : Type 0 where
   pub way : Served
   pub gave : FindsMaterials old new tells Exact request (open_materials way given)
+
+-- Such materials to encrypt are the last that the inner manager gave, however it served them; `Gave` says what it gave.
+pub record WasGiven (Gave : EncMaterialsValue → Type 0) (given : GivenValue) : Type 0 where
+  pub way : Served
+  pub last : Gave (seal_materials way given)
+
+-- Such materials to decrypt are the last that the inner manager found; `Found` says what it found.
+pub record WasFound (Found : DecMaterialsValue → Type 0) (given : GivenValue) : Type 0 where
+  pub way : Served
+  pub last : Found (open_materials way given)
+
+-- What wasn't served from an entry is what the inner manager gave last.
+abbrev pub CachingGave : (EncMaterialsValue → Type 0) → EncMaterialsValue → Type 0
+CachingGave Gave made = NotHit made.served (WasGiven Gave (enc_given made))
+
+abbrev pub CachingFound : (DecMaterialsValue → Type 0) → DecMaterialsValue → Type 0
+CachingFound Found found = NotHit found.served (WasFound Found (dec_given found))

@@ -3,13 +3,14 @@
 ghost use Rattle.std.specs.Prelude.{◌≡◌, ◌+◌, ◌*◌, true, List, length, None, Option, IfOk, IfErr};
 ghost use Rattle.keyring_trait.specs.declared.journal.JournalLine.{JournalLine};
 ghost use Rattle.keyring_trait.specs.declared.journal.Kind.TheVariants.{Seal, Unseal};
+ghost use Rattle.keyring_trait.specs.declared.manager_errors.ManagerError.TheVariants.{Memory};
 ghost use Rattle.keyring_trait.specs.Manager.{ManagerGoes, GivesMaterials, GivesNone, FindsMaterials, FindsNone, TellsOn, BearsOn, enc_served, dec_served};
 ghost use Rattle.keyring_trait.specs.Wrapping.{WrapKeyValue};
 ghost use Rattle.cmm_caching.specs.Ask.{State, empty, enc_handed, dec_handed, enc_wish, dec_wish};
 ghost use Rattle.cmm_caching.specs.Store.{StandsFor};
-ghost use Rattle.cmm_caching.specs.Asked.{AnswersAs, StandsAfter, limits_of};
+ghost use Rattle.cmm_caching.specs.Asked.{AnswersAs, StandsAfter, WhereAnswered, limits_of};
 ghost use Rattle.cmm_caching.specs.Journal.{BearsWith, KeepsWithin};
-ghost use Rattle.cmm_caching.specs.CachingCmm.{caching_meaning, CachingTells, CachingExact};
+ghost use Rattle.cmm_caching.specs.CachingCmm.{caching_meaning, CachingTells, CachingExact, CachingGave, CachingFound};
 
 use crate::cache::Cache;
 use crate::limits::CacheLimits;
@@ -20,16 +21,28 @@ use keyring_trait::{
     RingRefusal,
 };
 use std::alloc::{AllocError, Global};
+use std::marker::Model;
 
 /// The materials manager that keeps the materials of another one, and serves the same request from them for a while. Without limits it keeps none.
 ///
 /// The cache is a list of entries, the last used first. An entry has a name, a number from 1 on, the moment when it was made, its materials, and its uses, which are
 /// the encryptions that it gave. Its name is the whole request: to encrypt, the context and the required keys; to decrypt, the suite, the stored pairs, the given
 /// pairs and all encrypted data keys. Names are compared as values.
+///
+/// A contract sees the inner manager, and the cache where there is one.
 #[derive(Drop)]
 pub struct CachingCmm<M> {
     inner: M,
     cache: Option<Cache>,
+}
+
+impl<M> Model for CachingCmm<M> {
+    ghost use Rattle.std.specs.Prelude.{Option};
+    ghost use Rattle.cmm_caching.specs.Store.{Store};
+
+    ghost Value = { M × Option Store };
+
+    ghost view = { λ m. (m.inner, m.cache) };
 }
 
 impl<M: Manager> CachingCmm<M> {
@@ -39,12 +52,12 @@ impl<M: Manager> CachingCmm<M> {
         inner: M,
         limits: Option<CacheLimits>,
     ) -> Result<CachingCmm<M>, AllocError>
-        ensures inner { IfOk result (λ c. c.inner ≡ inner) }
-        ensures limits { IfOk result (λ c. limits_of c.cache ≡ limits) }
-        ensures stands { IfOk result (λ c. StandsFor (M.meaning inner).wraps c.cache empty) }
+        ensures inner { IfOk result (λ c. c.0 ≡ inner) }
+        ensures limits { IfOk result (λ c. limits_of c.1 ≡ limits) }
+        ensures stands { IfOk result (λ c. StandsFor (M.meaning inner).wraps c.1 empty) }
         ensures tells { IfOk result (λ c. (keys : List WrapKeyValue) → M.tells inner keys → (M.meaning inner).steady ≡ true
-            → CachingTells c.cache (M.meaning inner) (M.tells inner) keys) }
-        ensures exact { IfOk result (λ c. M.exact inner → CachingExact c.cache (M.meaning inner) (M.exact inner)) }
+            → CachingTells c.1 (M.meaning inner) (M.tells inner) keys) }
+        ensures exact { IfOk result (λ c. M.exact inner → CachingExact c.1 (M.meaning inner) (M.exact inner)) }
     {
         let cache = match limits {
             Some(limits) => Some(Cache::new(alloc, limits, inner.wraps())?),
@@ -55,7 +68,7 @@ impl<M: Manager> CachingCmm<M> {
 
     /// The inner manager, as it stands.
     pub fn into_inner(self) -> M
-        ensures { result ≡ self.inner }
+        ensures { result ≡ self.0 }
     {
         self.inner
     }
@@ -63,8 +76,8 @@ impl<M: Manager> CachingCmm<M> {
     /// A journal of what this manager served, one line for each answer, is within the limits: no entry served beyond its age, nor for more encryptions or bytes than the
     /// limits say. Without a cache everything was served directly. It has no work to do, and takes no memory.
     pub fn journal_within(&self, lines: &[JournalLine])
-        requires { BearsWith self.now.cache lines.now }
-        ensures { KeepsWithin (limits_of self.now.cache) lines.now }
+        requires { BearsWith self.now.1 lines.now }
+        ensures { KeepsWithin (limits_of self.now.1) lines.now }
     {}
 }
 
@@ -74,19 +87,27 @@ impl<M: Manager> CachingCmm<M> {
 ///
 /// An entry of the request's name serves exactly where the moment is at least the one when it was made, and less than the age later; and, to encrypt, where its uses and
 /// one more are within the limit, and so is the sum of their lengths with this one. It becomes the last used, gains this use, and `Served` is `Hit` with its number.
+/// The inner manager isn't asked then, and nothing but want of memory is an error.
 ///
 /// Else the inner manager is asked, and its materials become a new entry, the last used. An entry of the same name is replaced; else the one that wasn't used for the
 /// longest time drops, where the cache is full. `Served` is `New` with the number.
 ///
 /// What the inner manager refuses is refused. After any error, `Memory` too, the cache is as before.
 impl<M: Manager> Manager for CachingCmm<M> {
-    ghost meaning = { λ m. caching_meaning m.cache (M.meaning m.inner) };
+    ghost meaning = { λ m. caching_meaning m.1 (M.meaning m.0) };
 
-    ghost tells = { λ m keys. CachingTells m.cache (M.meaning m.inner) (M.tells m.inner) keys };
+    ghost tells = { λ m keys. CachingTells m.1 (M.meaning m.0) (M.tells m.0) keys };
 
-    ghost exact = { λ m. CachingExact m.cache (M.meaning m.inner) (M.exact m.inner) };
+    ghost exact = { λ m. CachingExact m.1 (M.meaning m.0) (M.exact m.0) };
 
-    ghost bears = { λ m lines. BearsWith m.cache lines };
+    ghost bears = { λ m lines. BearsWith m.1 lines };
+
+    ghost within = { λ m lines. KeepsWithin (limits_of m.1) lines };
+
+    /// What isn't a hit was given by the inner manager in that call.
+    ghost gave = { λ m request now random. CachingGave (M.gave m.0 request now random) };
+
+    ghost found = { λ m request now. CachingFound (M.found m.0 request now) };
 
     fn wraps(&self) -> u32 {
         self.inner.wraps()
@@ -103,19 +124,27 @@ impl<M: Manager> Manager for CachingCmm<M> {
         now: u64,
         random: &[u8],
     ) -> Result<EncMaterials, ManagerError>
-        requires { length random.now ≡ 32 + 12 * (M.meaning self.old.inner).wraps }
-        ensures goes { ManagerGoes (caching_meaning self.old.cache (M.meaning self.old.inner)) (caching_meaning self.new.cache (M.meaning self.new.inner)) }
-        ensures tells { TellsOn (CachingTells self.old.cache (M.meaning self.old.inner) (M.tells self.old.inner)) (CachingTells self.new.cache (M.meaning self.new.inner) (M.tells self.new.inner)) }
-        ensures exact { CachingExact self.old.cache (M.meaning self.old.inner) (M.exact self.old.inner)
-            → CachingExact self.new.cache (M.meaning self.new.inner) (M.exact self.new.inner) }
-        ensures gives { IfOk result (GivesMaterials (caching_meaning self.old.cache (M.meaning self.old.inner)) (CachingTells self.old.cache (M.meaning self.old.inner) (M.tells self.old.inner)) (CachingExact self.old.cache (M.meaning self.old.inner) (M.exact self.old.inner)) request.now random.now) }
-        ensures cause { IfErr result (GivesNone (caching_meaning self.old.cache (M.meaning self.old.inner)) (caching_meaning self.new.cache (M.meaning self.new.inner)) (CachingExact self.old.cache (M.meaning self.old.inner) (M.exact self.old.inner)) request.now) }
-        ensures bears { BearsOn (BearsWith self.old.cache) (BearsWith self.new.cache) Seal now request.now.declared enc_served result }
-        ensures answers { (s : State) → StandsFor (M.meaning self.old.inner).wraps self.old.cache s
-            → AnswersAs enc_handed (limits_of self.old.cache) s (enc_wish request.now) now result }
-        ensures stands { (s : State) → StandsFor (M.meaning self.old.inner).wraps self.old.cache s
-            → StandsAfter enc_handed (limits_of self.old.cache) (M.meaning self.new.inner).wraps self.new.cache s (enc_wish request.now) now result }
-        ensures limits { limits_of self.new.cache ≡ limits_of self.old.cache }
+        requires { length random.now ≡ 32 + 12 * (M.meaning self.old.0).wraps }
+        ensures goes { ManagerGoes (caching_meaning self.old.1 (M.meaning self.old.0)) (caching_meaning self.new.1 (M.meaning self.new.0)) }
+        ensures tells { TellsOn (CachingTells self.old.1 (M.meaning self.old.0) (M.tells self.old.0)) (CachingTells self.new.1 (M.meaning self.new.0) (M.tells self.new.0)) }
+        ensures same { (caching_meaning self.old.1 (M.meaning self.old.0)).plain ≡ true
+            → TellsOn (CachingTells self.new.1 (M.meaning self.new.0) (M.tells self.new.0)) (CachingTells self.old.1 (M.meaning self.old.0) (M.tells self.old.0)) }
+        ensures exact { CachingExact self.old.1 (M.meaning self.old.0) (M.exact self.old.0)
+            → CachingExact self.new.1 (M.meaning self.new.0) (M.exact self.new.0) }
+        ensures gives { IfOk result (GivesMaterials (caching_meaning self.old.1 (M.meaning self.old.0)) (CachingTells self.old.1 (M.meaning self.old.0) (M.tells self.old.0)) (CachingExact self.old.1 (M.meaning self.old.0) (M.exact self.old.0)) request.now random.now) }
+        ensures cause { IfErr result (GivesNone (caching_meaning self.old.1 (M.meaning self.old.0)) (caching_meaning self.new.1 (M.meaning self.new.0)) (CachingExact self.old.1 (M.meaning self.old.0) (M.exact self.old.0)) request.now) }
+        ensures bears { BearsOn (BearsWith self.old.1) (BearsWith self.new.1) Seal now request.now.declared enc_served result }
+        ensures within { (lines : List JournalLine) → KeepsWithin (limits_of self.new.1) lines → KeepsWithin (limits_of self.old.1) lines }
+        ensures gave { IfOk result (CachingGave (M.gave self.new.0 request.now now random.now)) }
+        ensures answers { (s : State) → StandsFor (M.meaning self.old.0).wraps self.old.1 s
+            → AnswersAs enc_handed (limits_of self.old.1) s (enc_wish request.now) now result }
+        ensures stands { (s : State) → StandsFor (M.meaning self.old.0).wraps self.old.1 s
+            → StandsAfter enc_handed (limits_of self.old.1) (M.meaning self.new.0).wraps self.new.1 s (enc_wish request.now) now result }
+        ensures spares { (s : State) → StandsFor (M.meaning self.old.0).wraps self.old.1 s
+            → WhereAnswered (limits_of self.old.1) s (enc_wish request.now) now (self.new.0 ≡ self.old.0) }
+        ensures certain { (s : State) → StandsFor (M.meaning self.old.0).wraps self.old.1 s
+            → WhereAnswered (limits_of self.old.1) s (enc_wish request.now) now (IfErr result (λ error. error ≡ Memory)) }
+        ensures limits { limits_of self.new.1 ≡ limits_of self.old.1 }
     {
         seal(
             &mut self.cache,
@@ -133,18 +162,26 @@ impl<M: Manager> Manager for CachingCmm<M> {
         request: &DecRequest,
         now: u64,
     ) -> Result<DecMaterials, ManagerError>
-        ensures goes { ManagerGoes (caching_meaning self.old.cache (M.meaning self.old.inner)) (caching_meaning self.new.cache (M.meaning self.new.inner)) }
-        ensures tells { TellsOn (CachingTells self.old.cache (M.meaning self.old.inner) (M.tells self.old.inner)) (CachingTells self.new.cache (M.meaning self.new.inner) (M.tells self.new.inner)) }
-        ensures exact { CachingExact self.old.cache (M.meaning self.old.inner) (M.exact self.old.inner)
-            → CachingExact self.new.cache (M.meaning self.new.inner) (M.exact self.new.inner) }
-        ensures finds { IfOk result (FindsMaterials (caching_meaning self.old.cache (M.meaning self.old.inner)) (caching_meaning self.new.cache (M.meaning self.new.inner)) (CachingTells self.old.cache (M.meaning self.old.inner) (M.tells self.old.inner)) (CachingExact self.old.cache (M.meaning self.old.inner) (M.exact self.old.inner)) request.now) }
-        ensures cause { IfErr result (FindsNone (caching_meaning self.old.cache (M.meaning self.old.inner)) (caching_meaning self.new.cache (M.meaning self.new.inner)) (CachingTells self.old.cache (M.meaning self.old.inner) (M.tells self.old.inner)) (CachingExact self.old.cache (M.meaning self.old.inner) (M.exact self.old.inner)) request.now) }
-        ensures bears { BearsOn (BearsWith self.old.cache) (BearsWith self.new.cache) Unseal now None dec_served result }
-        ensures answers { (s : State) → StandsFor (M.meaning self.old.inner).wraps self.old.cache s
-            → AnswersAs dec_handed (limits_of self.old.cache) s (dec_wish request.now) now result }
-        ensures stands { (s : State) → StandsFor (M.meaning self.old.inner).wraps self.old.cache s
-            → StandsAfter dec_handed (limits_of self.old.cache) (M.meaning self.new.inner).wraps self.new.cache s (dec_wish request.now) now result }
-        ensures limits { limits_of self.new.cache ≡ limits_of self.old.cache }
+        ensures goes { ManagerGoes (caching_meaning self.old.1 (M.meaning self.old.0)) (caching_meaning self.new.1 (M.meaning self.new.0)) }
+        ensures tells { TellsOn (CachingTells self.old.1 (M.meaning self.old.0) (M.tells self.old.0)) (CachingTells self.new.1 (M.meaning self.new.0) (M.tells self.new.0)) }
+        ensures same { (caching_meaning self.old.1 (M.meaning self.old.0)).plain ≡ true
+            → TellsOn (CachingTells self.new.1 (M.meaning self.new.0) (M.tells self.new.0)) (CachingTells self.old.1 (M.meaning self.old.0) (M.tells self.old.0)) }
+        ensures exact { CachingExact self.old.1 (M.meaning self.old.0) (M.exact self.old.0)
+            → CachingExact self.new.1 (M.meaning self.new.0) (M.exact self.new.0) }
+        ensures finds { IfOk result (FindsMaterials (caching_meaning self.old.1 (M.meaning self.old.0)) (caching_meaning self.new.1 (M.meaning self.new.0)) (CachingTells self.old.1 (M.meaning self.old.0) (M.tells self.old.0)) (CachingExact self.old.1 (M.meaning self.old.0) (M.exact self.old.0)) request.now) }
+        ensures cause { IfErr result (FindsNone (caching_meaning self.old.1 (M.meaning self.old.0)) (caching_meaning self.new.1 (M.meaning self.new.0)) (CachingTells self.old.1 (M.meaning self.old.0) (M.tells self.old.0)) (CachingExact self.old.1 (M.meaning self.old.0) (M.exact self.old.0)) request.now) }
+        ensures bears { BearsOn (BearsWith self.old.1) (BearsWith self.new.1) Unseal now None dec_served result }
+        ensures within { (lines : List JournalLine) → KeepsWithin (limits_of self.new.1) lines → KeepsWithin (limits_of self.old.1) lines }
+        ensures found { IfOk result (CachingFound (M.found self.new.0 request.now now)) }
+        ensures answers { (s : State) → StandsFor (M.meaning self.old.0).wraps self.old.1 s
+            → AnswersAs dec_handed (limits_of self.old.1) s (dec_wish request.now) now result }
+        ensures stands { (s : State) → StandsFor (M.meaning self.old.0).wraps self.old.1 s
+            → StandsAfter dec_handed (limits_of self.old.1) (M.meaning self.new.0).wraps self.new.1 s (dec_wish request.now) now result }
+        ensures spares { (s : State) → StandsFor (M.meaning self.old.0).wraps self.old.1 s
+            → WhereAnswered (limits_of self.old.1) s (dec_wish request.now) now (self.new.0 ≡ self.old.0) }
+        ensures certain { (s : State) → StandsFor (M.meaning self.old.0).wraps self.old.1 s
+            → WhereAnswered (limits_of self.old.1) s (dec_wish request.now) now (IfErr result (λ error. error ≡ Memory)) }
+        ensures limits { limits_of self.new.1 ≡ limits_of self.old.1 }
     {
         open(&mut self.cache, &mut self.inner, alloc, request, now)
     }

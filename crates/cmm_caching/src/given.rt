@@ -29,18 +29,19 @@ impl Model for Given {
 }
 
 impl Given {
-    /// A copy of materials to encrypt. Fails only where memory runs out.
-    pub(crate) fn of_sealing(alloc: Global, materials: &EncMaterials) -> Result<Given, AllocError>
-        ensures given { IfOk result (λ g. g ≡ enc_given materials.now) }
-        ensures materials { AreEncMaterials materials.now.context materials.now.required materials.now.entries }
+    /// Materials to encrypt. Takes no memory.
+    pub(crate) fn of_sealing(alloc: Global, materials: EncMaterials) -> Given
+        ensures given { result ≡ enc_given materials }
+        ensures materials { AreEncMaterials materials.context materials.required materials.entries }
     {
-        Ok(Given {
-            context: materials.context().copy(alloc)?,
+        let (context, required, key, entries) = materials.into_parts();
+        Given {
+            context,
             only: Context::new(alloc),
-            required: materials.required().copy(alloc)?,
-            key: *materials.key(),
-            entries: copied(alloc, materials.entries())?,
-        })
+            required,
+            key,
+            entries,
+        }
     }
 
     /// Materials to decrypt. Takes no memory.

@@ -18,6 +18,3 @@ mod sealing;
 pub use caching_cmm::CachingCmm;
 pub use laws::{hits_give_what_was_made, names_are_compared_as_values};
 pub use limits::CacheLimits;
-
-#[cfg(test)]
-mod tests;

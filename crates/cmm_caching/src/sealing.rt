@@ -1,13 +1,14 @@
 //! Materials to encrypt: those of the inner manager, or those of the cache's entries.
 
 ghost use Rattle.std.specs.Prelude.{◌≡◌, ◌+◌, ◌*◌, true, false, Some, None, length, IfOk, IfErr};
+ghost use Rattle.keyring_trait.specs.declared.manager_errors.ManagerError.TheVariants.{Memory};
 ghost use Rattle.keyring_trait.specs.declared.served.Served.TheVariants.{Direct};
 ghost use Rattle.keyring_trait.specs.Manager.{ManagerGoes, GivesMaterials, GivesNone, TellsOn};
 ghost use Rattle.cmm_caching.specs.Names.{enc_name};
 ghost use Rattle.cmm_caching.specs.Ask.{enc_given, enc_handed, enc_wish, is_direct};
 ghost use Rattle.cmm_caching.specs.Store.{FitsSeal, Sound, is_past, kept_for};
-ghost use Rattle.cmm_caching.specs.Asked.{Asked, AskedWith, IsSound, NotHit};
-ghost use Rattle.cmm_caching.specs.CachingCmm.{GaveToSeal};
+ghost use Rattle.cmm_caching.specs.Asked.{Asked, AskedWith, IsSound, NotHit, WhereKept};
+ghost use Rattle.cmm_caching.specs.CachingCmm.{GaveToSeal, WasGiven, CachingGave};
 
 use crate::cache::Cache;
 use crate::given::Given;
@@ -26,13 +27,15 @@ fn ask_to_seal<M: Manager>(
     requires { length random.now ≡ 32 + 12 * (M.meaning inner.old).wraps }
     ensures goes { ManagerGoes (M.meaning inner.old) (M.meaning inner.new) }
     ensures tells { TellsOn (M.tells inner.old) (M.tells inner.new) }
+    ensures same { (M.meaning inner.old).plain ≡ true → TellsOn (M.tells inner.new) (M.tells inner.old) }
     ensures exact { M.exact inner.old → M.exact inner.new }
     ensures cause { IfErr result (GivesNone (M.meaning inner.old) (M.meaning inner.new) (M.exact inner.old) request.now) }
     ensures fits { IfOk result (FitsSeal (M.meaning inner.old).wraps (enc_name request.now)) }
     ensures got { IfOk result (GaveToSeal (M.meaning inner.old) (M.tells inner.old) (M.exact inner.old) request.now random.now) }
+    ensures last { IfOk result (WasGiven (M.gave inner.new request.now now random.now)) }
 {
     let made = inner.for_encryption(alloc, request, now, random)?;
-    Ok(Given::of_sealing(alloc, &made)?)
+    Ok(Given::of_sealing(alloc, made))
 }
 
 /// What the inner manager gives, served directly.
@@ -46,11 +49,13 @@ fn seal_directly<M: Manager>(
     requires { length random.now ≡ 32 + 12 * (M.meaning inner.old).wraps }
     ensures goes { ManagerGoes (M.meaning inner.old) (M.meaning inner.new) }
     ensures tells { TellsOn (M.tells inner.old) (M.tells inner.new) }
+    ensures same { (M.meaning inner.old).plain ≡ true → TellsOn (M.tells inner.new) (M.tells inner.old) }
     ensures exact { M.exact inner.old → M.exact inner.new }
     ensures cause { IfErr result (GivesNone (M.meaning inner.old) (M.meaning inner.new) (M.exact inner.old) request.now) }
     ensures direct { IfOk result (λ m. m.served ≡ Direct) }
     ensures fits { IfOk result (λ m. FitsSeal (M.meaning inner.old).wraps (enc_name request.now) (enc_given m)) }
     ensures got { IfOk result (λ m. GaveToSeal (M.meaning inner.old) (M.tells inner.old) (M.exact inner.old) request.now random.now (enc_given m)) }
+    ensures last { IfOk result (λ m. WasGiven (M.gave inner.new request.now now random.now) (enc_given m)) }
 {
     let given = ask_to_seal(inner, alloc, request, now, random)?;
     Ok(given.into_sealing(Served::Direct))
@@ -73,11 +78,13 @@ fn seal_new<M: Manager>(
     requires missing { kept_for cache.old (enc_wish request.now) now ≡ None }
     ensures goes { ManagerGoes (M.meaning inner.old) (M.meaning inner.new) }
     ensures tells { TellsOn (M.tells inner.old) (M.tells inner.new) }
+    ensures same { (M.meaning inner.old).plain ≡ true → TellsOn (M.tells inner.new) (M.tells inner.old) }
     ensures exact { M.exact inner.old → M.exact inner.new }
     ensures cause { IfErr result (GivesNone (M.meaning inner.old) (M.meaning inner.new) (M.exact inner.old) request.now) }
     ensures asked { Asked enc_handed (is_past (M.meaning inner.old).wraps cache.old) cache.old cache.new (enc_wish request.now) now result }
     ensures fits { IfOk result (λ m. FitsSeal (M.meaning inner.old).wraps (enc_name request.now) (enc_given m)) }
     ensures got { IfOk result (λ m. NotHit m.served (GaveToSeal (M.meaning inner.old) (M.tells inner.old) (M.exact inner.old) request.now random.now (enc_given m))) }
+    ensures last { IfOk result (CachingGave (M.gave inner.new request.now now random.now)) }
 {
     let given = ask_to_seal(inner, alloc, request, now, random)?;
     let number = cache.keep(name, request.declared(), now, given.copy(alloc)?)?;
@@ -98,11 +105,15 @@ fn seal_through<M: Manager>(
     requires kept { is_direct cache.old.limits (enc_wish request.now) cache.old.next ≡ false }
     ensures goes { ManagerGoes (M.meaning inner.old) (M.meaning inner.new) }
     ensures tells { TellsOn (M.tells inner.old) (M.tells inner.new) }
+    ensures same { (M.meaning inner.old).plain ≡ true → TellsOn (M.tells inner.new) (M.tells inner.old) }
     ensures exact { M.exact inner.old → M.exact inner.new }
     ensures cause { IfErr result (GivesNone (M.meaning inner.old) (M.meaning inner.new) (M.exact inner.old) request.now) }
     ensures asked { Asked enc_handed (is_past (M.meaning inner.old).wraps cache.old) cache.old cache.new (enc_wish request.now) now result }
     ensures fits { IfOk result (λ m. FitsSeal (M.meaning inner.old).wraps (enc_name request.now) (enc_given m)) }
     ensures got { IfOk result (λ m. NotHit m.served (GaveToSeal (M.meaning inner.old) (M.tells inner.old) (M.exact inner.old) request.now random.now (enc_given m))) }
+    ensures last { IfOk result (CachingGave (M.gave inner.new request.now now random.now)) }
+    ensures spares { WhereKept (is_past (M.meaning inner.old).wraps) (Some cache.old) (enc_wish request.now) now (inner.new ≡ inner.old) }
+    ensures certain { WhereKept (is_past (M.meaning inner.old).wraps) (Some cache.old) (enc_wish request.now) now (IfErr result (λ error. error ≡ Memory)) }
 {
     unasked(inner);
     let name = Name::to_encrypt(alloc, request)?;
@@ -124,12 +135,16 @@ fn seal_kept<M: Manager>(
     requires { length random.now ≡ 32 + 12 * (M.meaning inner.old).wraps }
     ensures goes { ManagerGoes (M.meaning inner.old) (M.meaning inner.new) }
     ensures tells { TellsOn (M.tells inner.old) (M.tells inner.new) }
+    ensures same { (M.meaning inner.old).plain ≡ true → TellsOn (M.tells inner.new) (M.tells inner.old) }
     ensures exact { M.exact inner.old → M.exact inner.new }
     ensures cause { IfErr result (GivesNone (M.meaning inner.old) (M.meaning inner.new) (M.exact inner.old) request.now) }
     ensures asked { Asked enc_handed (is_past (M.meaning inner.old).wraps cache.old) cache.old cache.new (enc_wish request.now) now result }
     ensures fits { IfOk result (λ m. FitsSeal (M.meaning inner.old).wraps (enc_name request.now) (enc_given m)) }
     ensures got { IfOk result (λ m. NotHit m.served (GaveToSeal (M.meaning inner.old) (M.tells inner.old) (M.exact inner.old) request.now random.now (enc_given m))) }
+    ensures last { IfOk result (CachingGave (M.gave inner.new request.now now random.now)) }
     ensures sound { Sound cache.old }
+    ensures spares { WhereKept (is_past (M.meaning inner.old).wraps) (Some cache.old) (enc_wish request.now) now (inner.new ≡ inner.old) }
+    ensures certain { WhereKept (is_past (M.meaning inner.old).wraps) (Some cache.old) (enc_wish request.now) now (IfErr result (λ error. error ≡ Memory)) }
 {
     let wraps = unasked(inner);
     if cache.is_past(wraps) {
@@ -153,13 +168,17 @@ pub(crate) fn seal<M: Manager>(
     requires { length random.now ≡ 32 + 12 * (M.meaning inner.old).wraps }
     ensures goes { ManagerGoes (M.meaning inner.old) (M.meaning inner.new) }
     ensures tells { TellsOn (M.tells inner.old) (M.tells inner.new) }
+    ensures same { (M.meaning inner.old).plain ≡ true → TellsOn (M.tells inner.new) (M.tells inner.old) }
     ensures exact { M.exact inner.old → M.exact inner.new }
     ensures cause { IfErr result (GivesNone (M.meaning inner.old) (M.meaning inner.new) (M.exact inner.old) request.now) }
     ensures asked { AskedWith enc_handed (is_past (M.meaning inner.old).wraps) cache.old cache.new (enc_wish request.now) now result }
     ensures fits { IfOk result (λ m. FitsSeal (M.meaning inner.old).wraps (enc_name request.now) (enc_given m)) }
     ensures got { IfOk result (λ m. NotHit m.served (GaveToSeal (M.meaning inner.old) (M.tells inner.old) (M.exact inner.old) request.now random.now (enc_given m))) }
+    ensures last { IfOk result (CachingGave (M.gave inner.new request.now now random.now)) }
     ensures plain { (M.meaning inner.old).plain ≡ true → (M.meaning inner.old).fresh ≡ true }
     ensures sound { IsSound cache.old }
+    ensures spares { WhereKept (is_past (M.meaning inner.old).wraps) cache.old (enc_wish request.now) now (inner.new ≡ inner.old) }
+    ensures certain { WhereKept (is_past (M.meaning inner.old).wraps) cache.old (enc_wish request.now) now (IfErr result (λ error. error ≡ Memory)) }
 {
     unasked(inner);
     match cache {

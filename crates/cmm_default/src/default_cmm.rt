@@ -52,6 +52,13 @@ impl<K: Keyring> Manager for DefaultCmm<K> {
 
     ghost bears = { λ _ lines. AllDirect lines };
 
+    ghost within = { λ _ lines. AllDirect lines };
+
+    /// It keeps nothing, so that each answer rests on its call alone.
+    ghost gave = { λ _ _ _ _ _. Unit };
+
+    ghost found = { λ _ _ _ _. Unit };
+
     fn wraps(&self) -> u32 {
         self.ring.wraps()
     }

@@ -41,6 +41,12 @@ impl<M: Manager> Manager for Handed<M> {
 
     ghost bears = { M.bears };
 
+    ghost within = { M.within };
+
+    ghost gave = { M.gave };
+
+    ghost found = { M.found };
+
     fn wraps(&self) -> u32 {
         self.manager.wraps()
     }

@@ -10,6 +10,3 @@ mod handed_cmm;
 
 pub use default_cmm::DefaultCmm;
 pub use handed_cmm::{Handed, HandedCmm};
-
-#[cfg(test)]
-mod tests;

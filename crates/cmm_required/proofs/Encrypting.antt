@@ -1,7 +1,7 @@
 -- What a request to encrypt comes to, from what the inner manager answers to the request with the keys added.
 use Rattle.std.proofs.Common.{◌≡◌, ℕ, true, List, [], Option, Some, None, refl, sym, subst, ◌∙◌}
 use Rattle.std.specs.Prelude.{All, Contains, find, not, option_map, Result, Ok, Err, IfOk, IfErr}
-use Rattle.std.proofs.lemmas.Bool.{or_left}
+use Rattle.std.proofs.lemmas.Bool.{or_left, or_right}
 use Rattle.std.proofs.lemmas.List.Elements.{All-contains, All-contains_itself, All-weaker}
 use Rattle.esdk_fields.specs.declared.refusals.Refusal.{Refusal}
 use Rattle.esdk_fields.specs.declared.refusals.Refusal.TheVariants as refusals
@@ -15,7 +15,7 @@ use Rattle.keyring_trait.specs.Manager.{ManagerMeaning, GivesMaterials, GivesNon
 use Rattle.keyring_trait.specs.Materials.{EncMaterialsValue}
 use Rattle.keyring_trait.specs.Requests.{EncRequestValue, required_absent}
 use Rattle.keyring_trait.specs.Wrapping.{WrapKeyValue}
-use Rattle.cmm_required.specs.RequiredCmm.{required_meaning}
+use Rattle.cmm_required.specs.RequiredCmm.{required_meaning, requiring}
 use Rattle.cmm_required.proofs.Absent.{found_absent}
 
 -- ---- what is refused
@@ -54,9 +54,23 @@ refuses_absent keys inner exact context refusal absent =
 
 -- ---- what the inner manager answers
 
--- the request that the inner manager is asked
-abbrev requiring : List (List ℕ) → EncRequestValue → EncRequestValue
-requiring keys request = record request { required = with_keys request.required keys }
+-- each of these keys is among those that were asked for
+own_asked : (keys : List (List ℕ)) (request : EncRequestValue) (required : List (List ℕ)) → All (λ j. has required j ≡ true) (with_keys request.required keys) → All (λ key. has required key ≡ true) keys
+own_asked keys request required all =
+    All-weaker (Contains keys) (λ key. has required key ≡ true)
+    (λ key listed.
+    All-contains (λ j. has required j ≡ true) (with_keys request.required keys) key all
+    (Contains-from_has (with_keys request.required keys) key
+    (has-with_keys request.required keys key ∙ or_right (has request.required key) (has keys key) (has-from_Contains keys key listed))))
+    keys (All-contains_itself keys)
+
+-- all keys of its own are required
+pub requires_own : (keys : List (List ℕ)) (inner : ManagerMeaning) (tells : List WrapKeyValue → Type 0) (exact : Type 0) (request asked : EncRequestValue) (random : List ℕ) (result : Result EncMaterialsValue ManagerError)
+    → asked ≡ requiring keys request → IfOk result (GivesMaterials inner tells exact asked random) → IfOk result (λ made. All (λ key. has made.required key ≡ true) keys)
+requires_own keys inner tells exact request asked random (Err e) is h = tt
+requires_own keys inner tells exact request asked random (Ok made) is h =
+    let given : GivesMaterials inner tells exact (requiring keys request) random made = subst (λ (a : EncRequestValue). GivesMaterials inner tells exact a random made) is h in
+    own_asked keys request made.required given.required
 
 pub gives_required : (keys : List (List ℕ)) (inner : ManagerMeaning) (tells : List WrapKeyValue → Type 0) (exact : Type 0) (request asked : EncRequestValue) (random : List ℕ) (result : Result EncMaterialsValue ManagerError)
     → asked ≡ requiring keys request → required_absent request.context keys ≡ None

@@ -6,6 +6,3 @@
 mod required_cmm;
 
 pub use required_cmm::RequiredCmm;
-
-#[cfg(test)]
-mod tests;

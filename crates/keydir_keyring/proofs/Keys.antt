@@ -6,7 +6,8 @@ use Rattle.std.specs.FinMap.{get}
 use Rattle.std.proofs.lemmas.List.{length-take-le, length-take, take_all}
 use Rattle.std.proofs.lemmas.Bool.Decides.{eqb_tells}
 use Rattle.esdk_base.specs.Shelf.{Files, HasCauseOrMissing, is_missing}
-use Rattle.keydir_keyring.specs.Reading.{IsFront, ReadsKey, key_in, told_key}
+use Rattle.esdk_base.specs.Streams.{ShelfState}
+use Rattle.keydir_keyring.specs.Reading.{Gave, IsFront, IsNoKey, ReadsKey, key_in, told_key}
 
 -- bytes that are a key, and bytes that are none
 key_in_is : (bytes : List ℕ) → length bytes ≡ 32 → key_in bytes ≡ Some bytes
@@ -40,7 +41,7 @@ other_length (Some bytes) room n long fits other front whole =
     let full_n : n ≤ length bytes = omega (arith, same, full, length-take n bytes) in
     other (sym (whole (omega (arith, full_n, is, long)) bytes refl) ∙ is))
 
-pub none_is_told : (told : Option Files) (file room : List ℕ) (n : ℕ) → length room ≡ 33 → n ≢ 32 → IsFront told file room n → told_key told file ≡ None
+none_is_told : (told : Option Files) (file room : List ℕ) (n : ℕ) → length room ≡ 33 → n ≢ 32 → IsFront told file room n → told_key told file ≡ None
 none_is_told None file room n long other front = refl
 none_is_told (Some files) file room n long other front =
     other_length (get files file) room n long (omega (arith, front.filled.fits, long)) other front.filled.front front.whole
@@ -55,10 +56,17 @@ pub is_there : {T E : Type 0} (told : Option Files) (file : List ℕ) (old new :
 is_there told file old new x cause = there_by (is_missing told file) old new x cause
 
 -- what 32 bytes with room behind them come to
-pub key_read : {E : Type 0} (told : Option Files) (file room key : List ℕ) (n old new : ℕ) → length room ≡ 33 → n ≡ 32 → IsFront told file room n
-    → HasCauseOrMissing {T = ℕ} {E = E} (is_missing told file) old new (Ok n) → key ≡ take 32 room → ReadsKey told file old new (Some key)
-key_read told file room key n old new long whole front cause is =
-    let front_32 : IsFront told file room 32 = subst (λ (n : ℕ). IsFront told file room n) whole front in (
-      cause.same,
-      subst (λ (k : List ℕ). IfSome told (λ _. told_key told file ≡ Some k)) (sym is) (key_is_told told file room long (is_there told file old new n cause) front_32),
-    )
+pub key_read : {E : Type 0} (old new : ShelfState) (file room key : List ℕ) (n : ℕ) → length room ≡ 33 → n ≡ 32 → IsFront old.files file room n → Gave old new n
+    → HasCauseOrMissing {T = ℕ} {E = E} (is_missing old.files file) old.faults new.faults (Ok n) → key ≡ take 32 room → ReadsKey old new file (Some key)
+key_read old new file room key n long whole front gave cause is =
+    let front_32 : IsFront old.files file room 32 = subst (λ (n : ℕ). IsFront old.files file room n) whole front in
+    record {
+      gave = subst (λ (n : ℕ). Gave old new n) whole gave;
+      told =
+          subst (λ (k : List ℕ). IfSome old.files (λ _. told_key old.files file ≡ Some k)) (sym is)
+          (key_is_told old.files file room long (is_there old.files file old.faults new.faults n cause) front_32);
+    }
+
+-- and more or fewer
+pub none_read : (old new : ShelfState) (file room : List ℕ) (n : ℕ) → length room ≡ 33 → n ≢ 32 → IsFront old.files file room n → Gave old new n → IsNoKey old new file
+none_read old new file room n long other front gave = record { count = n; other = other; gave = gave; none = none_is_told old.files file room n long other front }

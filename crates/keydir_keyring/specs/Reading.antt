@@ -1,8 +1,9 @@
 -- What is read of a file that holds a key.
-use Rattle.std.specs.Prelude.{◌≡◌, ◌⊎◌, ℕ, ◌<◌, ◌≤◌, ◌==◌, List, length, take, Option, Some, None, IfSome, if◌then◌else◌}
+use Rattle.std.specs.Prelude.{◌≡◌, ◌≢◌, ◌⊎◌, ℕ, ◌+◌, ◌<◌, ◌≤◌, ◌==◌, List, length, take, Option, Some, None, IfSome, if◌then◌else◌}
 use Rattle.std.specs.Option.{option_and_then}
-use Rattle.esdk_fields.specs.Counts.{Rose}
+use Rattle.esdk_fields.specs.Counts.{RoseBy}
 use Rattle.esdk_base.specs.Shelf.{Files, file_of, Holds}
+use Rattle.esdk_base.specs.Streams.{FailsToRead, ShelfState}
 
 -- the bytes, where there are just 32
 abbrev pub key_in : List ℕ → Option (List ℕ)
@@ -22,7 +23,29 @@ pub record IsFront (told : Option Files) (file room : List ℕ) (n : ℕ) : Type
   pub filled : IsFilled told file room n
   pub whole : n < length room → (bytes : List ℕ) → Holds told file bytes → length bytes ≡ n
 
--- what reading the key comes to: the file's 32 bytes, where the files are told, and no read failed; or none, only where a read failed or no key is told
-abbrev pub ReadsKey : Option Files → List ℕ → ℕ → ℕ → Option (List ℕ) → Type 0
-ReadsKey told file old new (Some key) = (new ≡ old) × IfSome told (λ _. told_key told file ≡ Some key)
-ReadsKey told file old new None = Rose old new ⊎ (told_key told file ≡ None)
+-- The shelf gave just so many bytes, and no read failed.
+pub record Gave (old new : ShelfState) (n : ℕ) : Type 0 where
+  pub given : RoseBy n old.given new.given
+  pub most : new.given ≤ old.given + n
+  pub faults : new.faults ≡ old.faults
+
+-- The file gave just 32 bytes, and these are all that it has, where the files are told.
+pub record IsKey (old new : ShelfState) (file key : List ℕ) : Type 0 where
+  pub gave : Gave old new 32
+  pub told : IfSome old.files (λ _. told_key old.files file ≡ Some key)
+
+-- The file gave more or fewer than 32 bytes, and no key is told.
+pub record IsNoKey (old new : ShelfState) (file : List ℕ) : Type 0 where
+  pub count : ℕ
+  pub other : count ≢ 32
+  pub gave : Gave old new count
+  pub none : told_key old.files file ≡ None
+
+-- why there is no key: a read failed, or the file has more or fewer than 32 bytes
+abbrev pub HasNoKey : ShelfState → ShelfState → List ℕ → Type 0
+HasNoKey old new file = FailsToRead old new file ⊎ IsNoKey old new file
+
+-- what reading the key comes to
+abbrev pub ReadsKey : ShelfState → ShelfState → List ℕ → Option (List ℕ) → Type 0
+ReadsKey old new file (Some key) = IsKey old new file key
+ReadsKey old new file None = HasNoKey old new file

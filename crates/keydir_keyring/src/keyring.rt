@@ -2,6 +2,7 @@
 
 ghost use Rattle.std.specs.Prelude.{◌≡◌, ◌∷◌, [], None, length, is_some, IfOk, IfErr, IfSome, OnOk};
 ghost use Rattle.std.specs.Option.{option_copied};
+ghost use Rattle.esdk_base.specs.Streams.{shelf_state};
 ghost use Rattle.keyring_trait.specs.Keyring.{KeyringGoes, Opens, UnwrapCause, WrapCause, Wraps, refusal_with, wanted};
 ghost use Rattle.keydir_keyring.specs.Answers.{Answers, Keeps};
 ghost use Rattle.keydir_keyring.specs.Keydir.{keydir_meaning};
@@ -18,7 +19,7 @@ use std::alloc::Global;
 /// Reads the file at each of its two calls, and then does what a raw AES keyring of its 32 bytes does. It makes one entry and refuses nothing.
 ///
 /// `KeyringFault` comes wherever a read of the file failed, and wherever the file doesn't have just 32 bytes; only where the shelf's count of faults rose in
-/// the call, or the file isn't there or doesn't have 32 bytes. It raises the keyring's own count. `Memory` comes only where there was a key to read.
+/// the call, or the file isn't there, or gave more or fewer than 32 bytes. It raises the keyring's own count. `Memory` comes only where there was a key to read.
 /// The shelf's files stay as they are.
 impl<S: Shelf + Drop> Keyring for KeydirKeyring<S> {
     ghost meaning = { λ k. keydir_meaning S.files k };
@@ -43,8 +44,8 @@ impl<S: Shelf + Drop> Keyring for KeydirKeyring<S> {
         ensures wraps { IfOk result (Wraps (keydir_meaning S.files self.old) context.now random.now (option_copied key.entry)) }
         ensures taken { OnOk result (refusal_with (is_some key.entry) (keydir_meaning S.files self.old) ≡ None) }
         ensures cause { IfErr result (WrapCause (refusal_with (is_some key.entry) (keydir_meaning S.files self.old)) self.old.faults self.new.faults) }
-        ensures keeps { Keeps S.files self.old self.new }
-        ensures answers { Answers S.files S.faults self.old self.new result }
+        ensures keeps { Keeps (shelf_state S.files S.given S.faults) self.old self.new }
+        ensures answers { Answers (shelf_state S.files S.given S.faults) self.old self.new result }
     {
         let mut keyring = self.read(alloc)?;
         keyring.on_encrypt(alloc, context, random, key)
@@ -59,8 +60,8 @@ impl<S: Shelf + Drop> Keyring for KeydirKeyring<S> {
         ensures goes { KeyringGoes (keydir_meaning S.files self.old) (keydir_meaning S.files self.new) }
         ensures opens { IfOk result (Opens (keydir_meaning S.files self.old) (keydir_meaning S.files self.new) context.now entries.now) }
         ensures cause { IfErr result (UnwrapCause self.old.faults self.new.faults) }
-        ensures keeps { Keeps S.files self.old self.new }
-        ensures answers { Answers S.files S.faults self.old self.new result }
+        ensures keeps { Keeps (shelf_state S.files S.given S.faults) self.old self.new }
+        ensures answers { Answers (shelf_state S.files S.given S.faults) self.old self.new result }
     {
         let mut keyring = self.read(alloc)?;
         keyring.on_decrypt(alloc, context, entries)
@@ -71,8 +72,8 @@ impl<S: Shelf> KeydirKeyring<S> {
     /// The raw AES keyring of the key that stands in the file now.
     fn read(&mut self, alloc: Global) -> Result<RawAes, RingError>
         ensures key { IfOk result (λ keyring. IfSome (keydir_meaning S.files self.old).keys (λ keys. keys ≡ keyring ∷ [])) }
-        ensures keeps { Keeps S.files self.old self.new }
-        ensures answers { Answers S.files S.faults self.old self.new result }
+        ensures keeps { Keeps (shelf_state S.files S.given S.faults) self.old self.new }
+        ensures answers { Answers (shelf_state S.files S.given S.faults) self.old self.new result }
     {
         let Some(key) = read_key(&mut self.shelf, self.file.as_str()) else {
             self.faults = self.faults.saturating_add(1);

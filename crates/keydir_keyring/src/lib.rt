@@ -10,6 +10,3 @@ mod keyring;
 mod reading;
 
 pub use keydir::KeydirKeyring;
-
-#[cfg(test)]
-mod tests;

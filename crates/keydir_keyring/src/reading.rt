@@ -1,8 +1,10 @@
 //! Reading a key from a file.
 
 ghost use Rattle.std.specs.Prelude.{◌≡◌, ◌<◌, ◌≤◌, ◌+◌, List, ℕ, [], length, take, drop, IfOk};
+ghost use Rattle.esdk_fields.specs.Counts.{CountsGiven};
 ghost use Rattle.esdk_base.specs.Shelf.{HasCauseOrMissing, Holds, is_missing};
-ghost use Rattle.keydir_keyring.specs.Reading.{IsFilled, IsFront, ReadsKey};
+ghost use Rattle.esdk_base.specs.Streams.{shelf_state};
+ghost use Rattle.keydir_keyring.specs.Reading.{Gave, IsFilled, IsFront, ReadsKey};
 
 use esdk_base::{Failed, Shelf};
 
@@ -13,7 +15,9 @@ const KEY_LENGTH: usize = 32;
 pub(crate) fn read_key<S: Shelf>(shelf: &mut S, file: &str) -> Option<[u8; 32]>
     ensures files { S.files shelf.new ≡ S.files shelf.old }
     ensures later { S.faults shelf.old ≤ S.faults shelf.new }
-    ensures key { ReadsKey (S.files shelf.old) file.now (S.faults shelf.old) (S.faults shelf.new) result }
+    ensures most { S.given shelf.new ≤ S.given shelf.old + 33 }
+    ensures key { ReadsKey (shelf_state S.files S.given S.faults shelf.old)
+        (shelf_state S.files S.given S.faults shelf.new) file.now result }
 {
     // One byte more than a key has shows whether the file goes on behind it.
     let mut room = [0; KEY_LENGTH + 1];
@@ -40,6 +44,8 @@ fn key_of(bytes: &[u8]) -> [u8; 32]
 fn read_front<S: Shelf>(shelf: &mut S, file: &str, room: &mut [u8]) -> Result<usize, Failed>
     requires { 0 < length room.old }
     ensures front { IfOk result (IsFront (S.files shelf.old) file.now room.new) }
+    ensures gave { IfOk result (Gave (shelf_state S.files S.given S.faults shelf.old) (shelf_state S.files S.given S.faults shelf.new)) }
+    ensures most { S.given shelf.new ≤ S.given shelf.old + length room.old }
     ensures cause { HasCauseOrMissing (is_missing (S.files shelf.old) file.now) (S.faults shelf.old) (S.faults shelf.new) result }
     ensures files { S.files shelf.new ≡ S.files shelf.old }
 {
@@ -66,6 +72,8 @@ fn read_more<S: Shelf>(
     requires { count < length room.old }
     ensures filled { IfOk result (λ more. IsFilled (S.files shelf.old) file.now room.old count → IsFilled (S.files shelf.old) file.now room.new (count + more)) }
     ensures end { IfOk result (λ more. (bytes : List ℕ) → Holds (S.files shelf.old) file.now bytes → more ≡ 0 → drop count bytes ≡ []) }
+    ensures bound { IfOk result (λ more. count + more ≤ length room.new) }
+    ensures given { CountsGiven (S.given shelf.old) (S.given shelf.new) result }
     ensures cause { HasCauseOrMissing (is_missing (S.files shelf.old) file.now) (S.faults shelf.old) (S.faults shelf.new) result }
     ensures files { S.files shelf.new ≡ S.files shelf.old }
 {

@@ -32,7 +32,7 @@ pub told_back : (keys : List WrapKeyValue) (n : ℕ) (c : List KeyValue) (key by
     → entries ≡ made keys c key (ivs_of n bytes) → unwrapped keys entries c ≡ Some key
 told_back [] n c key bytes entries many one long twice apart is = absurd (omega arith)
 told_back (w ∷ ws) n c key bytes entries many one long twice apart is =
-    let wrapped = made_is_wrapped (w ∷ ws) (w ∷ ws) c key (ivs_of n bytes) w (ivs_are (w ∷ ws) n bytes many long) twice apart (Contains-head w ws) (Contains-head w ws) in
+    let wrapped = made_is_wrapped (w ∷ ws) (w ∷ ws) c key (ivs_of n bytes) w w (ivs_are (w ∷ ws) n bytes many long) twice apart (Contains-head w ws) (Contains-head w ws) (record { namespace = refl; name = refl; key = refl }) in
     ap (λ (es : List Entry). unwrapped (w ∷ ws) es c) is ∙ unwrapped_key (w ∷ ws) (w ∷ ws) c key (made (w ∷ ws) c key (ivs_of n bytes)) wrapped.0
 
 pub comes_back : (ring old new : KeyringMeaning) (keys : List WrapKeyValue) (c : List KeyValue) (random key : List ℕ) (wrapped : WrappedValue) (found : Option (List ℕ))

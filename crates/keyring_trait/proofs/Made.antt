@@ -6,7 +6,7 @@ use Rattle.context_codec.specs.Context.{KeyValue}
 use Rattle.edk_codec.specs.Entry.{Entry, IsEntry}
 use Rattle.edk_codec.proofs.Infos.{length-raw_info}
 use Rattle.keyring_trait.specs.Wrapping.{WrapKeyValue, wrap, active, made, AreIvs}
-use Rattle.keyring_trait.specs.Laws.{IsWrapOf, HasWrap, AreApart, AreWrapped}
+use Rattle.keyring_trait.specs.Laws.{IsWrapOf, HasWrap, IsSameKey, AreApart, AreWrapped}
 use Rattle.context_codec.proofs.Members.{Contains-head, Contains-tail, Contains-cases, Contains-nil}
 use Rattle.keyring_trait.proofs.Wrapping.{wrap-provider, wrap-info, length-wrap-cipher}
 
@@ -45,18 +45,20 @@ length-made [] c key ivs enough = refl
 length-made (w ∷ ws) c key [] enough = absurd (omega (arith, enough))
 length-made (w ∷ ws) c key (iv ∷ ivs) enough = ap suc (length-made ws c key ivs (omega (arith, enough)))
 
-pub made_is_wrapped : (writers readers : List WrapKeyValue) (c : List KeyValue) (key : List ℕ) (ivs : List (List ℕ)) (shared : WrapKeyValue)
-    → AreIvs writers ivs → length key ≡ 32 → AreApart (active writers) readers → Contains (active writers) shared → Contains readers shared
+pub made_is_wrapped : (writers readers : List WrapKeyValue) (c : List KeyValue) (key : List ℕ) (ivs : List (List ℕ)) (writer reader : WrapKeyValue)
+    → AreIvs writers ivs → length key ≡ 32 → AreApart (active writers) readers → Contains (active writers) writer → Contains readers reader → IsSameKey writer reader
     → AreWrapped (active writers) readers c key (made writers c key ivs) × (length (made writers c key ivs) ≡ length (active writers))
-made_is_wrapped writers readers c key ivs shared ivs_are long apart written read = (
+made_is_wrapped writers readers c key ivs writer reader ivs_are long apart written read shared = (
   record {
     long = long;
     wraps = made_wraps writers c key ivs ivs_are.long;
     each = made_each writers c key ivs ivs_are.long ivs_are.enough;
     apart = apart;
-    shared = shared;
+    writer = writer;
+    reader = reader;
     written = written;
     read = read;
+    shared = shared;
   },
   length-made writers c key ivs ivs_are.enough,
 )

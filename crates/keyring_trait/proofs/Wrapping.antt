@@ -13,7 +13,7 @@ use Rattle.edk_codec.specs.Entry.{Entry}
 use Rattle.edk_codec.specs.RawInfo.{raw_info}
 use Rattle.edk_codec.proofs.Infos.{lengths, raw_info_parts, length-raw_info, name_of_raw_info}
 use Rattle.keyring_trait.specs.Wrapping.{WrapKeyValue, wrap, iv_in, is_entry_of, unwrap, first_some, unwrapped, IsWrap, IsOpened}
-use Rattle.keyring_trait.specs.Laws.{IsWrapOf, AreApart, AreWrapped}
+use Rattle.keyring_trait.specs.Laws.{IsWrapOf, IsSameKey, AreApart, AreWrapped}
 use Rattle.keyring_trait.proofs.Firsts.{IsOrNone, first_some-or, first_some-is, first_some-found, first_some-none, none_first_some}
 
 -- ---- what is sealed
@@ -166,6 +166,15 @@ passes_name v w c d iv key twelve other =
 
 -- ---- entries that wrap one data key
 
+-- one key makes one wrap
+same_wrap : (v w : WrapKeyValue) (c : List KeyValue) (iv key : List ℕ) → IsSameKey v w → wrap v c iv key ≡ wrap w c iv key
+unfolding wrap
+same_wrap v w c iv key same = λ i. record {
+  provider = same.namespace i;
+  info = raw_info (same.name i) iv;
+  cipher = (sealed (same.key i) iv (ctx_text c) key).0 ++ (sealed (same.key i) iv (ctx_text c) key).1;
+}
+
 -- A reader's key gets the data key or nothing from each.
 one_entry : (writers readers : List WrapKeyValue) (c : List KeyValue) (key : List ℕ) (e : Entry) (w : WrapKeyValue) → length key ≡ 32 → AreApart writers readers → IsWrapOf writers c key e → Contains readers w → IsOrNone key (unwrap w c e)
 one_entry writers readers c key e w long apart is listed = by_test (is_entry_of w e) refl
@@ -175,18 +184,20 @@ one_entry writers readers c key e w long apart is listed = by_test (is_entry_of 
     by_test true holds =
         let own : is_entry_of w (wrap is.under c is.iv key) ≡ true = subst (λ (x : Entry). is_entry_of w x ≡ true) is.is (sym holds) in
         let names = same_names w is.under c is.iv key is.long own in
-        let same : is.under ≡ w = apart is.under w is.listed listed (sym names.0) (sym names.1) in
-        inr (ap (unwrap w c) is.is ∙ ap (λ (v : WrapKeyValue). unwrap w c (wrap v c is.iv key)) same ∙ unwrap_wrap w c is.iv key is.long long)
+        let same : IsSameKey is.under w = apart is.under w is.listed listed (sym names.0) (sym names.1) in
+        inr (ap (unwrap w c) (is.is ∙ same_wrap is.under w c is.iv key same) ∙ unwrap_wrap w c is.iv key is.long long)
 
 pub unwrapped_key : (writers readers : List WrapKeyValue) (c : List KeyValue) (key : List ℕ) (entries : List Entry) → AreWrapped writers readers c key entries → unwrapped readers entries c ≡ Some key
 unfolding unwrapped
 unwrapped_key writers readers c key entries h =
     let one : (w : WrapKeyValue) → Contains readers w → (e : Entry) → Contains entries e → IsOrNone key (unwrap w c e) =
     λ w listed e there. one_entry writers readers c key e w h.long h.apart (h.wraps e there) listed in
-    let own = h.each h.shared h.written in
-    let found : first_some (unwrap h.shared c) entries ≡ Some key =
-    first_some-is (unwrap h.shared c) entries key (wrap h.shared c own.iv key) (one h.shared h.read) own.listed (unwrap_wrap h.shared c own.iv key own.long h.long) in
-    first_some-is (λ w. first_some (unwrap w c) entries) readers key h.shared (λ w listed. first_some-or (unwrap w c) entries key (one w listed)) h.read found
+    let own = h.each h.writer h.written in
+    let opens : unwrap h.reader c (wrap h.writer c own.iv key) ≡ Some key =
+    ap (unwrap h.reader c) (same_wrap h.writer h.reader c own.iv key h.shared) ∙ unwrap_wrap h.reader c own.iv key own.long h.long in
+    let found : first_some (unwrap h.reader c) entries ≡ Some key =
+    first_some-is (unwrap h.reader c) entries key (wrap h.writer c own.iv key) (one h.reader h.read) own.listed opens in
+    first_some-is (λ w. first_some (unwrap w c) entries) readers key h.reader (λ w listed. first_some-or (unwrap w c) entries key (one w listed)) h.read found
 
 -- ---- what is unwrapped at all
 

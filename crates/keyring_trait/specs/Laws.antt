@@ -43,10 +43,16 @@ pub record HasWrap (w : WrapKeyValue) (c : List KeyValue) (key : List ℕ) (entr
   pub long : length iv ≡ 12
   pub listed : Contains entries (wrap w c iv key)
 
+-- One wrapping key: what entries speak of it by, and its bytes, are the same, whatever else is kept of it.
+pub record IsSameKey (v w : WrapKeyValue) : Type 0 where
+  pub namespace : v.namespace ≡ w.namespace
+  pub name : v.name ≡ w.name
+  pub key : v.key ≡ w.key
+
 -- No writer's key and other reader's key share namespace and name.
 abbrev pub AreApart : List WrapKeyValue → List WrapKeyValue → Type 0
 AreApart writers readers =
-    (v w : WrapKeyValue) → Contains writers v → Contains readers w → v.namespace ≡ w.namespace → v.name ≡ w.name → v ≡ w
+    (v w : WrapKeyValue) → Contains writers v → Contains readers w → v.namespace ≡ w.namespace → v.name ≡ w.name → IsSameKey v w
 
 -- The entries are wraps of one data key over a context, one at least under each of the writer's keys; and a reader has one of these.
 pub record AreWrapped (writers readers : List WrapKeyValue) (c : List KeyValue) (key : List ℕ) (entries : List Entry) : Type 0 where
@@ -54,9 +60,11 @@ pub record AreWrapped (writers readers : List WrapKeyValue) (c : List KeyValue) 
   pub wraps : (e : Entry) → Contains entries e → IsWrapOf writers c key e
   pub each : (w : WrapKeyValue) → Contains writers w → HasWrap w c key entries
   pub apart : AreApart writers readers
-  pub shared : WrapKeyValue
-  pub written : Contains writers shared
-  pub read : Contains readers shared
+  pub writer : WrapKeyValue
+  pub reader : WrapKeyValue
+  pub written : Contains writers writer
+  pub read : Contains readers reader
+  pub shared : IsSameKey writer reader
 
 -- Then the reader unwraps that data key, whatever other keys it has.
 abbrev pub UnwrapsTheKey : Type 0
@@ -74,8 +82,8 @@ UnwrapsNone = (keys : List WrapKeyValue) (entries : List Entry) (c : List KeyVal
 
 -- What the keys that wrap make of a data key is wrapped, one entry for each of them.
 abbrev pub WrapsWhatIsMade : Type 0
-WrapsWhatIsMade = (writers readers : List WrapKeyValue) (c : List KeyValue) (key : List ℕ) (ivs : List (List ℕ)) (shared : WrapKeyValue)
-    → AreIvs writers ivs → length key ≡ 32 → AreApart (active writers) readers → Contains (active writers) shared → Contains readers shared
+WrapsWhatIsMade = (writers readers : List WrapKeyValue) (c : List KeyValue) (key : List ℕ) (ivs : List (List ℕ)) (writer reader : WrapKeyValue)
+    → AreIvs writers ivs → length key ≡ 32 → AreApart (active writers) readers → Contains (active writers) writer → Contains readers reader → IsSameKey writer reader
     → AreWrapped (active writers) readers c key (made writers c key ivs) × (length (made writers c key ivs) ≡ length (active writers))
 
 -- As many groups of 12 bytes as there are keys that wrap are their IVs.

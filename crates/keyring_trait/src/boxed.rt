@@ -54,6 +54,12 @@ impl Manager for Box<dyn Manager> {
 
     ghost bears = { λ b. (Manager-box b).bears b.value };
 
+    ghost within = { λ b. (Manager-box b).within b.value };
+
+    ghost gave = { λ b. (Manager-box b).gave b.value };
+
+    ghost found = { λ b. (Manager-box b).found b.value };
+
     fn wraps(&self) -> u32 {
         (**self).wraps()
     }

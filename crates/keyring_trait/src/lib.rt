@@ -34,6 +34,3 @@ pub use requests::{DecRequest, EncRequest};
 pub use ring_refusals::{RingError, RingRefusal};
 pub use served::Served;
 pub use wrapped::Wrapped;
-
-#[cfg(test)]
-mod tests;

@@ -88,6 +88,17 @@ impl EncMaterials {
     {
         self.served
     }
+
+    /// The whole context, the keys that a reader has to give, the data key, and the entries that hold it wrapped, by value. Takes no memory.
+    pub fn into_parts(self) -> (Context, KeySet, DataKey, Vec<DataKeyEntry>)
+        ensures context { result.0 ≡ self.context }
+        ensures required { result.1 ≡ self.required }
+        ensures key { result.2 ≡ self.key }
+        ensures entries { result.3.items ≡ self.entries }
+        ensures materials { AreEncMaterials self.context self.required self.entries }
+    {
+        (self.context, self.required, self.key, self.entries)
+    }
 }
 
 /// Materials to decrypt with. A contract sees a `DecMaterialsValue`.

@@ -19,6 +19,3 @@ pub use laws::{
 };
 pub use making::MultiError;
 pub use tree::{Multi, Node};
-
-#[cfg(test)]
-mod tests;

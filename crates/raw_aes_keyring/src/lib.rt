@@ -8,6 +8,3 @@ mod unwrapping;
 mod wrapping;
 
 pub use raw_aes::{RawAes, RawError};
-
-#[cfg(test)]
-mod tests;

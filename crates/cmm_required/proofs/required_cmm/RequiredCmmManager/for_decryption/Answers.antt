@@ -1,5 +1,6 @@
 -- What the inner manager answers, where all keys are given; else M13.
 use Rattle.std.proofs.Common.{rules}
+use Rattle.cmm_required.proofs.Absent.{all_given}
 use Rattle.cmm_required.proofs.Decrypting.{misses, finds_required, finds_none_required}
 use Rattle.cmm_required.proofs.required_cmm.RequiredCmmManager.for_decryption.Goals as goal
 
@@ -14,3 +15,6 @@ returns-clause-cause g c =
     rw (← c.self.view_is)
     (finds_none_required c.self.inside.keys (g.M.Manager.meaning c.self.inside.inner) (g.M.Manager.meaning c.for_decryption.new.self) _ _ c.args.request.now _ (search rules)
     c.for_decryption.ensures.cause)
+
+pub returns-clause-given : goal.returns-clause-given
+returns-clause-given g c = all_given c.args.request.now.given c.args.self.now.1 c.for_decryption.result (search rules)

@@ -1,6 +1,6 @@
 -- What the inner manager answers, where all keys are there; else Q4.
 use Rattle.std.proofs.Common.{rules}
-use Rattle.cmm_required.proofs.Encrypting.{refuses_absent, gives_required, gives_none_required}
+use Rattle.cmm_required.proofs.Encrypting.{refuses_absent, requires_own, gives_required, gives_none_required}
 use Rattle.cmm_required.proofs.required_cmm.RequiredCmmManager.for_encryption.Goals as goal
 
 pub returns-in-Ok-clause-gives : goal.returns-in-Ok-clause-gives
@@ -14,3 +14,7 @@ returns-in-Ok-clause-cause g c =
 
 pub returns-in-Err-Refusal-clause-cause : goal.returns-in-Err-Refusal-clause-cause
 returns-in-Err-Refusal-clause-cause g c = refuses_absent c.args.self.now.1 (g.M.Manager.meaning c.args.self.now.0) _ c.args.request.now.context _ (search rules)
+
+pub returns-in-Ok-clause-required : goal.returns-in-Ok-clause-required
+returns-in-Ok-clause-required g c =
+    rw (← c.self.view_is) (requires_own c.self.inside.keys _ _ _ c.args.request.now _ _ c.for_encryption.result c.in-Ok.ensures.request c.for_encryption.ensures.gives)
