@@ -28,6 +28,3 @@ pub use options::{OptionName, option_text};
 pub use pair_words::{PairWord, PairWords};
 pub use request::{DecryptWords, EncryptWords, Request, WordsFault};
 pub use words::read_words;
-
-#[cfg(test)]
-mod tests;

@@ -79,11 +79,11 @@ pub record Allows (from to : Answering) : Type 0 where
   pub finds : (request : DecRequestValue) (m : DecMaterialsValue) → from.finds request m → to.finds request m
   pub finds_none : (request : DecRequestValue) (error : ManagerError) → from.finds_none request error → to.finds_none request error
 
-pub reader_allows : (old new : ManagerMeaning) (tells : List WrapKeyValue → Type 0) (exact : Type 0) (keys : List WrapKeyValue) (settings : Settings) (given : List KeyValue)
+pub reader_allows : (old new : ManagerMeaning) (tells : List WrapKeyValue → Type 0) (exact : Type 0) (found : DecRequestValue → ℕ → DecMaterialsValue → Type 0) (now : ℕ) (keys : List WrapKeyValue) (settings : Settings) (given : List KeyValue)
     → tells keys → exact → Stayed old.faults new.faults
-    → Allows (answering_of old new tells exact) (answering_by (record { keys = keys; settings = settings; given = given; required = old.demands }))
-reader_allows old new tells exact keys settings given told is stayed = record {
-  finds = λ request m finds. materials_unlock old new tells exact keys request m told is stayed finds;
+    → Allows (answering_of old new tells exact found now) (answering_by (record { keys = keys; settings = settings; given = given; required = old.demands }))
+reader_allows old new tells exact found now keys settings given told is stayed = record {
+  finds = λ request m finds. materials_unlock old new tells exact keys request m told is stayed finds.0;
   finds_none = λ request error finds. none_unlocks old new tells exact keys request error told is stayed finds;
 }
 
@@ -163,19 +163,19 @@ ends_allowed from to settings given input taken output put unwritten errors.Memo
 -- ---- results
 
 -- what is decrypted with the answers of such a manager is decrypted by the reader
-pub decrypts_read : {E : Type 0} (old new : ManagerMeaning) (tells : List WrapKeyValue → Type 0) (exact : Type 0) (keys : List WrapKeyValue) (settings : Settings) (given : List KeyValue)
+pub decrypts_read : {E : Type 0} (old new : ManagerMeaning) (tells : List WrapKeyValue → Type 0) (exact : Type 0) (found : DecRequestValue → ℕ → DecMaterialsValue → Type 0) (now : ℕ) (keys : List WrapKeyValue) (settings : Settings) (given : List KeyValue)
     (input taken : SourceState) (output put : SinkState) → tells keys → exact → Stayed old.faults new.faults
-    → (r : Result (List KeyValue) E) → IfOk r (λ context. Decrypts (asked_of (answering_of old new tells exact) settings given) input taken output put context)
+    → (r : Result (List KeyValue) E) → IfOk r (λ context. Decrypts (asked_of (answering_of old new tells exact found now) settings given) input taken output put context)
     → IfOk r (λ context. Decrypts (asked_by (record { keys = keys; settings = settings; given = given; required = old.demands })) input taken output put context)
-decrypts_read old new tells exact keys settings given input taken output put told is stayed (Err error) done = tt
-decrypts_read old new tells exact keys settings given input taken output put told is stayed (Ok context) done =
-    decrypts_allowed (reader_allows old new tells exact keys settings given told is stayed) done
+decrypts_read old new tells exact found now keys settings given input taken output put told is stayed (Err error) done = tt
+decrypts_read old new tells exact found now keys settings given input taken output put told is stayed (Ok context) done =
+    decrypts_allowed (reader_allows old new tells exact found now keys settings given told is stayed) done
 
 -- and what ends such a run ends the reader's
-pub ends_read : {T : Type 0} (old new : ManagerMeaning) (tells : List WrapKeyValue → Type 0) (exact : Type 0) (keys : List WrapKeyValue) (settings : Settings) (given : List KeyValue)
+pub ends_read : {T : Type 0} (old new : ManagerMeaning) (tells : List WrapKeyValue → Type 0) (exact : Type 0) (found : DecRequestValue → ℕ → DecMaterialsValue → Type 0) (now : ℕ) (keys : List WrapKeyValue) (settings : Settings) (given : List KeyValue)
     (input taken : SourceState) (output put : SinkState) (unwritten : Type 0) → tells keys → exact → Stayed old.faults new.faults
-    → (r : Result T DecryptError) → IfErr r (λ error. EndsSo (asked_of (answering_of old new tells exact) settings given) input taken output put unwritten error)
+    → (r : Result T DecryptError) → IfErr r (λ error. EndsSo (asked_of (answering_of old new tells exact found now) settings given) input taken output put unwritten error)
     → IfErr r (EndsSo (asked_by (record { keys = keys; settings = settings; given = given; required = old.demands })) input taken output put unwritten)
-ends_read old new tells exact keys settings given input taken output put unwritten told is stayed (Ok done) ends = tt
-ends_read old new tells exact keys settings given input taken output put unwritten told is stayed (Err error) ends =
-    ends_allowed _ _ settings given input taken output put unwritten error (reader_allows old new tells exact keys settings given told is stayed) ends
+ends_read old new tells exact found now keys settings given input taken output put unwritten told is stayed (Ok done) ends = tt
+ends_read old new tells exact found now keys settings given input taken output put unwritten told is stayed (Err error) ends =
+    ends_allowed _ _ settings given input taken output put unwritten error (reader_allows old new tells exact found now keys settings given told is stayed) ends

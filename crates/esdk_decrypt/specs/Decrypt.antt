@@ -44,9 +44,12 @@ pub record Answering : Type 1 where
   pub finds : DecRequestValue → DecMaterialsValue → Type 0
   pub finds_none : DecRequestValue → ManagerError → Type 0
 
--- what a manager that was so and is so now may answer
-abbrev pub answering_of : ManagerMeaning → ManagerMeaning → (List WrapKeyValue → Type 0) → Type 0 → Answering
-answering_of old new tells exact = record { finds = FindsMaterials old new tells exact; finds_none = FindsNone old new tells exact }
+-- what a manager that was so and is so now may answer at a moment; `found` says what it found last
+abbrev pub answering_of : ManagerMeaning → ManagerMeaning → (List WrapKeyValue → Type 0) → Type 0 → (DecRequestValue → ℕ → DecMaterialsValue → Type 0) → ℕ → Answering
+answering_of old new tells exact found now = record {
+  finds = λ request materials. FindsMaterials old new tells exact request materials × found request now materials;
+  finds_none = FindsNone old new tells exact;
+}
 
 -- the answer is that of materials that the manager finds, or of the fault that it names
 abbrev pub AnswersRequest : Answering → DecRequestValue → Unlocking → Type 0

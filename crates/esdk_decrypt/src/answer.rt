@@ -1,5 +1,5 @@
 //! What a materials manager answers to the header that bytes begin with.
-ghost use Rattle.std.specs.Prelude.{◌≡◌, IfOk, IfErr};
+ghost use Rattle.std.specs.Prelude.{◌≡◌, true, IfOk, IfErr};
 ghost use Rattle.keyring_trait.specs.declared.manager_errors.ManagerError.TheVariants.{KeyringFault};
 ghost use Rattle.keyring_trait.specs.Manager.{ManagerGoes, TellsOn, FindsNone};
 ghost use Rattle.message_format.specs.Answers.{unlocking_of};
@@ -25,12 +25,13 @@ pub(crate) fn answer_to<M: Manager>(
     bytes: &[u8],
 ) -> Result<Answer, DecryptError>
     requires { ManagerGoes (M.meaning manager.old) (M.meaning manager.old) }
-    ensures answers { IfOk result (λ answer. AnswersTo (answering_of (M.meaning manager.old) (M.meaning manager.new) (M.tells manager.old) (M.exact manager.old))
+    ensures answers { IfOk result (λ answer. AnswersTo (answering_of (M.meaning manager.old) (M.meaning manager.new) (M.tells manager.old) (M.exact manager.old) (M.found manager.new) now)
         settings given.now bytes.now (unlocking_of answer)) }
-    ensures fails { IfErr result (NoAnswer (FailsTo (answering_of (M.meaning manager.old) (M.meaning manager.new) (M.tells manager.old) (M.exact manager.old))
+    ensures fails { IfErr result (NoAnswer (FailsTo (answering_of (M.meaning manager.old) (M.meaning manager.new) (M.tells manager.old) (M.exact manager.old) (M.found manager.new) now)
         settings given.now bytes.now)) }
     ensures goes { ManagerGoes (M.meaning manager.old) (M.meaning manager.new) }
     ensures tells { TellsOn (M.tells manager.old) (M.tells manager.new) }
+    ensures same { (M.meaning manager.old).plain ≡ true → TellsOn (M.tells manager.new) (M.tells manager.old) }
     ensures exact { M.exact manager.old → M.exact manager.new }
 {
     match header_in(alloc, settings, bytes) {
@@ -59,12 +60,13 @@ fn answer_to_header<M: Manager>(
     header: &Header,
 ) -> Result<Answer, DecryptError>
     requires { ManagerGoes (M.meaning manager.old) (M.meaning manager.old) }
-    ensures answers { IfOk result (λ answer. AnswersRequest (answering_of (M.meaning manager.old) (M.meaning manager.new) (M.tells manager.old) (M.exact manager.old))
+    ensures answers { IfOk result (λ answer. AnswersRequest (answering_of (M.meaning manager.old) (M.meaning manager.new) (M.tells manager.old) (M.exact manager.old) (M.found manager.new) now)
         (request_of given.now header.now) (unlocking_of answer)) }
     ensures fails { IfErr result (NoAnswer (FindsNone (M.meaning manager.old) (M.meaning manager.new) (M.tells manager.old) (M.exact manager.old)
         (request_of given.now header.now) KeyringFault)) }
     ensures goes { ManagerGoes (M.meaning manager.old) (M.meaning manager.new) }
     ensures tells { TellsOn (M.tells manager.old) (M.tells manager.new) }
+    ensures same { (M.meaning manager.old).plain ≡ true → TellsOn (M.tells manager.new) (M.tells manager.old) }
     ensures exact { M.exact manager.old → M.exact manager.new }
 {
     let request = request_for(alloc, given, header)?;

@@ -1,5 +1,5 @@
 //! The decryption of an input.
-ghost use Rattle.std.specs.Prelude.{◌≡◌, ◌+◌, ◌≤◌, ◌^◌, List, IfOk, IfErr};
+ghost use Rattle.std.specs.Prelude.{◌≡◌, ◌+◌, ◌≤◌, ◌^◌, true, List, IfOk, IfErr};
 ghost use Rattle.esdk_fields.specs.Counts.{Stayed};
 ghost use Rattle.esdk_base.specs.Streams.{SourceState, sink_state, source_state};
 ghost use Rattle.keyring_trait.specs.Manager.{ManagerGoes, TellsOn};
@@ -49,11 +49,11 @@ pub fn decrypt<M: Manager, S: Source, O: Sink>(
     output: &mut O,
 ) -> Result<Context, DecryptError>
     ensures done { IfOk result (λ context. Decrypts
-        (record { manager = answering_of (M.meaning manager.old) (M.meaning manager.new) (M.tells manager.old) (M.exact manager.old); settings = settings; given = given.now })
+        (record { manager = answering_of (M.meaning manager.old) (M.meaning manager.new) (M.tells manager.old) (M.exact manager.old) (M.found manager.new) now; settings = settings; given = given.now })
         (source_state S.left S.given S.faults input.old) (source_state S.left S.given S.faults input.new)
         (sink_state O.written O.faults output.old) (sink_state O.written O.faults output.new) context) }
     ensures ends { IfErr result (λ error. EndsSo
-        (record { manager = answering_of (M.meaning manager.old) (M.meaning manager.new) (M.tells manager.old) (M.exact manager.old); settings = settings; given = given.now })
+        (record { manager = answering_of (M.meaning manager.old) (M.meaning manager.new) (M.tells manager.old) (M.exact manager.old) (M.found manager.new) now; settings = settings; given = given.now })
         (source_state S.left S.given S.faults input.old) (source_state S.left S.given S.faults input.new)
         (sink_state O.written O.faults output.old) (sink_state O.written O.faults output.new) (output.new ≡ output.old) error) }
     ensures reads { (keys : List WrapKeyValue) → M.tells manager.old keys → M.exact manager.old → Stayed (M.meaning manager.old).faults (M.meaning manager.new).faults
@@ -68,6 +68,7 @@ pub fn decrypt<M: Manager, S: Source, O: Sink>(
         (sink_state O.written O.faults output.old) (sink_state O.written O.faults output.new) (output.new ≡ output.old)) }
     ensures goes { ManagerGoes (M.meaning manager.old) (M.meaning manager.new) }
     ensures tells { TellsOn (M.tells manager.old) (M.tells manager.new) }
+    ensures same { (M.meaning manager.old).plain ≡ true → TellsOn (M.tells manager.new) (M.tells manager.old) }
     ensures exact { M.exact manager.old → M.exact manager.new }
     ensures taken { S.given input.new ≤ S.given input.old + 2 ^ 62 }
 {
@@ -90,13 +91,14 @@ fn decrypt_taken<M: Manager, O: Sink>(
 ) -> Result<Context, DecryptError>
     requires { ManagerGoes (M.meaning manager.old) (M.meaning manager.old) }
     ensures done { (first after : SourceState) → TakesAll first after taken → IfOk result (λ context. Decrypts
-        (record { manager = answering_of (M.meaning manager.old) (M.meaning manager.new) (M.tells manager.old) (M.exact manager.old); settings = settings; given = given.now })
+        (record { manager = answering_of (M.meaning manager.old) (M.meaning manager.new) (M.tells manager.old) (M.exact manager.old) (M.found manager.new) now; settings = settings; given = given.now })
         first after (sink_state O.written O.faults output.old) (sink_state O.written O.faults output.new) context) }
     ensures ends { (first after : SourceState) → TakesAll first after taken → IfErr result (λ error. EndsSo
-        (record { manager = answering_of (M.meaning manager.old) (M.meaning manager.new) (M.tells manager.old) (M.exact manager.old); settings = settings; given = given.now })
+        (record { manager = answering_of (M.meaning manager.old) (M.meaning manager.new) (M.tells manager.old) (M.exact manager.old) (M.found manager.new) now; settings = settings; given = given.now })
         first after (sink_state O.written O.faults output.old) (sink_state O.written O.faults output.new) (output.new ≡ output.old) error) }
     ensures goes { ManagerGoes (M.meaning manager.old) (M.meaning manager.new) }
     ensures tells { TellsOn (M.tells manager.old) (M.tells manager.new) }
+    ensures same { (M.meaning manager.old).plain ≡ true → TellsOn (M.tells manager.new) (M.tells manager.old) }
     ensures exact { M.exact manager.old → M.exact manager.new }
 {
     let bytes = taken.bytes.bytes();

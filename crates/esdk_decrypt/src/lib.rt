@@ -16,6 +16,3 @@ pub use errors::DecryptError;
 pub use laws::{
     the_first_fault_is_named, whole_inputs_are_decrypted, written_messages_are_decrypted,
 };
-
-#[cfg(test)]
-mod tests;

@@ -131,11 +131,11 @@ none_told keys old new exact request size max_keys (managers.Refusal refusal) is
 none_told keys old new exact request size max_keys managers.KeyringFault is_exact cause = (cause.1 is_exact, cause.0)
 none_told keys old new exact request size max_keys managers.Memory is_exact cause = tt
 
-told_more : (keys : List WrapKeyValue) (old new : ManagerMeaning) (tells : List WrapKeyValue → Type 0) (exact : Type 0) (request : EncRequestValue) (size : ℕ) (max_keys : Option ℕ)
-    → IsTold keys old tells exact → SaysMore (asked_of old new tells exact request size max_keys) (asked_told keys old new request size max_keys)
-told_more keys old new tells exact request size max_keys is = record {
+told_more : (keys : List WrapKeyValue) (old new : ManagerMeaning) (tells : List WrapKeyValue → Type 0) (exact : Type 0) (gave : List ℕ → EncMaterialsValue → Type 0) (request : EncRequestValue) (size : ℕ) (max_keys : Option ℕ)
+    → IsTold keys old tells exact → SaysMore (asked_of old new tells exact gave request size max_keys) (asked_told keys old new request size max_keys)
+told_more keys old new tells exact gave request size max_keys is = record {
   wraps = sym is.count;
-  gives = λ random m given. (given.unrefused is.is_exact, materials_told keys old tells exact request size max_keys random m is given);
+  gives = λ random m given. (given.0.unrefused is.is_exact, materials_told keys old tells exact request size max_keys random m is given.0);
   gives_none = λ error cause. none_told keys old new exact request size max_keys error is.is_exact cause;
   size = refl;
   max_keys = refl;
@@ -151,25 +151,25 @@ is_told : (keys : List WrapKeyValue) (m : ManagerMeaning) (tells : List WrapKeyV
 is_told keys m tells exact counts told is_exact plain =
     record { told = told; is_exact = is_exact; plain = plain; fresh = counts.plain plain; count = counts.told keys told }
 
-pub writes_told : (old new : ManagerMeaning) (tells : List WrapKeyValue → Type 0) (exact : Type 0) (request : EncRequestValue) (size : ℕ) (max_keys : Option ℕ)
+pub writes_told : (old new : ManagerMeaning) (tells : List WrapKeyValue → Type 0) (exact : Type 0) (gave : List ℕ → EncMaterialsValue → Type 0) (request : EncRequestValue) (size : ℕ) (max_keys : Option ℕ)
     (input taken : SourceState) (output put : SinkState) (entropy spent : EntropyState) (r : Result (Unit {0}) EncryptError) → CountsWraps old tells
-    → OnOk r (Encrypts (asked_of old new tells exact request size max_keys) input taken output put entropy spent)
+    → OnOk r (Encrypts (asked_of old new tells exact gave request size max_keys) input taken output put entropy spent)
     → (keys : List WrapKeyValue) → tells keys → exact → old.plain ≡ true
     → OnOk r (Encrypts (asked_told keys old new request size max_keys) input taken output put entropy spent)
-writes_told old new tells exact request size max_keys input taken output put entropy spent r counts done keys told is_exact plain =
-    let a : Asked = asked_of old new tells exact request size max_keys in
+writes_told old new tells exact gave request size max_keys input taken output put entropy spent r counts done keys told is_exact plain =
+    let a : Asked = asked_of old new tells exact gave request size max_keys in
     let b : Asked = asked_told keys old new request size max_keys in
-    let more : SaysMore a b = told_more keys old new tells exact request size max_keys (is_told keys old tells exact counts told is_exact plain) in
+    let more : SaysMore a b = told_more keys old new tells exact gave request size max_keys (is_told keys old tells exact counts told is_exact plain) in
     on_ok_weaker r (encrypts_more a b input taken output put entropy spent more) done
 
-pub stops_told : (old new : ManagerMeaning) (tells : List WrapKeyValue → Type 0) (exact : Type 0) (request : EncRequestValue) (size : ℕ) (max_keys : Option ℕ)
+pub stops_told : (old new : ManagerMeaning) (tells : List WrapKeyValue → Type 0) (exact : Type 0) (gave : List ℕ → EncMaterialsValue → Type 0) (request : EncRequestValue) (size : ℕ) (max_keys : Option ℕ)
     (input taken : SourceState) (output put : SinkState) (entropy spent : EntropyState) (untouched unasked : Type 0) (r : Result (Unit {0}) EncryptError) → CountsWraps old tells
-    → IfErr r (EndsSo (asked_of old new tells exact request size max_keys) input taken output put entropy spent untouched unasked)
+    → IfErr r (EndsSo (asked_of old new tells exact gave request size max_keys) input taken output put entropy spent untouched unasked)
     → (keys : List WrapKeyValue) → tells keys → exact → old.plain ≡ true
     → IfErr r (EndsSo (asked_told keys old new request size max_keys) input taken output put entropy spent untouched unasked)
-stops_told old new tells exact request size max_keys input taken output put entropy spent untouched unasked r counts ends keys told is_exact plain =
-    let a : Asked = asked_of old new tells exact request size max_keys in
+stops_told old new tells exact gave request size max_keys input taken output put entropy spent untouched unasked r counts ends keys told is_exact plain =
+    let a : Asked = asked_of old new tells exact gave request size max_keys in
     let b : Asked = asked_told keys old new request size max_keys in
-    let more : SaysMore a b = told_more keys old new tells exact request size max_keys (is_told keys old tells exact counts told is_exact plain) in
+    let more : SaysMore a b = told_more keys old new tells exact gave request size max_keys (is_told keys old tells exact counts told is_exact plain) in
     IfErr-weaker r (EndsSo a input taken output put entropy spent untouched unasked) (EndsSo b input taken output put entropy spent untouched unasked)
     (λ error why. ends_more a b input taken output put entropy spent untouched unasked error more why) ends

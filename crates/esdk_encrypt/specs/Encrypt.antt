@@ -115,11 +115,11 @@ pub record Asked : Type 1 where
   pub size : ℕ
   pub max_keys : Option ℕ
 
--- what is asked of a manager that means this before and that after it, tells these keys, and is exact or not
-abbrev pub asked_of : ManagerMeaning → ManagerMeaning → (List WrapKeyValue → Type 0) → Type 0 → EncRequestValue → ℕ → Option ℕ → Asked
-asked_of old new tells exact request size max_keys = record {
+-- what is asked of a manager that means this before and that after it, tells these keys, and is exact or not; `gave` says what it gave last, at the run's moment
+abbrev pub asked_of : ManagerMeaning → ManagerMeaning → (List WrapKeyValue → Type 0) → Type 0 → (List ℕ → EncMaterialsValue → Type 0) → EncRequestValue → ℕ → Option ℕ → Asked
+asked_of old new tells exact gave request size max_keys = record {
   wraps = old.wraps;
-  gives = GivesMaterials old tells exact request;
+  gives = λ random materials. GivesMaterials old tells exact request random materials × gave random materials;
   gives_none = GivesNone old new exact request;
   size = size;
   max_keys = max_keys;

@@ -30,7 +30,7 @@ const MOST_FRAMES: u64 = 0xffff_ffff;
 
 /// Encrypts the whole input with materials of the manager, as the request asks for them, and writes the message.
 ///
-/// First 64 bytes and 12 for each of the manager's wraps are drawn by one fill: 32 are the message id, and the manager is asked with the others. Of its materials the
+/// First 64 bytes and 12 for each of the manager's wraps are drawn by one fill: 32 are the message id, and the manager is asked with the others, at the moment of the options. Of its materials the
 /// header is made: it stores the pairs of the context whose keys aren't required, and its tag authenticates the others too. Then the whole input is taken, and then
 /// the message is written, the header first and each frame by itself.
 ///
@@ -51,14 +51,14 @@ pub fn encrypt<M: Manager, S: Source, O: Sink, W: Entropy>(
 ) -> Result<(), EncryptError>
     requires some { 1 ≤ options.frame_length }
 
-    // Over any manager.
+    // Over any manager. The materials are the last that the manager which is left gave, at the moment of the options.
     ensures done { OnOk result (Encrypts
-        (asked_of (M.meaning manager.old) (M.meaning manager.new) (M.tells manager.old) (M.exact manager.old) request.now options.frame_length options.max_keys)
+        (asked_of (M.meaning manager.old) (M.meaning manager.new) (M.tells manager.old) (M.exact manager.old) (M.gave manager.new request.now options.now) request.now options.frame_length options.max_keys)
         (source_state S.left S.given S.faults input.old) (source_state S.left S.given S.faults input.new)
         (sink_state O.written O.faults output.old) (sink_state O.written O.faults output.new)
         (entropy_state W.to_come W.faults entropy.old) (entropy_state W.to_come W.faults entropy.new)) }
     ensures ends { IfErr result (λ error. EndsSo
-        (asked_of (M.meaning manager.old) (M.meaning manager.new) (M.tells manager.old) (M.exact manager.old) request.now options.frame_length options.max_keys)
+        (asked_of (M.meaning manager.old) (M.meaning manager.new) (M.tells manager.old) (M.exact manager.old) (M.gave manager.new request.now options.now) request.now options.frame_length options.max_keys)
         (source_state S.left S.given S.faults input.old) (source_state S.left S.given S.faults input.new)
         (sink_state O.written O.faults output.old) (sink_state O.written O.faults output.new)
         (entropy_state W.to_come W.faults entropy.old) (entropy_state W.to_come W.faults entropy.new)
@@ -81,6 +81,7 @@ pub fn encrypt<M: Manager, S: Source, O: Sink, W: Entropy>(
 
     ensures goes { ManagerGoes (M.meaning manager.old) (M.meaning manager.new) }
     ensures tells { TellsOn (M.tells manager.old) (M.tells manager.new) }
+    ensures same { (M.meaning manager.old).plain ≡ true → TellsOn (M.tells manager.new) (M.tells manager.old) }
     ensures exact { M.exact manager.old → M.exact manager.new }
     ensures taken { S.given input.new ≤ S.given input.old + 2 ^ 62 }
 {

@@ -15,8 +15,6 @@ mod frames;
 mod laws;
 mod options;
 mod start;
-#[cfg(test)]
-mod tests;
 
 pub use encryption::encrypt;
 pub use errors::EncryptError;

@@ -18,6 +18,3 @@ mod walk;
 pub use key_file::{TreeError, read_tree};
 pub use laws::{key_lines_are_read, raw_keys_agree, trees_are_small, written_lines_are_read};
 pub use plugs::Plug;
-
-#[cfg(test)]
-mod tests;

@@ -13,7 +13,7 @@ returns-in-None c =
     let words = c.args.words.now in
     let n = c.loop-before.before in
     let at = get_or_read words n c.index-words-before.result c.loop-before-test.true c.index-words-before.is [] in
-    pairs_bad words n c.loop-before-test.true c.loop-before.invariant.good (ap pair_of (sym at ∙ sym c.as_str.ensures) ∙ sym c.in-None.ensures)
+    pairs_bad words n c.loop-before-test.true c.loop-before.invariant.good (ap pair_of (sym at ∙ sym c.as_str.ensures.text) ∙ sym c.in-None.ensures)
     ∙ ap (λ k. Err (BadPair k)) (sym c.number_after.ensures)
 
 pub loop-before-preserved : goal.loop-before-preserved
@@ -22,7 +22,7 @@ loop-before-preserved c =
     let n = c.loop-before.before in
     let at = get_or_read words n c.index-words-before.result c.loop-before-test.true c.index-words-before.is [] in
     let pair = pair_value c.in-Some.parts in
-    let is : pair_of (get_or words n []) ≡ Some pair = ap pair_of (sym at ∙ sym c.as_str.ensures) ∙ sym c.in-Some.ensures in
+    let is : pair_of (get_or words n []) ≡ Some pair = ap pair_of (sym at ∙ sym c.as_str.ensures.text) ∙ sym c.in-Some.ensures in
     let more : filter_map pair_of (take n words) ++ pair ∷ [] ≡ filter_map pair_of (take (n + 1) words) = pairs_more words n pair c.loop-before-test.true is in
     record { good = name_more words n pair is c.loop-before.invariant.good; made = cc (c.in_ok-push-in-Some.ensures.items, c.in_ok-owned-in-Some.ensures) }
 
