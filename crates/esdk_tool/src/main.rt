@@ -1,43 +1,22 @@
 //! `esdk` encrypts files into messages of the AWS Encryption SDK's message format 2.0, decrypts them,
 //! and lists what stands in their headers.
 //!
-//! The program is one call, `run`, over its words, its input, its two outputs, a shelf of files, an
-//! entropy, a clock and the keyrings that a keyring file may name; `main` makes the real ones, calls it,
+//! The program is one call, `esdk_run::run`, over its words, its input, its two outputs, a shelf of files,
+//! an entropy, a clock and the keyrings that a keyring file may name; `main` makes the real ones, calls it,
 //! and ends with its status.
 #![tactic(auto)]
 
 ghost use Rattle.std.specs.Prelude.{◌≡◌, length, IfOk};
 
-mod commands;
-mod context_line;
-mod decrypt;
-mod encrypt;
-mod failure;
-mod header_input;
-mod keyring_input;
-mod list;
-mod listing;
-mod outcome;
-mod pair_input;
-mod report;
-mod status;
-#[cfg(test)]
-mod tests;
-mod top_call;
-mod words;
-
 use esdk_base::{FileShelf, RngEntropy, Sink, StdSink, StdSource, SystemClock};
 use esdk_fields::Text;
-use failure::Failure;
+use esdk_run::{Failure, Status, report_failure, run};
 use keydir_keyring::KeydirKeyring;
 use keyring_file::Plug;
 use raw_aes_keyring::RawError;
-use report::report_failure;
-use status::Status;
 use std::io::ErrorKind;
 use std::process::ExitCode;
 use std::{env, io};
-use top_call::run;
 
 /// The keyring that `main` hands in: one key, in a file of the folder that the program runs in.
 type Keydir = KeydirKeyring<FileShelf>;

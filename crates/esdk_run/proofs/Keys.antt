@@ -1,0 +1,98 @@
+-- A tree that tells its keys: what it gives and finds is what these keys give and find.
+use Rattle.std.proofs.Common.{◌≡◌, ◌∙◌, ◌≤◌, List, ℕ, length, None, Some, refl, sym, ap, subst, arith, take, drop}
+use Rattle.std.specs.Prelude.{IfSome}
+use Rattle.std.specs.declared.option.Option.{Option}
+use Rattle.esdk_fields.specs.Counts.{Stayed}
+use Rattle.esdk_fields.specs.declared.faults.Fault.TheVariants as faults
+use Rattle.esdk_fields.specs.declared.refusals.Refusal.{Refusal}
+use Rattle.esdk_args.specs.declared.request.DecryptWords.{DecryptWords}
+use Rattle.esdk_args.specs.declared.request.EncryptWords.{EncryptWords}
+use Rattle.context_codec.specs.Context.{IsContext, KeyValue}
+use Rattle.context_codec.specs.Parts.{whole_of}
+use Rattle.keyring_trait.specs.declared.manager_errors.ManagerError.{ManagerError}
+use Rattle.keyring_trait.specs.declared.manager_errors.ManagerError.TheVariants as managers
+use Rattle.keyring_trait.specs.Keyring.{KeyringMeaning, OpensWith}
+use Rattle.keyring_trait.specs.Materials.{DecMaterialsValue, EncMaterialsValue}
+use Rattle.keyring_trait.specs.Requests.{DecRequestValue}
+use Rattle.keyring_trait.specs.Unlocking.{Unlocks}
+use Rattle.keyring_trait.specs.Wrapping.{WrapKeyValue, active, ivs_of, made, unwrapped}
+use Rattle.esdk_encrypt.specs.Told.{NoneFor, asked_by, materials_of}
+use Rattle.esdk_encrypt.proofs.Fitting.{IsGranted, unrefused_memory}
+use Rattle.esdk_encrypt.proofs.Telling.{SaysMore}
+use Rattle.esdk_decrypt.specs.Told.{answering_by, unlocked_by}
+use Rattle.esdk_decrypt.specs.Told.{NoneFor as NoneRead}
+use Rattle.esdk_decrypt.proofs.Told.{Allows, offence_unlocks, sound_unlocks}
+use Rattle.esdk_run.specs.Decrypt.{TreeFinds, TreeFindsNone, reader_of}
+use Rattle.esdk_run.specs.Encrypt.{TreeGives, asked_of, refusal_asked, writer_of}
+use Rattle.esdk_run.specs.Pairs.{required_in}
+use Rattle.esdk_run.specs.Trees.{IsLawful}
+
+-- ---- to encrypt with
+
+keys_wrap : (tree : KeyringMeaning) (keys : List WrapKeyValue) → IsLawful tree → tree.keys ≡ Some keys → tree.wraps ≡ length (active keys)
+keys_wrap tree keys lawful told = sym (subst (λ (o : Option (List WrapKeyValue)). IfSome o (λ ws. length (active ws) ≡ tree.wraps)) told lawful.told)
+
+-- its materials are those of the keys
+materials_told : (asked : EncryptWords) (context : List KeyValue) (tree : KeyringMeaning) (keys : List WrapKeyValue) (random : List ℕ) (m : EncMaterialsValue) → IsLawful tree
+    → tree.keys ≡ Some keys → TreeGives asked context tree random m → m ≡ materials_of (writer_of asked context keys) random
+materials_told asked context tree keys random m lawful told given =
+    let key : List ℕ = take 32 random in
+    let ivs : List ℕ = drop 32 random in
+    let wrapped : m.entries ≡ made keys context key (ivs_of tree.wraps ivs) =
+    subst (λ (o : Option (List WrapKeyValue)). IfSome o (λ ws. m.entries ≡ made ws context key (ivs_of tree.wraps ivs))) told given.wrapped in
+    let entries : m.entries ≡ made keys context key (ivs_of (length (active keys)) ivs) =
+    wrapped ∙ ap (λ (n : ℕ). made keys context key (ivs_of n ivs)) (keys_wrap tree keys lawful told) in
+    λ i. record { context = given.whole i; required = given.required i; key = given.key i; entries = entries i; served = given.served i }
+
+pub told_says_more : (asked : EncryptWords) (context : List KeyValue) (tree left : KeyringMeaning) (keys : List WrapKeyValue) → IsLawful tree → tree.keys ≡ Some keys
+    → SaysMore (asked_of asked context tree left) (asked_by (writer_of asked context keys) (refusal_asked asked context tree) tree.faults left.faults)
+told_says_more asked context tree left keys lawful told = record {
+  wraps = keys_wrap tree keys lawful told;
+  gives = λ random m given. (given.unrefused, materials_told asked context tree keys random m lawful told given);
+  gives_none = λ error cause. cause;
+  size = refl;
+  max_keys = refl;
+}
+
+-- What is asked for is granted, where it isn't refused, no keyring failed and the limit allows it; the tree needn't tell its keys.
+pub tree_grants : (asked : EncryptWords) (context : List KeyValue) (tree left : KeyringMeaning) → IsContext context → IsLawful tree → refusal_asked asked context tree ≡ None
+    → IfSome asked.max_keys (λ most. tree.wraps ≤ most) → Stayed tree.faults left.faults → IsGranted (asked_of asked context tree left)
+tree_grants asked context tree left is_context lawful unrefused allowed stayed = record {
+  none = λ error cause. unrefused_memory tree.faults left.faults error stayed (subst (λ (r : Option Refusal). NoneFor r tree.faults left.faults error) unrefused cause);
+  context = λ random m given. subst IsContext (sym given.whole) is_context;
+  count = λ random m given. given.count;
+  few = lawful.few;
+  allowed = allowed;
+}
+
+-- ---- to decrypt with
+
+keys_find : (asked : DecryptWords) (given : List KeyValue) (tree left : KeyringMeaning) (keys : List WrapKeyValue) (request : DecRequestValue) (m : DecMaterialsValue)
+    → tree.keys ≡ Some keys → Stayed tree.faults left.faults → TreeFinds (required_in asked.pairs) tree left request m
+    → unlocked_by (reader_of asked given keys) request ≡ Unlocks m.context m.only m.key
+keys_find asked given tree left keys request m told stayed finds =
+    let whole : List KeyValue = whole_of request.stored request.given in
+    let opens : OpensWith keys request.entries whole (Stayed tree.faults left.faults) (Some m.key) =
+    subst (λ (o : Option (List WrapKeyValue)). IfSome o (λ ws. OpensWith ws request.entries whole (Stayed tree.faults left.faults) (Some m.key))) told finds.opens in
+    rw (finds.context, finds.only) (sound_unlocks request.stored request.given request.entries (required_in asked.pairs) keys (Some m.key) finds.sound (sym (opens.first stayed)))
+
+keys_find_none : (asked : DecryptWords) (given : List KeyValue) (tree left : KeyringMeaning) (keys : List WrapKeyValue) (request : DecRequestValue) (error : ManagerError)
+    → tree.keys ≡ Some keys → Stayed tree.faults left.faults → TreeFindsNone (required_in asked.pairs) tree left request error
+    → NoneRead (unlocked_by (reader_of asked given keys) request) error
+keys_find_none asked given tree left keys request (managers.Fault faults.NoKeyOpens) told stayed finds =
+    let whole : List KeyValue = whole_of request.stored request.given in
+    sound_unlocks request.stored request.given request.entries (required_in asked.pairs) keys None finds.sound
+    (subst (λ (o : Option (List WrapKeyValue)). IfSome o (λ ws. unwrapped ws request.entries whole ≡ None)) told finds.none)
+keys_find_none asked given tree left keys request (managers.Fault fault) told stayed finds =
+    offence_unlocks request.stored request.given request.entries (required_in asked.pairs) keys fault finds
+keys_find_none asked given tree left keys request (managers.Refusal refusal) told stayed none = none
+keys_find_none asked given tree left keys request managers.KeyringFault told stayed failed = absurd (omega (arith, stayed, failed.1))
+keys_find_none asked given tree left keys request managers.Memory told stayed free = tt
+
+-- what the tree may answer, the reader with its keys answers, where no keyring failed
+pub reader_allows : (asked : DecryptWords) (given : List KeyValue) (tree left : KeyringMeaning) (keys : List WrapKeyValue) → tree.keys ≡ Some keys → Stayed tree.faults left.faults
+    → Allows (record { finds = TreeFinds (required_in asked.pairs) tree left; finds_none = TreeFindsNone (required_in asked.pairs) tree left }) (answering_by (reader_of asked given keys))
+reader_allows asked given tree left keys told stayed = record {
+  finds = λ request m finds. keys_find asked given tree left keys request m told stayed finds;
+  finds_none = λ request error finds. keys_find_none asked given tree left keys request error told stayed finds;
+}

@@ -1,0 +1,15 @@
+pub mod Feeding
+pub mod Gained
+pub mod Lines
+pub mod Shown
+pub mod Asked
+pub mod Given
+pub mod Chain
+pub mod Keys
+pub mod Endings
+pub mod Files
+pub mod Statuses
+pub mod Reading
+pub mod TreesBack
+pub mod Encryption
+pub mod Decryption

@@ -1,0 +1,111 @@
+-- What is read of the bytes that a decryption took, with a reader's keys.
+use Rattle.std.proofs.Common.{◌≡◌, ◌⊎◌, ◌∙◌, ℕ, List, [], inl, inr, sym, ap, subst}
+use Rattle.std.specs.Io.KnownBytes.{Appends}
+use Rattle.std.proofs.KnownBytes.{Appends-nil}
+use Rattle.esdk_base.specs.Sink.{AppendsFront}
+use Rattle.esdk_base.specs.Streams.{SinkState}
+use Rattle.esdk_fields.specs.declared.faults.Fault.{Fault}
+use Rattle.esdk_fields.specs.declared.refusals.Outside.TheVariants as outsides
+use Rattle.context_codec.specs.Context.{KeyValue}
+use Rattle.keyring_trait.specs.Unlocking.{Unlocking, Unlocks}
+use Rattle.message_format.specs.Judgement.{Judged, content, judged}
+use Rattle.esdk_decrypt.specs.declared.errors.DecryptError.{DecryptError}
+use Rattle.esdk_decrypt.specs.declared.errors.DecryptError.TheVariants as errors
+use Rattle.esdk_decrypt.specs.Decrypt.{Asked, Decrypts, EndsSo, HasFault, Releases, ReleasesFront, fault_at_end, fault_of}
+use Rattle.esdk_decrypt.specs.Told.{Reader, asked_by, judged_by}
+use Rattle.esdk_decrypt.proofs.Readers.{answers_unlocking, judged_reader, never_fails}
+use Rattle.esdk_run.specs.declared.failure.Failure.{Failure}
+use Rattle.esdk_run.specs.declared.failure.Failure.TheVariants as failures
+use Rattle.esdk_run.specs.Objects.{Objects}
+use Rattle.esdk_run.specs.Read.{EndsAsRead, GainsFront, GainsRead, ReadsFault, ReadsWhole, SaysWhatIsRead}
+use Rattle.esdk_run.specs.Report.{Reports, TellsContext}
+
+-- what an error is called in the program
+abbrev pub failure_of : DecryptError → Failure
+failure_of (errors.Fault fault) = failures.Fault fault
+failure_of (errors.Outside outside) = failures.Outside outside
+failure_of errors.Memory = failures.Memory
+
+-- how a decryption ended, and what was said of it
+abbrev pub Ending : Asked → Objects → Objects → Type 0 → ℕ → SinkState → SinkState → Type 0
+Ending asked before after unwritten code report reported =
+    ((context : List KeyValue) × Decrypts asked before.input after.input before.output after.output context × TellsContext context code report reported)
+    ⊎ ((error : DecryptError) × EndsSo asked before.input after.input before.output after.output unwritten error × Reports (failure_of error) code report reported)
+
+-- ---- what was released is what is read
+
+gains_read : (reader : Reader) (before after : Objects) (bytes : List ℕ) (answer : Unlocking)
+    → Releases (asked_by reader) before.input after.input before.output after.output bytes answer → GainsRead reader before after bytes
+gains_read reader before after bytes answer releases = record {
+  came = releases.came;
+  gained = subst (λ (j : Judged). Appends before.output.written after.output.written (content j)) (judged_reader reader bytes answer releases.answered) releases.gained;
+}
+
+gains_front : (reader : Reader) (before after : Objects) → ReleasesFront (asked_by reader) before.input after.input before.output after.output → GainsFront reader before after
+gains_front reader before after front = record {
+  bytes = front.bytes;
+  came = front.came;
+  front = subst (λ (j : Judged). AppendsFront before.output.written after.output.written (content j)) (judged_reader reader front.bytes front.answer front.answered) front.front;
+}
+
+reads_fault : (reader : Reader) (before after : Objects) (fault : Fault) → HasFault (asked_by reader) before.input after.input before.output after.output fault
+    → ReadsFault reader before after fault
+reads_fault reader before after fault has =
+    let same : judged has.bytes reader.settings has.answer ≡ judged_by reader has.bytes = judged_reader reader has.bytes has.answer has.releases.answered in
+    record {
+      bytes = has.bytes;
+      gains = gains_read reader before after has.bytes has.answer has.releases;
+      cause = elim has.cause [
+        | inl early ↦ inl (ap (λ (j : Judged). fault_of j.verdict) (sym same) ∙ early)
+        | inr late ↦ inr (late.0, ap (λ (j : Judged). fault_at_end j.verdict) (sym same) ∙ late.1)
+      ];
+    }
+
+reads_whole : (reader : Reader) (before after : Objects) (code : ℕ) (report reported : SinkState) (context : List KeyValue)
+    → Decrypts (asked_by reader) before.input after.input before.output after.output context → TellsContext context code report reported
+    → ReadsWhole reader before after code report reported
+reads_whole reader before after code report reported context done told =
+    let answer : Unlocking = Unlocks context done.only done.key in
+    let same : judged done.bytes reader.settings answer ≡ judged_by reader done.bytes = judged_reader reader done.bytes answer done.releases.answered in
+    record {
+      bytes = done.bytes;
+      context = context;
+      gains = gains_read reader before after done.bytes answer done.releases;
+      end = done.end;
+      whole = ap (λ (j : Judged). j.verdict) (sym same) ∙ done.whole;
+      unlocked = (done.only, done.key, sym (answers_unlocking reader done.bytes answer done.releases.answered));
+      told = told;
+    }
+
+-- ---- how it ended
+
+ends_as_read : (reader : Reader) (before after : Objects) (unwritten : Type 0) (error : DecryptError) → (unwritten → after.output ≡ before.output)
+    → EndsSo (asked_by reader) before.input after.input before.output after.output unwritten error → EndsAsRead reader before after (failure_of error)
+ends_as_read reader before after unwritten (errors.Fault fault) same has = reads_fault reader before after fault has
+ends_as_read reader before after unwritten (errors.Outside outsides.SourceFault) same fails = record {
+  bytes = fails.bytes;
+  gains = gains_read reader before after fails.bytes fails.answer fails.releases;
+  sound = ap (λ (j : Judged). fault_of j.verdict) (sym (judged_reader reader fails.bytes fails.answer fails.releases.answered)) ∙ fails.sound;
+  because = fails.rose;
+}
+ends_as_read reader before after unwritten (errors.Outside outsides.InputTooLong) same long = record {
+  bytes = long.bytes;
+  gains = gains_read reader before after long.bytes long.answer long.releases;
+  sound = ap (λ (j : Judged). fault_of j.verdict) (sym (judged_reader reader long.bytes long.answer long.releases.answered)) ∙ long.sound;
+  because = long.most;
+}
+ends_as_read reader before after unwritten (errors.Outside outsides.SinkFault) same fails = (gains_front reader before after fails.0, fails.1)
+ends_as_read reader before after unwritten (errors.Outside outsides.KeyringFault) same fails = absurd (never_fails reader fails.0.bytes fails.0.failed)
+ends_as_read reader before after unwritten (errors.Outside other) same none = absurd none
+ends_as_read reader before after unwritten errors.Memory same (inl lost) = record {
+  bytes = lost.0.bytes;
+  came = lost.0.came;
+  front = (0, subst (λ (o : SinkState). Appends before.output.written o.written []) (sym (same lost.1)) (Appends-nil before.output.written));
+}
+ends_as_read reader before after unwritten errors.Memory same (inr front) = gains_front reader before after front
+
+pub says_what_is_read : (reader : Reader) (before after : Objects) (unwritten : Type 0) (code : ℕ) (report reported : SinkState) → (unwritten → after.output ≡ before.output)
+    → Ending (asked_by reader) before after unwritten code report reported → SaysWhatIsRead reader before after code report reported
+says_what_is_read reader before after unwritten code report reported same (inl (context, done, told)) = inl (reads_whole reader before after code report reported context done told)
+says_what_is_read reader before after unwritten code report reported same (inr (error, ends, said)) =
+    inr (record { failure = failure_of error; because = ends_as_read reader before after unwritten error same ends; said = said })

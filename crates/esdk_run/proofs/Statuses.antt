@@ -1,0 +1,48 @@
+-- Which failure a status stands for.
+use Rattle.std.proofs.Common.{◌≡◌, ℕ, inl, inr, refl, subst, arith}
+use Rattle.esdk_base.specs.Streams.{SinkState}
+use Rattle.esdk_fields.specs.declared.faults.Fault.{Fault}
+use Rattle.esdk_fields.specs.Report.{fault_line, printed_line}
+use Rattle.esdk_run.specs.declared.failure.Failure.{Failure}
+use Rattle.esdk_run.specs.declared.failure.Failure.TheVariants as failures
+use Rattle.esdk_run.specs.Report.{Gains, Reports}
+
+-- want of memory
+pub memory_status : (failure : Failure) (code : ℕ) (old new : SinkState) → failure ≡ failures.Memory → Reports failure code old new → code ≡ 5
+memory_status failure code old new is said = (subst (λ (f : Failure). Reports f code old new) is said).status
+
+-- no failure is done
+pub not_done : (failure : Failure) (code : ℕ) (old new : SinkState) → Reports failure code old new → code ≡ 0 → ⊥
+not_done failures.NotBuilt code old new said done = omega (arith, said.status, done)
+not_done (failures.BadNumber name) code old new said done = omega (arith, said.status, done)
+not_done (failures.BadPair number) code old new (inl said) done = omega (arith, said.status, done)
+not_done (failures.BadPair number) code old new (inr said) done = omega (arith, said.status, done)
+not_done (failures.Fault fault) code old new (inl said) done = omega (arith, said.status, done)
+not_done (failures.Fault fault) code old new (inr said) done = omega (arith, said.status, done)
+not_done (failures.File refusal) code old new (inl said) done = omega (arith, said.status, done)
+not_done (failures.File refusal) code old new (inr said) done = omega (arith, said.status, done)
+not_done (failures.Outside outside) code old new said done = omega (arith, said.status, done)
+not_done (failures.Refusal refusal) code old new (inl said) done = omega (arith, said.status, done)
+not_done (failures.Refusal refusal) code old new (inr said) done = omega (arith, said.status, done)
+not_done failures.Memory code old new said done = omega (arith, said.status, done)
+
+-- the failure is this fault, and the report gained its line
+pub record IsFault (failure : Failure) (old new : SinkState) : Type 0 where
+  pub fault : Fault
+  pub is : failure ≡ failures.Fault fault
+  pub line : Gains (printed_line (fault_line fault)) old new
+
+-- status 1 is a fault's
+pub fault_status : (failure : Failure) (code : ℕ) (old new : SinkState) → Reports failure code old new → code ≡ 1 → IsFault failure old new
+fault_status failures.NotBuilt code old new said one = absurd (omega (arith, said.status, one))
+fault_status (failures.BadNumber name) code old new said one = absurd (omega (arith, said.status, one))
+fault_status (failures.BadPair number) code old new (inl said) one = absurd (omega (arith, said.status, one))
+fault_status (failures.BadPair number) code old new (inr said) one = absurd (omega (arith, said.status, one))
+fault_status (failures.Fault fault) code old new (inl said) one = record { fault = fault; is = refl; line = said.line }
+fault_status (failures.Fault fault) code old new (inr said) one = absurd (omega (arith, said.status, one))
+fault_status (failures.File refusal) code old new (inl said) one = absurd (omega (arith, said.status, one))
+fault_status (failures.File refusal) code old new (inr said) one = absurd (omega (arith, said.status, one))
+fault_status (failures.Outside outside) code old new said one = absurd (omega (arith, said.status, one))
+fault_status (failures.Refusal refusal) code old new (inl said) one = absurd (omega (arith, said.status, one))
+fault_status (failures.Refusal refusal) code old new (inr said) one = absurd (omega (arith, said.status, one))
+fault_status failures.Memory code old new said one = absurd (omega (arith, said.status, one))

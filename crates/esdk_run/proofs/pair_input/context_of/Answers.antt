@@ -1,0 +1,18 @@
+use Rattle.std.proofs.Common.{rules, ◌∙◌, List, sym, subst}
+use Rattle.std.specs.declared.result.Result.{Result}
+use Rattle.esdk_fields.specs.declared.refusals.Refusal.{Refusal}
+use Rattle.context_codec.specs.Context.{KeyValue}
+use Rattle.esdk_run.specs.Pairs.{RefusesPairs}
+use Rattle.esdk_run.proofs.Given.{gives_context, inserted_more, refused_more}
+use Rattle.esdk_run.proofs.pair_input.context_of.Goals as goal
+
+pub loop-word-preserved : goal.loop-word-preserved
+loop-word-preserved c = c.loop-word.invariant ∙ inserted_more c.args.words.now c.loop-word.word-index c.word-item.result c.loop-word.context c.insert_pair.new.context (search rules) c.word-item.is (search rules)
+
+pub returns-clause-context : goal.returns-clause-context
+returns-clause-context c = gives_context c.args.words.now c.loop-word.word-index c.loop-word.context c.loop-word.invariant (search rules) c.pairs-pairs.ensures.context
+
+pub returns-in-Err-clause-cause : goal.returns-in-Err-clause-cause
+returns-in-Err-clause-cause c =
+    subst (λ (made : Result (List KeyValue) Refusal). RefusesPairs made c.in-Err.error) (sym c.loop-word.invariant)
+    (refused_more c.args.words.now c.loop-word.word-index c.word-item.result c.loop-word.context c.in-Err.error (search rules) c.word-item.is c.in-Err.ensures.cause)

@@ -1,0 +1,107 @@
+-- What the command `decrypt` comes to.
+use Rattle.std.specs.Prelude.{◌≡◌, ◌⊎◌, ℕ, List, ⊤, Some, None, IfSome}
+use Rattle.esdk_args.specs.declared.request.DecryptWords.{DecryptWords}
+use Rattle.esdk_fields.specs.Counts.{Rose}
+use Rattle.esdk_fields.specs.declared.faults.Fault.TheVariants.{NoKeyOpens}
+use Rattle.esdk_fields.specs.declared.refusals.Outside.TheVariants as outsides
+use Rattle.context_codec.specs.Context.{KeyValue}
+use Rattle.context_codec.specs.Parts.{only_given, whole_of}
+use Rattle.header_codec.specs.declared.settings.Settings.{Settings}
+use Rattle.keyring_trait.specs.declared.manager_errors.ManagerError.{ManagerError}
+use Rattle.keyring_trait.specs.declared.manager_errors.ManagerError.TheVariants as managers
+use Rattle.keyring_trait.specs.Keyring.{KeyringMeaning, Opens}
+use Rattle.keyring_trait.specs.Materials.{DecMaterialsValue}
+use Rattle.keyring_trait.specs.Requests.{DecRequestValue}
+use Rattle.keyring_trait.specs.Unlocking.{pair_offence}
+use Rattle.keyring_trait.specs.Wrapping.{WrapKeyValue, unwrapped}
+use Rattle.esdk_decrypt.specs.declared.errors.DecryptError.{DecryptError}
+use Rattle.esdk_decrypt.specs.declared.errors.DecryptError.TheVariants as errors
+use Rattle.esdk_decrypt.specs.Decrypt.{Asked, Decrypts, EndsSo}
+use Rattle.esdk_decrypt.specs.Told.{Reader}
+use Rattle.esdk_run.specs.declared.failure.Failure.{Failure}
+use Rattle.esdk_run.specs.declared.failure.Failure.TheVariants as failures
+use Rattle.esdk_run.specs.Objects.{Objects}
+use Rattle.esdk_run.specs.Pairs.{RefusesWordPairs, required_in}
+use Rattle.esdk_run.specs.Trees.{HasNoTree, HasTree, IsUntouched, Trees}
+
+-- the limits that the words set
+abbrev pub limits_of : DecryptWords → Settings
+limits_of asked = record { max_keys = asked.max_keys; max_unit = asked.max_unit }
+
+-- ---- what is answered to a header
+
+-- What is found for a header's pairs and entries, where nothing is wrong with the pairs: the whole context, its pairs that are only authenticated, and a data key. Where
+-- the tree tells its keys, one of them opens an entry with this data key; where no keyring failed, it is the first that opens.
+pub record TreeFinds (required : List (List ℕ)) (tree left : KeyringMeaning) (request : DecRequestValue) (materials : DecMaterialsValue) : Type 0 where
+  pub sound : pair_offence request.stored request.given required ≡ None
+  pub context : materials.context ≡ whole_of request.stored request.given
+  pub only : materials.only ≡ only_given request.stored request.given
+  pub opens : Opens tree left (whole_of request.stored request.given) request.entries (Some materials.key)
+
+-- Nothing is wrong with the pairs, and none of the keys opens an entry, where the tree tells them.
+pub record OpensNone (required : List (List ℕ)) (tree : KeyringMeaning) (request : DecRequestValue) : Type 0 where
+  pub sound : pair_offence request.stored request.given required ≡ None
+  pub none : IfSome tree.keys (λ keys. unwrapped keys request.entries (whole_of request.stored request.given) ≡ None)
+
+-- Why nothing is found: M15, where no key opens an entry; else what is wrong with the pairs; or, where nothing is wrong with them, a keyring that failed. Want of memory
+-- is free.
+abbrev pub TreeFindsNone : List (List ℕ) → KeyringMeaning → KeyringMeaning → DecRequestValue → ManagerError → Type 0
+TreeFindsNone required tree left request (managers.Fault NoKeyOpens) = OpensNone required tree request
+TreeFindsNone required tree left request (managers.Fault fault) = pair_offence request.stored request.given required ≡ Some fault
+TreeFindsNone required tree left request managers.KeyringFault = (pair_offence request.stored request.given required ≡ None) × Rose tree.faults left.faults
+TreeFindsNone required tree left request (managers.Refusal refusal) = ⊥
+TreeFindsNone required tree left request managers.Memory = ⊤
+
+-- what is asked for, of a tree that means this before and that after the run: with the pairs that the words give, and the keys that they require
+abbrev pub asked_of : DecryptWords → List KeyValue → KeyringMeaning → KeyringMeaning → Asked
+asked_of asked given tree left = record {
+  manager = record { finds = TreeFinds (required_in asked.pairs) tree left; finds_none = TreeFindsNone (required_in asked.pairs) tree left };
+  settings = limits_of asked;
+  given = given;
+}
+
+-- who reads where the tree tells these keys
+abbrev pub reader_of : DecryptWords → List KeyValue → List WrapKeyValue → Reader
+reader_of asked given keys = record {
+  keys = keys;
+  settings = limits_of asked;
+  given = given;
+  required = required_in asked.pairs;
+}
+
+-- ---- how it ends
+
+-- The words give these pairs, the keyring file is read as a tree, the whole input is a whole message to them, and the output gained its content. This is its whole context.
+pub record DecryptsInput (trees : Trees) (asked : DecryptWords) (before after : Objects) (context : List KeyValue) : Type 0 where
+  pub given : List KeyValue
+  pub tree : KeyringMeaning
+  pub left : KeyringMeaning
+  pub has : HasTree trees asked.pairs asked.keyring before.shelf after.shelf given tree left
+  pub done : Decrypts (asked_of asked given tree left) before.input after.input before.output after.output context
+
+-- The words give these pairs, the keyring file is read as a tree, and the decryption ended with this error.
+pub record DecryptionFails (trees : Trees) (asked : DecryptWords) (before after : Objects) (unwritten : Type 0) (error : DecryptError) : Type 0 where
+  pub given : List KeyValue
+  pub tree : KeyringMeaning
+  pub left : KeyringMeaning
+  pub has : HasTree trees asked.pairs asked.keyring before.shelf after.shelf given tree left
+  pub ended : EndsSo (asked_of asked given tree left) before.input after.input before.output after.output unwritten error
+
+-- Why an input wasn't decrypted, and what that left. `untouched` says that input and output are as before, `unwritten` that the output is, `unread` that the shelf is.
+-- Want of memory is free.
+abbrev pub DecryptFails : Trees → DecryptWords → Objects → Objects → Type 0 → Type 0 → Type 0 → Failure → Type 0
+DecryptFails trees asked before after untouched unwritten unread (failures.File refusal) =
+    HasNoTree trees asked.pairs asked.keyring before.shelf after.shelf (failures.File refusal) × IsUntouched trees untouched
+DecryptFails trees asked before after untouched unwritten unread (failures.Outside outsides.ShelfFault) =
+    HasNoTree trees asked.pairs asked.keyring before.shelf after.shelf (failures.Outside outsides.ShelfFault) × IsUntouched trees untouched
+DecryptFails trees asked before after untouched unwritten unread (failures.Outside outside) = DecryptionFails trees asked before after unwritten (errors.Outside outside)
+DecryptFails trees asked before after untouched unwritten unread (failures.Fault fault) = DecryptionFails trees asked before after unwritten (errors.Fault fault)
+DecryptFails trees asked before after untouched unwritten unread (failures.Refusal refusal) = RefusesWordPairs asked.pairs refusal unread × IsUntouched trees untouched
+DecryptFails trees asked before after untouched unwritten unread failures.Memory = IsUntouched trees untouched ⊎ DecryptionFails trees asked before after unwritten errors.Memory
+DecryptFails trees asked before after untouched unwritten unread failure = ⊥
+
+-- what the failure of a decryption is called in the program
+abbrev pub IsDecryptFailure : DecryptError → Failure → Type 0
+IsDecryptFailure (errors.Fault fault) failure = failure ≡ failures.Fault fault
+IsDecryptFailure (errors.Outside outside) failure = failure ≡ failures.Outside outside
+IsDecryptFailure errors.Memory failure = failure ≡ failures.Memory

@@ -1,0 +1,100 @@
+-- What the command `encrypt` comes to.
+use Rattle.std.specs.Prelude.{◌≡◌, ◌⊎◌, ℕ, List, [], ◌∷◌, length, take, drop, ⊤, Option, option_map, None, IfSome}
+use Rattle.esdk_args.specs.declared.request.EncryptWords.{EncryptWords}
+use Rattle.esdk_base.specs.Streams.{EntropyState}
+use Rattle.esdk_fields.specs.declared.refusals.Outside.TheVariants as outsides
+use Rattle.esdk_fields.specs.declared.refusals.Refusal.{Refusal}
+use Rattle.context_codec.specs.Context.{KeyValue}
+use Rattle.keyring_trait.specs.declared.served.Served.TheVariants.{Direct}
+use Rattle.keyring_trait.specs.Keyring.{KeyringMeaning}
+use Rattle.keyring_trait.specs.Manager.{refusal_named, reserved_used}
+use Rattle.keyring_trait.specs.Materials.{EncMaterialsValue}
+use Rattle.keyring_trait.specs.Requests.{required_absent}
+use Rattle.keyring_trait.specs.Wrapping.{WrapKeyValue, first_some, ivs_of, made}
+use Rattle.esdk_encrypt.specs.declared.errors.EncryptError.{EncryptError}
+use Rattle.esdk_encrypt.specs.declared.errors.EncryptError.TheVariants as errors
+use Rattle.esdk_encrypt.specs.Encrypt.{Asked, Encrypts, EndsSo}
+use Rattle.esdk_encrypt.specs.Told.{NoneFor, Writer}
+use Rattle.esdk_run.specs.declared.failure.Failure.{Failure}
+use Rattle.esdk_run.specs.declared.failure.Failure.TheVariants as failures
+use Rattle.esdk_run.specs.Objects.{Objects}
+use Rattle.esdk_run.specs.Pairs.{RefusesWordPairs, required_in}
+use Rattle.esdk_run.specs.Trees.{HasNoTree, HasTree, IsUntouched, Trees}
+
+-- ---- what is asked for
+
+-- Q4, where a required key has no pair; else Q1, where a key has the reserved prefix; else Q5 or Q6, where the tree refuses to make a data key
+unfoldable pub refusal_asked : EncryptWords → List KeyValue → KeyringMeaning → Option Refusal
+refusal_asked asked context tree =
+    first_some (λ o. o) (required_absent context (required_in asked.pairs) ∷ reserved_used context ∷ option_map refusal_named tree.refuses_none ∷ [])
+
+-- What is given for these random bytes, where nothing is refused: the words' context and required keys; the first 32 bytes as data key; and an entry for each wrap of
+-- the tree. Where the tree tells its keys, the entries are their wraps of the data key, in order, with the bytes behind it as IVs.
+pub record TreeGives (asked : EncryptWords) (context : List KeyValue) (tree : KeyringMeaning) (random : List ℕ) (materials : EncMaterialsValue) : Type 0 where
+  pub unrefused : refusal_asked asked context tree ≡ None
+  pub whole : materials.context ≡ context
+  pub required : materials.required ≡ required_in asked.pairs
+  pub key : materials.key ≡ take 32 random
+  pub count : length materials.entries ≡ tree.wraps
+  pub wrapped : IfSome tree.keys (λ keys. materials.entries ≡ made keys context (take 32 random) (ivs_of tree.wraps (drop 32 random)))
+  pub served : materials.served ≡ Direct
+
+-- what is asked for, of a tree that means this before and that after the run
+abbrev pub asked_of : EncryptWords → List KeyValue → KeyringMeaning → KeyringMeaning → Asked
+asked_of asked context tree left = record {
+  wraps = tree.wraps;
+  gives = TreeGives asked context tree;
+  gives_none = NoneFor (refusal_asked asked context tree) tree.faults left.faults;
+  size = asked.frame;
+  max_keys = asked.max_keys;
+}
+
+-- who writes where the tree tells these keys: they, over the context of the words' pairs, with the keys that the words require
+abbrev pub writer_of : EncryptWords → List KeyValue → List WrapKeyValue → Writer
+writer_of asked context keys = record {
+  keys = keys;
+  context = context;
+  required = required_in asked.pairs;
+  size = asked.frame;
+  max_keys = asked.max_keys;
+}
+
+-- ---- how it ends
+
+-- The words give a context, the keyring file is read as a tree, and the output gained the message of the whole input.
+pub record EncryptsInput (trees : Trees) (asked : EncryptWords) (before after : Objects) (entropy spent : EntropyState) : Type 0 where
+  pub context : List KeyValue
+  pub tree : KeyringMeaning
+  pub left : KeyringMeaning
+  pub has : HasTree trees asked.pairs asked.keyring before.shelf after.shelf context tree left
+  pub done : Encrypts (asked_of asked context tree left) before.input after.input before.output after.output entropy spent
+
+-- The words give a context, the keyring file is read as a tree, and the encryption ended with this error.
+pub record EncryptionFails (trees : Trees) (asked : EncryptWords) (before after : Objects) (entropy spent : EntropyState) (untouched : Type 0) (error : EncryptError) : Type 0 where
+  pub context : List KeyValue
+  pub tree : KeyringMeaning
+  pub left : KeyringMeaning
+  pub has : HasTree trees asked.pairs asked.keyring before.shelf after.shelf context tree left
+  pub ended : EndsSo (asked_of asked context tree left) before.input after.input before.output after.output entropy spent untouched ⊤ error
+
+-- Why an input wasn't encrypted, and what that left. `untouched` says that input and output are as before, `unread` that the shelf is, `undrawn` that the entropy is.
+-- Want of memory is free.
+abbrev pub EncryptFails : Trees → EncryptWords → Objects → Objects → EntropyState → EntropyState → Type 0 → Type 0 → Type 0 → Failure → Type 0
+EncryptFails trees asked before after entropy spent untouched unread undrawn (failures.File refusal) =
+    HasNoTree trees asked.pairs asked.keyring before.shelf after.shelf (failures.File refusal) × IsUntouched trees (untouched × undrawn)
+EncryptFails trees asked before after entropy spent untouched unread undrawn (failures.Outside outsides.ShelfFault) =
+    HasNoTree trees asked.pairs asked.keyring before.shelf after.shelf (failures.Outside outsides.ShelfFault) × IsUntouched trees (untouched × undrawn)
+EncryptFails trees asked before after entropy spent untouched unread undrawn (failures.Outside outside) =
+    EncryptionFails trees asked before after entropy spent untouched (errors.Outside outside)
+EncryptFails trees asked before after entropy spent untouched unread undrawn (failures.Refusal refusal) =
+    (RefusesWordPairs asked.pairs refusal unread × IsUntouched trees (untouched × undrawn))
+    ⊎ EncryptionFails trees asked before after entropy spent untouched (errors.Refusal refusal)
+EncryptFails trees asked before after entropy spent untouched unread undrawn failures.Memory =
+    IsUntouched trees (untouched × undrawn) ⊎ EncryptionFails trees asked before after entropy spent untouched errors.Memory
+EncryptFails trees asked before after entropy spent untouched unread undrawn failure = ⊥
+
+-- what the failure of an encryption is called in the program
+abbrev pub IsEncryptFailure : EncryptError → Failure → Type 0
+IsEncryptFailure (errors.Refusal refusal) failure = failure ≡ failures.Refusal refusal
+IsEncryptFailure (errors.Outside outside) failure = failure ≡ failures.Outside outside
+IsEncryptFailure errors.Memory failure = failure ≡ failures.Memory

@@ -1,0 +1,13 @@
+pub mod ContextLine
+pub mod Decrypt
+pub mod Encrypt
+pub mod HeaderInput
+pub mod List
+pub mod Listing
+pub mod Objects
+pub mod Report
+pub mod Run
+pub mod Told
+pub mod Pairs
+pub mod Read
+pub mod Trees

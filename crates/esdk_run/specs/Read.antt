@@ -1,0 +1,69 @@
+-- What a run of `decrypt` says of the bytes that it took: what a reader reads of them, where the run had the reader's keys and none of its keyrings failed.
+use Rattle.std.specs.Prelude.{◌≡◌, ◌⊎◌, ℕ, List, Some, None}
+use Rattle.std.specs.Io.KnownBytes.{Appends}
+use Rattle.esdk_fields.specs.Counts.{Rose}
+use Rattle.esdk_base.specs.Sink.{AppendsFront}
+use Rattle.esdk_base.specs.Streams.{SinkState}
+use Rattle.esdk_fields.specs.declared.faults.Fault.{Fault}
+use Rattle.esdk_fields.specs.declared.refusals.Outside.TheVariants as outsides
+use Rattle.context_codec.specs.Context.{KeyValue}
+use Rattle.body_format.specs.declared.verdicts.Verdict.TheVariants.{Whole}
+use Rattle.message_format.specs.Judgement.{content}
+use Rattle.message_format.specs.Reading.{unlocking}
+use Rattle.whole_input.specs.Taken.{Came, EndSeen, MostTaken}
+use Rattle.esdk_decrypt.specs.Decrypt.{HasContext, fault_at_end, fault_of}
+use Rattle.esdk_decrypt.specs.Told.{Reader, judged_by}
+use Rattle.esdk_run.specs.declared.failure.Failure.{Failure}
+use Rattle.esdk_run.specs.declared.failure.Failure.TheVariants as failures
+use Rattle.esdk_run.specs.Objects.{Objects}
+use Rattle.esdk_run.specs.Report.{TellsContext}
+use Rattle.esdk_run.specs.Run.{Fails}
+
+-- These bytes were taken, and the output gained what is read of them.
+pub record GainsRead (reader : Reader) (before after : Objects) (bytes : List ℕ) : Type 0 where
+  pub came : Came before.input after.input bytes
+  pub gained : Appends before.output.written after.output.written (content (judged_by reader bytes))
+
+-- Bytes were taken, and the output gained a front of what is read of them.
+pub record GainsFront (reader : Reader) (before after : Objects) : Type 0 where
+  pub bytes : List ℕ
+  pub came : Came before.input after.input bytes
+  pub front : AppendsFront before.output.written after.output.written (content (judged_by reader bytes))
+
+-- The whole input was taken and is a whole message, the output gained its content, and the report was told its whole context.
+pub record ReadsWhole (reader : Reader) (before after : Objects) (code : ℕ) (report reported : SinkState) : Type 0 where
+  pub bytes : List ℕ
+  pub context : List KeyValue
+  pub gains : GainsRead reader before after bytes
+  pub end : EndSeen before.input after.input bytes
+  pub whole : (judged_by reader bytes).verdict ≡ Whole
+  pub unlocked : HasContext (unlocking bytes reader.settings reader.given reader.required reader.keys) context
+  pub told : TellsContext context code report reported
+
+-- The bytes that were taken have this fault, or they are the whole input and it has it. The output gained what is read of them.
+pub record ReadsFault (reader : Reader) (before after : Objects) (fault : Fault) : Type 0 where
+  pub bytes : List ℕ
+  pub gains : GainsRead reader before after bytes
+  pub cause : (fault_of (judged_by reader bytes).verdict ≡ Some fault)
+      ⊎ (EndSeen before.input after.input bytes × (fault_at_end (judged_by reader bytes).verdict ≡ Some fault))
+
+-- The bytes that were taken have no fault, and no more were taken for this reason. The output gained what is read of them.
+pub record ReadsNoFault (reader : Reader) (before after : Objects) (cause : List ℕ → Type 0) : Type 0 where
+  pub bytes : List ℕ
+  pub gains : GainsRead reader before after bytes
+  pub sound : fault_of (judged_by reader bytes).verdict ≡ None
+  pub because : cause bytes
+
+-- why it wasn't decrypted, by what is read of it
+abbrev pub EndsAsRead : Reader → Objects → Objects → Failure → Type 0
+EndsAsRead reader before after (failures.Fault fault) = ReadsFault reader before after fault
+EndsAsRead reader before after (failures.Outside outsides.SourceFault) = ReadsNoFault reader before after (λ bytes. Rose before.input.faults after.input.faults)
+EndsAsRead reader before after (failures.Outside outsides.InputTooLong) = ReadsNoFault reader before after (λ bytes. MostTaken before.input after.input bytes)
+EndsAsRead reader before after (failures.Outside outsides.SinkFault) = GainsFront reader before after × Rose before.output.faults after.output.faults
+EndsAsRead reader before after failures.Memory = GainsFront reader before after
+EndsAsRead reader before after failure = ⊥
+
+-- All was decrypted, or a failure ended the run: a fault (status 1), X1, X2 or X6 (4), or want of memory (5); each as is read.
+abbrev pub SaysWhatIsRead : Reader → Objects → Objects → ℕ → SinkState → SinkState → Type 0
+SaysWhatIsRead reader before after code report reported =
+    ReadsWhole reader before after code report reported ⊎ Fails (EndsAsRead reader before after) code report reported

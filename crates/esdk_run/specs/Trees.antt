@@ -1,0 +1,112 @@
+-- The keyring tree that a keyring file on a shelf is read as, and what a run leaves of it.
+use Rattle.std.specs.Prelude.{◌≡◌, ◌⊎◌, ◌≤◌, ℕ, List, [], ◌∷◌, length, true, ⊤, Option, option_map, Some, None, IfSome, Result, Ok, Err}
+use Rattle.esdk_fields.specs.Counts.{Stayed}
+use Rattle.esdk_base.specs.Streams.{ShelfState}
+use Rattle.esdk_fields.specs.declared.refusals.FileRefusal.{FileRefusal}
+use Rattle.esdk_fields.specs.declared.refusals.FileRefusal.TheVariants.{FileTooLong}
+use Rattle.esdk_fields.specs.declared.refusals.Outside.TheVariants as outsides
+use Rattle.context_codec.specs.Context.{KeyValue}
+use Rattle.esdk_args.specs.declared.pair_words.PairWord.{PairWord}
+use Rattle.keyring_trait.specs.Keyring.{KeyringMeaning}
+use Rattle.keyring_trait.specs.Wrapping.{active}
+use Rattle.multi_keyring.specs.Forest.{Forest}
+use Rattle.multi_keyring.specs.declared.tree.Node.{Node}
+use Rattle.multi_keyring.specs.Tree.{meanings, tree_meaning}
+use Rattle.keyring_file.specs.declared.plugs.Plug.{Plug}
+use Rattle.keyring_file.specs.Found.{wraps_of}
+use Rattle.keyring_file.specs.KeyFile.{tree_of}
+use Rattle.whole_input.specs.File.{IsFile, IsLong, IsUnread}
+use Rattle.esdk_run.specs.declared.failure.Failure.{Failure}
+use Rattle.esdk_run.specs.declared.failure.Failure.TheVariants as failures
+use Rattle.esdk_run.specs.Pairs.{GivesContext}
+
+-- how a file's bytes are read: as one tree, of which what it means to its callers stands alone in a list; or as a refusal
+abbrev pub TreeReading : Type 0
+TreeReading = List ℕ → Result (List KeyringMeaning) FileRefusal
+
+-- How a run reads keyring files, and what it gives back: what is left of the tree, where it read one.
+pub record Trees : Type 0 where
+  pub read : TreeReading
+  pub kept : Option KeyringMeaning
+
+-- ---- what a file is
+
+-- The file was read without a failure, and is read as this tree.
+pub record TreeIs (read : TreeReading) (old new : ShelfState) (name : List ℕ) (tree : KeyringMeaning) : Type 0 where
+  pub bytes : List ℕ
+  pub file : IsFile old new name bytes
+  pub is : read bytes ≡ Ok (tree ∷ [])
+
+-- The file was read without a failure, and is refused as a keyring file.
+pub record RefusesFile (read : TreeReading) (old new : ShelfState) (name : List ℕ) (refusal : FileRefusal) : Type 0 where
+  pub bytes : List ℕ
+  pub file : IsFile old new name bytes
+  pub is : read bytes ≡ Err refusal
+
+-- the file gave more than 1,048,576 bytes (K10), or it is refused as a keyring file
+abbrev pub FileIsRefused : TreeReading → ShelfState → ShelfState → List ℕ → FileRefusal → Type 0
+FileIsRefused read old new name refusal = ((refusal ≡ FileTooLong) × IsLong old new name) ⊎ RefusesFile read old new name refusal
+
+-- why there is no tree
+abbrev pub TreeCause : TreeReading → ShelfState → ShelfState → List ℕ → Failure → Type 0
+TreeCause read old new name (failures.File refusal) = FileIsRefused read old new name refusal
+TreeCause read old new name (failures.Outside outsides.ShelfFault) = IsUnread old new name
+TreeCause read old new name failures.Memory = ⊤
+TreeCause read old new name failure = ⊥
+
+-- the bytes are read as this refusal, where it is one of keyring files
+abbrev pub ReadCause : TreeReading → List ℕ → Failure → Type 0
+ReadCause read bytes (failures.File refusal) = read bytes ≡ Err refusal
+ReadCause read bytes failures.Memory = ⊤
+ReadCause read bytes failure = ⊥
+
+-- ---- what a tree keeps
+
+-- What every tree keeps: as many of the keys that it tells wrap as it makes entries, and it makes at most 64.
+pub record IsLawful (tree : KeyringMeaning) : Type 0 where
+  pub told : IfSome tree.keys (λ keys. length (active keys) ≡ tree.wraps)
+  pub few : tree.wraps ≤ 64
+
+-- What a run leaves of a tree: all that it tells and means, but for the count of its failures. That never falls, and of a steady tree it stays.
+pub record TreeGoes (old new : KeyringMeaning) : Type 0 where
+  pub keys : new.keys ≡ old.keys
+  pub wraps : new.wraps ≡ old.wraps
+  pub refuses : new.refuses_none ≡ old.refuses_none
+  pub steady : new.steady ≡ old.steady
+  pub later : old.faults ≤ new.faults
+  pub still : old.steady ≡ true → Stayed old.faults new.faults
+
+-- ---- what a run has
+
+-- The words give a context, the keyring file is read as a tree, and what is left of that is given back.
+pub record HasTree (trees : Trees) (words : List PairWord) (name : List ℕ) (old new : ShelfState) (context : List KeyValue) (tree left : KeyringMeaning) : Type 0 where
+  pub given : GivesContext words context
+  pub file : TreeIs trees.read old new name tree
+  pub lawful : IsLawful tree
+  pub kept : trees.kept ≡ Some left
+  pub goes : TreeGoes tree left
+
+-- The words give a context, and the keyring file gives no tree for this reason.
+pub record HasNoTree (trees : Trees) (words : List PairWord) (name : List ℕ) (old new : ShelfState) (failure : Failure) : Type 0 where
+  pub context : List KeyValue
+  pub given : GivesContext words context
+  pub cause : TreeCause trees.read old new name failure
+
+-- What a run leaves that ends before it has a tree: these things are as before, and no tree is given back.
+pub record IsUntouched (trees : Trees) (unchanged : Type 0) : Type 0 where
+  pub same : unchanged
+  pub none : trees.kept ≡ None
+
+-- ---- the trees of a run that was handed these plugs
+
+abbrev means : {P : Type 0} → (P → KeyringMeaning) → Result (Forest P) FileRefusal → Result (List KeyringMeaning) FileRefusal
+means meaning (Ok forest) = Ok (meanings meaning forest)
+means meaning (Err refusal) = Err refusal
+
+-- how files are read with these plugs, of which `meaning` says what they mean
+abbrev pub reading : {P : Type 0} → (P → KeyringMeaning) → List (Plug P) → TreeReading
+reading meaning plugs = λ bytes. means meaning (tree_of (wraps_of meaning) bytes plugs)
+
+-- and what is given back, where this tree is
+abbrev pub trees_of : {P : Type 0} → (P → KeyringMeaning) → List (Plug P) → Option (Node P) → Trees
+trees_of meaning plugs tree = record { read = reading meaning plugs; kept = option_map (tree_meaning meaning) tree }

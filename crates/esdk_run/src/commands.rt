@@ -1,0 +1,174 @@
+//! The commands, each with its status and its line on the report.
+ghost use Rattle.std.specs.Prelude.{◌≡◌, ◌+◌, ◌<◌, ◌≤◌, ◌^◌, false, true, length, Ok};
+ghost use Rattle.esdk_args.specs.declared.request.Request.TheVariants as requests;
+ghost use Rattle.esdk_args.specs.Words.{words_of};
+ghost use Rattle.esdk_base.specs.Streams.{OnTold, entropy_state, sink_state, source_state};
+ghost use Rattle.esdk_run.specs.List.{input_fault};
+ghost use Rattle.esdk_run.specs.Objects.{objects};
+ghost use Rattle.esdk_run.specs.Run.{AgreesWith, DecryptRuns, EncryptRuns, ListRuns, RunsAs, draws, is_status, reads_shelf};
+ghost use Rattle.esdk_run.specs.Trees.{trees_of};
+
+use crate::decrypt::decrypt_input;
+use crate::encrypt::encrypt_input;
+use crate::failure::Failure;
+use crate::list::list;
+use crate::outcome::{Ended, Outcome};
+use crate::report::{line_of_context, report_context, report_failure};
+use crate::status::Status;
+use crate::words::words_failure;
+use esdk_args::{DecryptWords, EncryptWords, Request, read_words};
+use esdk_base::{Entropy, Shelf, Sink, Source};
+use esdk_fields::Text;
+use keyring_file::Plug;
+use keyring_trait::Keyring;
+use std::alloc::Global;
+
+/// Reads the words, and carries out the command that they name.
+pub fn carry_out<P: Keyring, S: Source, O: Sink, R: Sink, F: Shelf, W: Entropy>(
+    alloc: Global,
+    words: &[Text],
+    input: &mut S,
+    output: &mut O,
+    report: &mut R,
+    shelf: &mut F,
+    entropy: &mut W,
+    plugs: Vec<Plug<P>>,
+) -> Ended<P>
+    requires plugs { length plugs.items < 2 ^ 24 }
+    ensures status { is_status result.status.code ≡ true }
+
+    // What the run comes to, by what its words ask for.
+    ensures runs { RunsAs (trees_of P.meaning plugs.items result.tree) (words_of words.now)
+        (objects S.left S.given S.faults O.written O.faults F.files F.given F.faults input.old output.old shelf.old)
+        (objects S.left S.given S.faults O.written O.faults F.files F.given F.faults input.new output.new shelf.new)
+        (entropy_state W.to_come W.faults entropy.old) (entropy_state W.to_come W.faults entropy.new)
+        ((input.new ≡ input.old) × (output.new ≡ output.old)) (output.new ≡ output.old) (shelf.new ≡ shelf.old) (entropy.new ≡ entropy.old)
+        result.status.code (sink_state R.written R.faults report.old) (sink_state R.written R.faults report.new) }
+
+    // No input that begins with a header and its tag is refused by `list` for a fault, and no other is done.
+    ensures judged { words_of words.now ≡ Ok requests.List → OnTold (S.left input.old) (λ bytes. AgreesWith result.status.code (input_fault bytes)) }
+
+    // The shelf keeps its files, and is left alone by commands that read no file; so is the entropy by those that draw nothing.
+    ensures files { F.files shelf.new ≡ F.files shelf.old }
+    ensures shelf { reads_shelf (words_of words.now) ≡ false → shelf.new ≡ shelf.old }
+    ensures entropy { draws (words_of words.now) ≡ false → entropy.new ≡ entropy.old }
+
+    // At most 2^62 bytes are taken.
+    ensures taken { S.given input.new ≤ S.given input.old + 2 ^ 62 }
+{
+    match read_words(alloc, words) {
+        Ok(Request::List) => Ended {
+            status: run_list(alloc, input, output, report),
+            tree: None,
+        },
+        Ok(Request::Encrypt(asked)) => {
+            run_encrypt(alloc, &asked, input, output, report, shelf, entropy, plugs)
+        }
+        Ok(Request::Decrypt(asked)) => {
+            run_decrypt(alloc, &asked, input, output, report, shelf, plugs)
+        }
+        Err(fault) => Ended {
+            status: report_failure(alloc, &words_failure(fault), report),
+            tree: None,
+        },
+    }
+}
+
+/// Carries out `list`.
+fn run_list<S: Source, O: Sink, R: Sink>(
+    alloc: Global,
+    input: &mut S,
+    output: &mut O,
+    report: &mut R,
+) -> Status
+    ensures status { is_status result.code ≡ true }
+    ensures runs { ListRuns
+        (source_state S.left S.given S.faults input.old) (source_state S.left S.given S.faults input.new)
+        (sink_state O.written O.faults output.old) (sink_state O.written O.faults output.new) (output.new ≡ output.old)
+        result.code (sink_state R.written R.faults report.old) (sink_state R.written R.faults report.new) }
+    ensures judged { OnTold (S.left input.old) (λ bytes. AgreesWith result.code (input_fault bytes)) }
+    ensures taken { S.given input.new ≤ S.given input.old + 2 ^ 62 }
+{
+    match list(alloc, input, output) {
+        Ok(()) => Status::DONE,
+        Err(failure) => report_failure(alloc, &failure, report),
+    }
+}
+
+/// Carries out `encrypt`.
+fn run_encrypt<P: Keyring, S: Source, O: Sink, R: Sink, F: Shelf, W: Entropy>(
+    alloc: Global,
+    asked: &EncryptWords,
+    input: &mut S,
+    output: &mut O,
+    report: &mut R,
+    shelf: &mut F,
+    entropy: &mut W,
+    plugs: Vec<Plug<P>>,
+) -> Ended<P>
+    requires some { 1 ≤ asked.now.frame }
+    requires plugs { length plugs.items < 2 ^ 24 }
+    ensures status { is_status result.status.code ≡ true }
+    ensures runs { EncryptRuns (trees_of P.meaning plugs.items result.tree) asked.now
+        (objects S.left S.given S.faults O.written O.faults F.files F.given F.faults input.old output.old shelf.old)
+        (objects S.left S.given S.faults O.written O.faults F.files F.given F.faults input.new output.new shelf.new)
+        (entropy_state W.to_come W.faults entropy.old) (entropy_state W.to_come W.faults entropy.new)
+        ((input.new ≡ input.old) × (output.new ≡ output.old)) (shelf.new ≡ shelf.old) (entropy.new ≡ entropy.old)
+        result.status.code (sink_state R.written R.faults report.old) (sink_state R.written R.faults report.new) }
+    ensures files { F.files shelf.new ≡ F.files shelf.old }
+    ensures taken { S.given input.new ≤ S.given input.old + 2 ^ 62 }
+{
+    let Outcome { ended, tree } = encrypt_input(alloc, asked, input, output, shelf, entropy, plugs);
+    match ended {
+        Ok(()) => Ended {
+            status: Status::DONE,
+            tree,
+        },
+        Err(failure) => Ended {
+            status: report_failure(alloc, &failure, report),
+            tree,
+        },
+    }
+}
+
+/// Carries out `decrypt`.
+fn run_decrypt<P: Keyring, S: Source, O: Sink, R: Sink, F: Shelf>(
+    alloc: Global,
+    asked: &DecryptWords,
+    input: &mut S,
+    output: &mut O,
+    report: &mut R,
+    shelf: &mut F,
+    plugs: Vec<Plug<P>>,
+) -> Ended<P>
+    requires plugs { length plugs.items < 2 ^ 24 }
+    ensures status { is_status result.status.code ≡ true }
+    ensures runs { DecryptRuns (trees_of P.meaning plugs.items result.tree) asked.now
+        (objects S.left S.given S.faults O.written O.faults F.files F.given F.faults input.old output.old shelf.old)
+        (objects S.left S.given S.faults O.written O.faults F.files F.given F.faults input.new output.new shelf.new)
+        ((input.new ≡ input.old) × (output.new ≡ output.old)) (output.new ≡ output.old) (shelf.new ≡ shelf.old)
+        result.status.code (sink_state R.written R.faults report.old) (sink_state R.written R.faults report.new) }
+    ensures files { F.files shelf.new ≡ F.files shelf.old }
+    ensures taken { S.given input.new ≤ S.given input.old + 2 ^ 62 }
+{
+    let Outcome { ended, tree } = decrypt_input(alloc, asked, input, output, shelf, plugs);
+    let context = match ended {
+        Ok(context) => context,
+        Err(failure) => {
+            return Ended {
+                status: report_failure(alloc, &failure, report),
+                tree,
+            };
+        }
+    };
+    match line_of_context(alloc, &context) {
+        Ok(line) => Ended {
+            status: report_context(&line, report),
+            tree,
+        },
+        Err(_) => Ended {
+            status: report_failure(alloc, &Failure::Memory, report),
+            tree,
+        },
+    }
+}

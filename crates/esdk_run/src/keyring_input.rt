@@ -1,0 +1,52 @@
+//! The keyring tree that a keyring file is read as.
+ghost use Rattle.std.specs.Prelude.{◌≡◌, ◌<◌, ◌^◌, [], ◌∷◌, length, IfErr, IfOk, Ok};
+ghost use Rattle.esdk_base.specs.Streams.{shelf_state};
+ghost use Rattle.multi_keyring.specs.Tree.{tree_meaning};
+ghost use Rattle.esdk_run.specs.Trees.{ReadCause, TreeCause, TreeIs, reading};
+
+use crate::failure::Failure;
+use esdk_base::Shelf;
+use esdk_fields::{FileRefusal, Outside};
+use keyring_file::{Plug, TreeError, read_tree};
+use keyring_trait::Keyring;
+use multi_keyring::Node;
+use std::alloc::Global;
+use whole_input::{FileError, take_file};
+
+/// The keyring tree that the file of this name is read as, in which the plugs stand where the file names them. The shelf stays as it is.
+///
+/// `ShelfFault` where a read failed or the file isn't there; then `FileTooLong` where the file has
+/// more than 1,048,576 bytes; then what its bytes are refused for.
+pub fn read_keyring<P: Keyring, F: Shelf>(
+    alloc: Global,
+    shelf: &mut F,
+    name: &str,
+    plugs: Vec<Plug<P>>,
+) -> Result<Node<P>, Failure>
+    requires plugs { length plugs.items < 2 ^ 24 }
+    ensures tree { IfOk result (λ tree. TreeIs (reading P.meaning plugs.items)
+        (shelf_state F.files F.given F.faults shelf.old) (shelf_state F.files F.given F.faults shelf.new) name.now (tree_meaning P.meaning tree)) }
+    ensures cause { IfErr result (TreeCause (reading P.meaning plugs.items)
+        (shelf_state F.files F.given F.faults shelf.old) (shelf_state F.files F.given F.faults shelf.new) name.now) }
+    ensures stays { F.files shelf.new ≡ F.files shelf.old }
+{
+    match take_file(alloc, shelf, name) {
+        Ok(bytes) => tree_in(alloc, bytes.bytes(), plugs),
+        Err(FileError::Shelf) => Err(Failure::Outside(Outside::ShelfFault)),
+        Err(FileError::TooLong) => Err(Failure::File(FileRefusal::FileTooLong)),
+        Err(FileError::Memory) => Err(Failure::Memory),
+    }
+}
+
+/// The keyring tree that these bytes of a file are read as.
+fn tree_in<P: Keyring>(alloc: Global, bytes: &[u8], plugs: Vec<Plug<P>>) -> Result<Node<P>, Failure>
+    requires plugs { length plugs.items < 2 ^ 24 }
+    ensures tree { IfOk result (λ tree. reading P.meaning plugs.items bytes.now ≡ Ok (tree_meaning P.meaning tree ∷ [])) }
+    ensures cause { IfErr result (ReadCause (reading P.meaning plugs.items) bytes.now) }
+{
+    match read_tree(alloc, bytes, plugs) {
+        Ok(tree) => Ok(tree),
+        Err(TreeError::File(refusal)) => Err(Failure::File(refusal)),
+        Err(TreeError::Memory) => Err(Failure::Memory),
+    }
+}

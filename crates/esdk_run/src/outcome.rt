@@ -1,0 +1,35 @@
+//! What a command and a run come to, with the tree that they give back.
+ghost use Rattle.std.specs.Prelude.{◌≡◌, Err, None};
+
+use crate::failure::Failure;
+use crate::status::Status;
+use multi_keyring::Node;
+
+/// What a tree of keyrings was used for came to, and the tree as that left it.
+#[derive(Drop)]
+pub struct Outcome<E, K> {
+    /// How it ended.
+    pub ended: E,
+    /// The tree.
+    pub tree: K,
+}
+
+/// How a run ended.
+#[derive(Drop)]
+pub struct Ended<P> {
+    /// The exit status.
+    pub status: Status,
+    /// The tree that the keyring file was read as, as the run left it: there exactly where a keyring file was read as a tree,
+    /// but that it may be missing at status 5.
+    pub tree: Option<Node<P>>,
+}
+
+/// This failure, where there is no tree yet.
+pub fn without_tree<T, P>(failure: Failure) -> Outcome<Result<T, Failure>, Option<Node<P>>>
+    ensures { result ≡ record { ended = Err failure; tree = None } }
+{
+    Outcome {
+        ended: Err(failure),
+        tree: None,
+    }
+}

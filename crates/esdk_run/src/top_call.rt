@@ -1,0 +1,109 @@
+//! The top call: all that the program does, over the words and the objects that it is handed.
+ghost use Rattle.std.specs.Prelude.{◌≡◌, ◌+◌, ◌<◌, ◌≤◌, ◌^◌, false, true, length, IfSome, Ok};
+ghost use Rattle.esdk_args.specs.declared.request.DecryptWords.{DecryptWords};
+ghost use Rattle.esdk_args.specs.declared.request.EncryptWords.{EncryptWords};
+ghost use Rattle.esdk_args.specs.declared.request.Request.TheVariants as requests;
+ghost use Rattle.esdk_args.specs.Words.{words_of};
+ghost use Rattle.esdk_base.specs.Streams.{OnTold, entropy_state, shelf_state, sink_state};
+ghost use Rattle.esdk_run.specs.List.{input_fault};
+ghost use Rattle.esdk_run.specs.Objects.{objects};
+ghost use Rattle.esdk_run.specs.Run.{AgreesWith, RunsAs, draws, is_status, reads_shelf};
+ghost use Rattle.esdk_run.specs.Told.{ComesBack, DecryptsWholeMessages, EncryptsWhatFits, ReadsBack, SaysTheJudgement, SaysWhatItReads, WritesTheMessage, keyring_asked};
+ghost use Rattle.esdk_run.specs.Trees.{trees_of};
+
+use crate::commands::carry_out;
+use crate::outcome::Ended;
+use esdk_base::{Clock, Entropy, Shelf, Sink, Source};
+use esdk_fields::Text;
+use keyring_file::Plug;
+use keyring_trait::Keyring;
+use std::alloc::Global;
+
+/// Carries out the command that the words name, and answers the exit status, with the tree of keyrings
+/// that a keyring file was read as, as the run left it: it is given back exactly where one was read. At status 5
+/// alone it may be missing though one was read, and then input, output and entropy are as before.
+///
+/// `list` reads a header and its tag from the input and writes the header's listing on the output.
+/// `encrypt` writes the message of its whole input under the tree of a keyring file, over the context of
+/// its words. `decrypt` writes what the judgement of its input releases under such a tree, with the pairs
+/// of its words given, and the whole context on the report. The plugs are the keyrings that a keyring
+/// file may name. Where a run fails, the report gets one line, and nothing
+/// more is read or written; a report that fails then changes nothing. The status is 0 where all was done,
+/// 1 for a fault of the input, 2 for words that aren't of the form of a command or have a bad number or a
+/// bad pair, 3 for a keyring file that is refused, 4 for a failure of the input, the output, the report of
+/// a context, the shelf, the entropy or a keyring or an input that is too long, 5 where memory ran out, and 6 for a
+/// request that is refused.
+pub fn run<P: Keyring, S: Source, O: Sink, R: Sink, F: Shelf, W: Entropy, C: Clock>(
+    alloc: Global,
+    words: &[Text],
+    input: &mut S,
+    output: &mut O,
+    report: &mut R,
+    shelf: &mut F,
+    entropy: &mut W,
+    clock: &mut C,
+    plugs: Vec<Plug<P>>,
+) -> Ended<P>
+    requires plugs { length plugs.items < 2 ^ 24 }
+    ensures status { is_status result.status.code ≡ true }
+
+    // What the run comes to, by what its words ask for.
+    ensures runs { RunsAs (trees_of P.meaning plugs.items result.tree) (words_of words.now)
+        (objects S.left S.given S.faults O.written O.faults F.files F.given F.faults input.old output.old shelf.old)
+        (objects S.left S.given S.faults O.written O.faults F.files F.given F.faults input.new output.new shelf.new)
+        (entropy_state W.to_come W.faults entropy.old) (entropy_state W.to_come W.faults entropy.new)
+        ((input.new ≡ input.old) × (output.new ≡ output.old)) (output.new ≡ output.old) (shelf.new ≡ shelf.old) (entropy.new ≡ entropy.old)
+        result.status.code (sink_state R.written R.faults report.old) (sink_state R.written R.faults report.new) }
+
+    // No input that begins with a header and its tag is refused by `list` for a fault, and no other is done.
+    ensures judged { words_of words.now ≡ Ok requests.List → OnTold (S.left input.old) (λ bytes. AgreesWith result.status.code (input_fault bytes)) }
+
+    // The shelf keeps its files, and is left alone by commands that read no file; so is the entropy by those that draw nothing.
+    ensures files { F.files shelf.new ≡ F.files shelf.old }
+    ensures shelf { reads_shelf (words_of words.now) ≡ false → shelf.new ≡ shelf.old }
+    ensures entropy { draws (words_of words.now) ≡ false → entropy.new ≡ entropy.old }
+
+    // No command reads the clock.
+    ensures clock { clock.new ≡ clock.old }
+
+    // At most 2^62 bytes are taken.
+    ensures taken { S.given input.new ≤ S.given input.old + 2 ^ 62 }
+
+    // A tree is given back only where the keyring file was read as one; and where the shelf tells that it holds one and doesn't fail, it is, but at status 5.
+    ensures tree { IfSome (keyring_asked (words_of words.now)) (λ asked. ComesBack (trees_of P.meaning plugs.items result.tree) asked.0 asked.1
+        (shelf_state F.files F.given F.faults shelf.old) (shelf_state F.files F.given F.faults shelf.new) result.status.code) }
+
+    // `encrypt`: the output gains the message of the input, and an input that fits into a message is done, unless memory runs out or an object fails.
+    ensures message { (asked : EncryptWords) → words_of words.now ≡ Ok (requests.Encrypt asked) → WritesTheMessage (trees_of P.meaning plugs.items result.tree) asked
+        (objects S.left S.given S.faults O.written O.faults F.files F.given F.faults input.old output.old shelf.old)
+        (objects S.left S.given S.faults O.written O.faults F.files F.given F.faults input.new output.new shelf.new)
+        (entropy_state W.to_come W.faults entropy.old) result.status.code }
+    ensures fits { (asked : EncryptWords) → words_of words.now ≡ Ok (requests.Encrypt asked) → EncryptsWhatFits (trees_of P.meaning plugs.items result.tree) asked
+        (objects S.left S.given S.faults O.written O.faults F.files F.given F.faults input.old output.old shelf.old)
+        (objects S.left S.given S.faults O.written O.faults F.files F.given F.faults input.new output.new shelf.new)
+        (entropy_state W.to_come W.faults entropy.old) (entropy_state W.to_come W.faults entropy.new) result.status.code
+        (sink_state R.written R.faults report.old) (sink_state R.written R.faults report.new) }
+
+    // `decrypt`: of the bytes taken, what the keys of the tree read of them decides, whatever the objects tell.
+    ensures reads { (asked : DecryptWords) → words_of words.now ≡ Ok (requests.Decrypt asked) → SaysWhatItReads (trees_of P.meaning plugs.items result.tree) asked
+        (objects S.left S.given S.faults O.written O.faults F.files F.given F.faults input.old output.old shelf.old)
+        (objects S.left S.given S.faults O.written O.faults F.files F.given F.faults input.new output.new shelf.new) result.status.code
+        (sink_state R.written R.faults report.old) (sink_state R.written R.faults report.new) }
+
+    // `decrypt`: the judgement of all bytes of the input is said; a whole message is done, and a message that was written is given back, unless memory runs out or an object fails.
+    ensures judgement { (asked : DecryptWords) → words_of words.now ≡ Ok (requests.Decrypt asked) → SaysTheJudgement (trees_of P.meaning plugs.items result.tree) asked
+        (objects S.left S.given S.faults O.written O.faults F.files F.given F.faults input.old output.old shelf.old)
+        (objects S.left S.given S.faults O.written O.faults F.files F.given F.faults input.new output.new shelf.new) result.status.code
+        (sink_state R.written R.faults report.old) (sink_state R.written R.faults report.new) }
+    ensures whole { (asked : DecryptWords) → words_of words.now ≡ Ok (requests.Decrypt asked) → DecryptsWholeMessages (trees_of P.meaning plugs.items result.tree) asked
+        (objects S.left S.given S.faults O.written O.faults F.files F.given F.faults input.old output.old shelf.old)
+        (objects S.left S.given S.faults O.written O.faults F.files F.given F.faults input.new output.new shelf.new) result.status.code
+        (sink_state R.written R.faults report.old) (sink_state R.written R.faults report.new) }
+    ensures round_trip { (asked : DecryptWords) → words_of words.now ≡ Ok (requests.Decrypt asked) → ReadsBack (trees_of P.meaning plugs.items result.tree) asked
+        (objects S.left S.given S.faults O.written O.faults F.files F.given F.faults input.old output.old shelf.old)
+        (objects S.left S.given S.faults O.written O.faults F.files F.given F.faults input.new output.new shelf.new) result.status.code
+        (sink_state R.written R.faults report.old) (sink_state R.written R.faults report.new) }
+{
+    let _clock = clock;
+    carry_out(alloc, words, input, output, report, shelf, entropy, plugs)
+}

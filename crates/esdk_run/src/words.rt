@@ -1,0 +1,18 @@
+//! Words that are refused.
+ghost use Rattle.std.specs.Prelude.{◌≡◌};
+ghost use Rattle.esdk_run.specs.Run.{words_failure};
+
+use crate::failure::Failure;
+use esdk_args::WordsFault;
+
+/// What refused words are called in the program.
+pub fn words_failure(fault: WordsFault) -> Failure
+    ensures { result ≡ words_failure fault }
+{
+    match fault {
+        WordsFault::NotBuilt => Failure::NotBuilt,
+        WordsFault::BadNumber(name) => Failure::BadNumber(name),
+        WordsFault::BadPair(number) => Failure::BadPair(number),
+        WordsFault::Memory => Failure::Memory,
+    }
+}
