@@ -1,0 +1,415 @@
+#!/usr/bin/env python3
+"""What a run has to come to: a judge of cases that is no part of the program.
+
+    judge.py FILE..          says each case whose `ends` line isn't what the judge finds, and ends with 1 if there is one
+    judge.py --fill FILE..   writes an `ends` line into each case of the files that has none
+
+Written from the text of docs/FORMAT.md, over the package `cryptography`. The files are read one after another, and see each
+other's named values.
+"""
+
+import sys
+from dataclasses import dataclass
+
+import keyrings
+from forms import MOST_PIECE, Reader, shown, shown_report
+from keyrings import KeyringFault, json_text
+from messages import (
+    MOST_CONTEXT,
+    Bytes,
+    Fault,
+    Going,
+    check_lock,
+    context_length,
+    framed_units,
+    locked_header,
+    read_header,
+    units,
+)
+from objects import Entropy, Failed, Shelf, Sink, Source
+
+MOST_FILE = 1_048_576
+MOST_HEADER = 16_777_216
+DONE, FAULT, WORDS, FILE, OUTSIDE, REFUSED = 0, 1, 2, 3, 4, 6
+
+OPTIONS = {
+    "encrypt": {"--keyring": None, "--frame": 2**32 - 1, "--max-keys": 2**16 - 1},
+    "decrypt": {"--keyring": None, "--max-keys": 2**16 - 1, "--max-unit": 2**36 - 32},
+}
+
+
+class Ended(Exception):
+    """A run ends with this status, and this line on the report."""
+
+    def __init__(self, status, line):
+        super().__init__(line)
+        self.status = status
+        self.line = line
+
+
+@dataclass
+class Asked:
+    """What the words ask for."""
+
+    command: str
+    keyring: str
+    numbers: dict
+    pairs: list
+
+
+def read_words(words):
+    """The narrow form: the command, its options in their order, the pairs."""
+    words = [word.decode() for word in words]
+    if words == ["list"]:
+        return Asked("list", None, {}, [])
+    if not words or words[0] not in OPTIONS:
+        raise Ended(WORDS, "words NotBuilt")
+    options, rest = {}, words[1:]
+    for name in OPTIONS[words[0]]:
+        if rest and rest[0] == name:
+            options[name], rest = option_value(rest), rest[2:]
+    if "--keyring" not in options or any(word.startswith("-") for word in rest):
+        raise Ended(WORDS, "words NotBuilt")
+    numbers = {
+        name: read_number(name, options[name], most)
+        for name, most in OPTIONS[words[0]].items()
+        if name in options and most
+    }
+    return Asked(words[0], options["--keyring"], numbers, read_pairs(rest))
+
+
+def option_value(rest):
+    if len(rest) < 2 or rest[1].startswith("-"):
+        raise Ended(WORDS, "words NotBuilt")
+    return rest[1]
+
+
+def read_number(name, text, most):
+    is_number = 1 <= len(text) <= 20 and all(digit in "0123456789" for digit in text)
+    if not is_number or not 1 <= int(text) <= most:
+        raise Ended(WORDS, f"words BadNumber {name}")
+    return int(text)
+
+
+def read_pairs(words):
+    """Key, value and whether the key is required, of each word."""
+    pairs = []
+    for place, word in enumerate(words, 1):
+        key, has_value, value = word.partition("=")
+        is_required = key.endswith(":")
+        key = key[:-1] if is_required else key
+        if not key or not (has_value or is_required):
+            raise Ended(WORDS, f"words BadPair {place}")
+        pairs.append((key.encode(), value.encode() if has_value else None, is_required))
+    return pairs
+
+
+def context_of(pairs):
+    context = {}
+    for key, value, _ in pairs:
+        if value is None:
+            continue
+        if key in context:
+            raise Ended(REFUSED, f"Q3 DuplicateKey {json_text(key.decode())}")
+        longer = context_length({**context, key: value})
+        if longer > MOST_CONTEXT:
+            raise Ended(REFUSED, f"Q2 ContextTooLong {longer}")
+        context[key] = value
+    return context
+
+
+def required_of(pairs):
+    return {key for key, _, is_required in pairs if is_required}
+
+
+def context_line(context):
+    members = ",".join(
+        f"{json_text(key.decode())}:{json_text(context[key].decode())}" for key in sorted(context)
+    )
+    return "{" + members + "}"
+
+
+class Run:
+    """A run over the objects of a case."""
+
+    def __init__(self, case):
+        failing = case.failing
+        self.words = case.words
+        self.input = Source(case.input, case.piece, failing["input"])
+        self.output = Sink(case.room["output"], failing["output"])
+        self.report = Sink(case.room["report"], failing["report"])
+        self.shelf = Shelf(case.files, failing["shelf"])
+        self.entropy = Entropy(case.entropy, failing["entropy"])
+        self.plugs = [plug_of(settings) for settings in case.plugs]
+        self.tree = None
+        self.whole = None
+
+    def ended(self):
+        """The line of how the run ends."""
+        try:
+            status = self.status_of(read_words(self.words))
+        except Ended as ended:
+            status = ended.status
+            self.put_refusal(f"esdk: {ended.line}\n".encode())
+        return (
+            f"status {status} taken {self.input.taken} drawn {self.entropy.drawn} "
+            f"tree {'yes' if self.tree else 'no'} output {shown(self.output.written)} "
+            f"files - report {shown_report(self.report.written)}"
+        )
+
+    def put_refusal(self, line):
+        try:
+            self.report.put(line)
+        except Failed:
+            pass
+
+    def status_of(self, asked):
+        if asked.command == "list":
+            self.list()
+            return DONE
+        context = context_of(asked.pairs)
+        required = required_of(asked.pairs)
+        self.tree = self.read_keyring(asked.keyring)
+        if asked.command == "encrypt":
+            self.encrypt(asked.numbers, context, required)
+            return DONE
+        whole = self.decrypt(asked.numbers, context, required)
+        return self.put_context(whole)
+
+    def put_context(self, whole):
+        try:
+            self.report.put(f"{context_line(whole)}\n".encode())
+        except Failed:
+            return OUTSIDE
+        return DONE
+
+    def put(self, bytes_):
+        try:
+            self.output.put(bytes_)
+        except Failed:
+            raise Ended(OUTSIDE, "X2 SinkFault") from None
+
+    def read(self):
+        try:
+            return self.input.read(MOST_PIECE)
+        except Failed:
+            raise Ended(OUTSIDE, "X1 SourceFault") from None
+
+    def read_keyring(self, name):
+        try:
+            bytes_ = self.shelf.read_whole(name, MOST_FILE)
+        except Failed:
+            raise Ended(OUTSIDE, "X3 ShelfFault") from None
+        if len(bytes_) > MOST_FILE:
+            raise Ended(FILE, "K10 FileTooLong")
+        try:
+            return keyrings.read_tree(bytes_, self.plugs)
+        except keyrings.Refusal as refusal:
+            raise Ended(FILE, str(refusal)) from None
+
+    # list
+
+    def list(self):
+        """Reads until the header with its tag is whole, and no further."""
+        bytes_ = b""
+        while True:
+            piece = self.read()
+            if not piece:
+                raise Ended(FAULT, "M10 Truncated")
+            bytes_ += piece
+            try:
+                header = read_header(Bytes(bytes_))
+            except Going:
+                continue
+            except Fault as fault:
+                raise Ended(FAULT, str(fault)) from None
+            return self.put(listing(header).encode())
+
+    # encrypt
+
+    def encrypt(self, numbers, context, required):
+        frame = numbers.get("--frame", 4096)
+        count = len(self.tree.leaves())
+        try:
+            random = self.entropy.fill(64 + 12 * count)
+        except Failed:
+            raise Ended(OUTSIDE, "X4 EntropyFault") from None
+        message_id, data_key, rest = random[:32], random[32:64], random[64:]
+        refuse_request(context, required, self.tree)
+        ivs = [rest[12 * i : 12 * i + 12] for i in range(count)]
+        try:
+            entries = keyrings.wrap_all(self.tree, ivs, data_key, context)
+        except KeyringFault:
+            raise Ended(OUTSIDE, "X5 KeyringFault") from None
+        refuse_entries(entries, numbers.get("--max-keys"), context, required)
+        only = {key: context[key] for key in required}
+        stored = {key: context[key] for key in context if key not in required}
+        text = self.whole_input()
+        self.put(locked_header(message_id, stored, only, entries, frame, data_key))
+        for unit in framed_units(data_key, message_id, frame, text):
+            self.put(unit)
+
+    def whole_input(self):
+        text = b""
+        while piece := self.read():
+            text += piece
+        return text
+
+    # decrypt
+
+    def decrypt(self, numbers, given, required):
+        """Judges what was taken, and gives the whole context."""
+        failure = None
+        bytes_ = b""
+        try:
+            while piece := self.read():
+                bytes_ += piece
+        except Ended as ended:
+            failure = ended
+        released, verdict = self.judged(bytes_, numbers, given, required)
+        for unit in released:
+            if unit:
+                self.put(unit)
+        if verdict not in (Going, None):
+            raise Ended(FAULT, verdict)
+        if failure:
+            raise failure
+        if verdict is Going:
+            raise Ended(FAULT, "M10 Truncated")
+        return self.whole
+
+    def judged(self, bytes_, numbers, given, required):
+        """The contents of the units, and the fault, Going, or None of a whole message."""
+        released = []
+        max_unit = numbers.get("--max-unit")
+        left = Bytes(bytes_)
+        try:
+            header = read_header(left, numbers.get("--max-keys"), max_unit)
+            data_key = self.unlocked(header, given, required)
+            for unit in units(left, header, data_key, max_unit):
+                released.append(unit)
+        except Fault as fault:
+            return released, str(fault)
+        except Going:
+            return released, Going
+        return released, None
+
+    def unlocked(self, header, given, required):
+        """The data key of the header."""
+        only, whole = joined(header.stored, given, required)
+        try:
+            data_key = keyrings.open_first(self.tree, header.entries, whole)
+        except KeyringFault:
+            raise Ended(OUTSIDE, "X5 KeyringFault") from None
+        if data_key is None:
+            raise Fault("M15 NoKeyOpens")
+        check_lock(header, only, data_key)
+        self.whole = whole
+        return data_key
+
+
+def plug_of(settings):
+    files = {} if settings.file is None else {"esdk.key": settings.file}
+    shelf = Shelf(files, settings.failing)
+    return keyrings.Plug(
+        settings.name, settings.namespace.encode(), settings.key_name.encode(), shelf
+    )
+
+
+def joined(stored, given, required):
+    """The pairs that are authenticated only, and the whole context."""
+    for key in sorted(required):
+        if key not in given:
+            raise Fault(f"M13 MissingRequired {json_text(key.decode())}")
+    if b"aws-crypto-public-key" in stored:
+        raise Fault("M11 ReservedKey")
+    for key in sorted(stored):
+        if key in given and given[key] != stored[key]:
+            raise Fault(f"M12 ContextMismatch {json_text(key.decode())}")
+    only = {key: given[key] for key in given if key not in stored}
+    whole = {**stored, **only}
+    if context_length(whole) > MOST_CONTEXT:
+        raise Fault(f"M14 ContextTooLong {context_length(whole)}")
+    return only, whole
+
+
+def refuse_request(context, required, tree):
+    for key in sorted(required):
+        if key not in context:
+            raise Ended(REFUSED, f"Q4 RequiredAbsent {json_text(key.decode())}")
+    for key in sorted(context):
+        if key.startswith(b"aws-crypto-"):
+            raise Ended(REFUSED, f"Q1 ReservedPrefix {json_text(key.decode())}")
+    if tree.refuses(False):
+        raise Ended(REFUSED, tree.refuses(False))
+
+
+def refuse_entries(entries, max_keys, context, required):
+    if max_keys is not None and len(entries) > max_keys:
+        raise Ended(REFUSED, f"Q7 TooManyDataKeys {len(entries)}")
+    stored = {key: context[key] for key in context if key not in required}
+    end = 37 + context_length(stored) + 2 + sum(len(entry.text()) for entry in entries)
+    if end > MOST_HEADER:
+        raise Ended(REFUSED, f"Q8 HeaderTooLong {end}")
+
+
+def listing(header):
+    lines = [
+        "version: 2",
+        "suite: 0478",
+        f"message-id: {header.message_id.hex()}",
+        f"context: {context_line(header.stored)}",
+        f"data-keys: {len(header.entries)}",
+    ]
+    for count, entry in enumerate(header.entries, 1):
+        parts = f"provider={entry.provider.hex()} info={entry.info.hex()}"
+        lines.append(f"data-key {count}: {parts} ciphertext={entry.cipher.hex()}")
+    lines += [
+        f"content: {'framed' if header.is_framed() else 'single'}",
+        f"frame-length: {header.frame}",
+        f"commitment: {header.commitment.hex()}",
+        f"tag: {header.tag.hex()}",
+    ]
+    return "".join(f"{line}\n" for line in lines)
+
+
+def ends_of(case):
+    return Run(case).ended()
+
+
+def check(paths):
+    """How many cases of the files have another `ends` line than the judge finds."""
+    reader = Reader()
+    count = bad = 0
+    for path in paths:
+        for case in reader.cases(path):
+            count += 1
+            found = ends_of(case)
+            if case.ends != found:
+                bad += 1
+                print(f"{path}: {case.name}\n  stands: {case.ends}\n  judged: {found}")
+    print(f"{count} cases, {bad} differ")
+    return bad
+
+
+def fill(paths):
+    """Writes an `ends` line behind the settings of each case that has none."""
+    reader = Reader()
+    for path in paths:
+        missing = {case.name: ends_of(case) for case in reader.cases(path) if case.ends is None}
+        with open(path, encoding="utf-8", newline="\n") as lines:
+            text = lines.read()
+        for name, ends in missing.items():
+            front, rest = text.split(f"case {name}\n", 1)
+            settings, *behind = rest.split("\n\n", 1)
+            settings = settings.rstrip("\n")
+            text = f"{front}case {name}\n{settings}\nends {ends}\n" + "".join(f"\n{b}" for b in behind)
+        with open(path, "w", encoding="utf-8", newline="\n") as lines:
+            lines.write(text)
+
+
+if __name__ == "__main__":
+    if sys.argv[1:2] == ["--fill"]:
+        fill(sys.argv[2:])
+    else:
+        sys.exit(1 if check(sys.argv[1:]) else 0)

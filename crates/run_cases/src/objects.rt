@@ -1,0 +1,121 @@
+//! The objects in memory that a case is run over.
+ghost use Rattle.std.specs.Prelude.{◌<◌, ◌^◌, length, IfOk};
+
+use crate::case::{Case, KEY_FILE, Plan, PlugPlan};
+use crate::fault::Fault;
+use crate::named::Named;
+use esdk_base::{ListClock, ListEntropy, MemShelf, MemSink, MemSource};
+use esdk_fields::{Blob, Text};
+use keydir_keyring::KeydirKeyring;
+use keyring_file::Plug;
+use raw_aes_keyring::RawError;
+use std::alloc::{AllocError, Global};
+
+/// How many bytes a read gives at most, where that isn't said.
+const PIECE: usize = 65_536;
+
+/// How many bytes an object takes, where that isn't said.
+const ROOM: usize = 1_048_576;
+
+/// How many plugs a case may have.
+const MOST_PLUGS: usize = 1_000;
+
+/// How many bytes a plug's namespace or key name may have.
+const MOST_NAME: usize = 1_024;
+
+/// The keyring of a plug.
+pub type Keydir = KeydirKeyring<MemShelf>;
+
+/// The objects of a run.
+#[derive(Drop)]
+pub struct Objects {
+    pub input: MemSource,
+    pub output: MemSink,
+    pub report: MemSink,
+    pub shelf: MemShelf,
+    pub entropy: ListEntropy,
+    pub clock: ListClock,
+}
+
+/// The objects as the case plans them.
+pub fn objects_of(alloc: Global, case: &Case) -> Result<Objects, AllocError> {
+    Ok(Objects {
+        input: source_of(alloc, &case.input)?,
+        output: sink_of(alloc, &case.output)?,
+        report: sink_of(alloc, &case.report)?,
+        shelf: shelf_of(alloc, &case.files, &case.failing)?,
+        entropy: entropy_of(alloc, &case.entropy)?,
+        clock: ListClock::new(Vec::from_slice(alloc, &case.moments)?),
+    })
+}
+
+fn source_of(alloc: Global, plan: &Plan) -> Result<MemSource, AllocError> {
+    let failing = Vec::from_slice(alloc, &plan.failing)?;
+    let most = plan.most.unwrap_or(PIECE).max(1);
+    Ok(MemSource::new(blob_of(alloc, &plan.bytes)?, most, failing))
+}
+
+fn entropy_of(alloc: Global, plan: &Plan) -> Result<ListEntropy, AllocError> {
+    let failing = Vec::from_slice(alloc, &plan.failing)?;
+    Ok(ListEntropy::new(blob_of(alloc, &plan.bytes)?, failing))
+}
+
+fn sink_of(alloc: Global, plan: &Plan) -> Result<MemSink, AllocError> {
+    let failing = Vec::from_slice(alloc, &plan.failing)?;
+    MemSink::new(alloc, plan.most.unwrap_or(ROOM), failing)
+}
+
+fn blob_of(alloc: Global, bytes: &[u8]) -> Result<Blob, AllocError> {
+    let mut blob = Blob::new(alloc);
+    blob.push_all(bytes)?;
+    Ok(blob)
+}
+
+fn shelf_of(alloc: Global, files: &[Named], failing: &[u64]) -> Result<MemShelf, AllocError> {
+    let mut shelf = MemShelf::new(alloc, Vec::from_slice(alloc, failing)?);
+    for file in files {
+        put_file(alloc, &mut shelf, file)?;
+    }
+    Ok(shelf)
+}
+
+/// Puts the file on the shelf, and takes its room.
+fn put_file(alloc: Global, shelf: &mut MemShelf, file: &Named) -> Result<(), AllocError> {
+    let name = file.name.as_str();
+    if let Some(bytes) = &file.bytes {
+        shelf.place(alloc, name, bytes)?;
+    }
+    if let Some(room) = file.room {
+        shelf.room(alloc, name, room)?;
+    }
+    Ok(())
+}
+
+/// The plugs as they are planned.
+pub fn plugs_of(alloc: Global, plans: &[PlugPlan]) -> Result<Vec<Plug<Keydir>>, Fault>
+    ensures { IfOk result (λ plugs. length plugs.items < 2 ^ 24) }
+{
+    let mut plugs = Vec::new(alloc);
+    for plan in plans {
+        plugs.push(plug_of(alloc, plan)?)?;
+    }
+    if plugs.len() > MOST_PLUGS {
+        return Err(Fault("too many plugs"));
+    }
+    Ok(plugs)
+}
+
+fn plug_of(alloc: Global, plan: &PlugPlan) -> Result<Plug<Keydir>, Fault> {
+    let name = Text::new(alloc, plan.name.as_str())?;
+    let namespace = plan.namespace.as_str();
+    let key_name = plan.key_name.as_str();
+    if namespace.len() > MOST_NAME || key_name.len() > MOST_NAME {
+        return Err(Fault("a plug's name is too long"));
+    }
+    let shelf = shelf_of(alloc, &plan.files, &plan.failing)?;
+    match KeydirKeyring::new(alloc, shelf, KEY_FILE, namespace, key_name) {
+        Ok(keyring) => Ok(Plug { name, keyring }),
+        Err(RawError::ReservedNamespace) => Err(Fault("a plug's namespace is reserved")),
+        Err(RawError::Memory) => Err(Fault::from(AllocError)),
+    }
+}
