@@ -14,8 +14,6 @@ mod frame_buffer;
 mod laws;
 mod session;
 mod start;
-#[cfg(test)]
-mod tests;
 
 pub use errors::SealError;
 pub use laws::{any_cut_gives_the_message, errors_come_exactly};

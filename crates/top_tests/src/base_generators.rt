@@ -1,0 +1,43 @@
+//! The seeded generator, and the system's clock.
+
+use esdk_base::{Clock, Entropy, RngEntropy, SystemClock};
+use rand_chacha::ChaCha20Rng;
+use rand_core::SeedableRng;
+
+/// The first second of 2020, as `date` prints it.
+const START_OF_2020: u64 = 1_577_836_800;
+
+/// Whether the next bytes are these.
+fn fills(entropy: &mut RngEntropy, want: [u8; 8]) -> bool {
+    let mut out = [0; 8];
+    entropy.fill(&mut out).is_ok() && out == want
+}
+
+/// The bytes are the key stream of ChaCha20 under the key and nonce of zeros (RFC 8439, appendix A.1).
+#[test]
+fn a_seeded_generator_fills_in_turn(rt: HostRuntime) {
+    let mut entropy = RngEntropy::new(Some(ChaCha20Rng::from_seed([0; 32])));
+    assert!(rt;
+        fills(
+            &mut entropy,
+            [0x76, 0xb8, 0xe0, 0xad, 0xa0, 0xf1, 0x3d, 0x90]
+        )
+    );
+    assert!(rt;
+        fills(
+            &mut entropy,
+            [0x40, 0x5d, 0x6a, 0xe5, 0x53, 0x86, 0xbd, 0x28]
+        )
+    );
+}
+
+#[test]
+fn without_a_generator_each_fill_fails(rt: HostRuntime) {
+    let mut entropy = RngEntropy::new(None);
+    assert!(rt; entropy.fill(&mut [0; 2]).is_err() && entropy.fill(&mut []).is_err());
+}
+
+#[test]
+fn the_present_is_after_2020(rt: HostRuntime) {
+    assert!(rt; SystemClock::new(rt).now() > START_OF_2020);
+}

@@ -1,0 +1,69 @@
+//! Readers and writers of std, as sources and sinks.
+
+use crate::scratch_path::scratch_path;
+use esdk_base::{Sink, Source, StdSink, StdSource};
+use std::fs::File;
+use std::io::{ErrorKind, Read};
+use std::test::Fail;
+use std::{fs, io};
+
+/// Whether a read, of at most four bytes, gives just these.
+fn gives<S: Source>(source: &mut S, want: &[u8]) -> bool {
+    let mut out = [0; 4];
+    match source.read(&mut out) {
+        Ok(count) => &out[..count] == want,
+        Err(_) => false,
+    }
+}
+
+/// Whether a read fails.
+fn breaks<S: Source>(source: &mut S) -> bool {
+    source.read(&mut [0; 4]).is_err()
+}
+
+/// A reader that gives one byte, and then fails.
+#[derive(Drop)]
+struct Breaking(bool);
+
+impl Read for Breaking {
+    fn read(&mut self, buf: &mut [u8]) -> io::Result<usize> {
+        if self.0 || buf.is_empty() {
+            return Err(io::Error::from(ErrorKind::Other));
+        }
+        self.0 = true;
+        buf[0] = 7;
+        Ok(1)
+    }
+}
+
+#[test]
+fn a_reader_is_passed_through_up_to_its_failure(rt: HostRuntime) {
+    let bytes = [1u8, 2, 3, 4, 5];
+    let mut source = StdSource::new(bytes.as_slice());
+    assert!(rt;
+        gives(&mut source, &[1, 2, 3, 4]) && gives(&mut source, &[5]) && gives(&mut source, &[])
+    );
+    let mut source = StdSource::new(Breaking(false));
+    assert!(rt; gives(&mut source, &[7]) && breaks(&mut source) && breaks(&mut source));
+}
+
+#[test]
+fn a_writer_is_passed_through_up_to_its_room(rt: HostRuntime) {
+    let mut room = [0u8; 3];
+    let mut sink = StdSink::new(room.as_mut_slice());
+    assert!(rt; sink.put(b"ab").is_ok() && sink.put(b"cd").is_err());
+    assert!(rt; room == *b"abc");
+}
+
+#[test]
+fn a_file_is_written_and_read(rt: HostRuntime) -> Result<(), Fail> {
+    let path = scratch_path(&rt, "streams")?;
+    let mut sink = StdSink::new(File::create(&rt, path.as_str())?);
+    assert!(rt; sink.put(b"ab").is_ok() && sink.put(b"c").is_ok());
+    let mut read_only = StdSink::new(File::open(&rt, path.as_str())?);
+    assert!(rt; read_only.put(b"d").is_err());
+    let mut source = StdSource::new(File::open(&rt, path.as_str())?);
+    assert!(rt; gives(&mut source, b"abc") && gives(&mut source, b""));
+    fs::remove_file(&rt, path.as_str())?;
+    Ok(())
+}

@@ -1,0 +1,270 @@
+//! Raw AES keyrings and trees of keyrings, called by themselves.
+
+use crate::known_wraps::{known_cipher, known_ring, opened, wraps};
+use context_codec::Context;
+use edk_codec::DataKeyEntry;
+use keyring_trait::{Keyring, Wrapped};
+use multi_keyring::{Multi, MultiError, Node};
+use raw_aes_keyring::{RawAes, RawError};
+use std::alloc::Global;
+
+/// Whether no entry gives no key.
+fn opens_nothing(alloc: Global) -> bool {
+    match known_ring(alloc) {
+        Some(ring) => matches!(ring.unwrap(alloc, &Context::new(alloc), &[]), Ok(None)),
+        None => false,
+    }
+}
+
+/// A copy of the known keyring.
+fn copied(alloc: Global) -> Option<RawAes> {
+    match known_ring(alloc)?.copy() {
+        Ok(copy) => Some(copy),
+        Err(_) => None,
+    }
+}
+
+/// Whether a keyring refuses nothing, makes the known wrap and opens it.
+fn is_known<K: Keyring>(alloc: Global, keyring: &mut K) -> bool {
+    keyring.refuses(true).is_none()
+        && keyring.refuses(false).is_none()
+        && wraps(alloc, keyring, &known_cipher())
+        && opened(alloc, keyring, &known_cipher()) == Some(true)
+}
+
+/// Whether the copy does.
+fn copy_is_known(alloc: Global) -> bool {
+    match copied(alloc) {
+        Some(mut copy) => is_known(alloc, &mut copy),
+        None => false,
+    }
+}
+
+#[test]
+fn no_entry_gives_no_key(rt: HostRuntime) {
+    assert!(rt; opens_nothing(rt.alloc()));
+}
+
+#[test]
+fn a_copy_takes_all_and_opens_the_same(rt: HostRuntime) {
+    assert!(rt; copy_is_known(rt.alloc()));
+}
+
+/// Whether a namespace is reserved. None where memory runs out.
+fn is_reserved(alloc: Global, namespace: &str) -> Option<bool> {
+    if namespace.len() > 1024 {
+        return None;
+    }
+    match RawAes::new(alloc, namespace, "aws-kms", [0x22; 32]) {
+        Ok(_) => Some(false),
+        Err(RawError::ReservedNamespace) => Some(true),
+        Err(RawError::Memory) => None,
+    }
+}
+
+#[test]
+fn the_namespace_of_aws_kms_is_reserved(rt: HostRuntime) {
+    assert!(rt; is_reserved(rt.alloc(), "aws-kms") == Some(true));
+    assert!(rt; is_reserved(rt.alloc(), "aws-kms-2") == Some(false));
+}
+
+/// A tree whose leaves are raw keys and keyrings in boxes.
+type Tree = Node<Box<dyn Keyring>>;
+
+/// The raw key of this name, as a tree.
+fn raw(alloc: Global, name: &str) -> Option<Tree> {
+    if name.len() > 1024 {
+        return None;
+    }
+    match RawAes::new(alloc, "ns", name, [0x11; 32]) {
+        Ok(ring) => Some(Node::Raw(ring)),
+        Err(_) => None,
+    }
+}
+
+/// The multi-keyring in a box of its own, as a tree.
+fn tree_of(alloc: Global, multi: Multi<Box<dyn Keyring>>) -> Option<Tree> {
+    match Box::new(alloc, multi) {
+        Ok(multi) => Some(Node::Multi(multi)),
+        Err(_) => None,
+    }
+}
+
+/// The multi-keyring of a generator and children, of which there is one at most.
+fn multi_of(generator: Tree, children: Vec<Tree>) -> Option<Multi<Box<dyn Keyring>>> {
+    if children.len() > 1 {
+        return None;
+    }
+    match Multi::new(Some(generator), children) {
+        Ok(multi) => Some(multi),
+        Err(_) => None,
+    }
+}
+
+/// So many levels of multi-keyrings above a raw key.
+fn nested(alloc: Global, levels: u32) -> Option<Tree> {
+    let mut tree = raw(alloc, "k")?;
+    for _ in 0..levels {
+        tree = tree_of(alloc, multi_of(tree, Vec::new(alloc))?)?;
+    }
+    Some(tree)
+}
+
+/// Whether a multi-keyring of no members is refused as empty.
+fn nothing_is_empty(alloc: Global) -> bool {
+    match Multi::<Box<dyn Keyring>>::new(None, Vec::new(alloc)) {
+        Err(MultiError::Empty) => true,
+        _ => false,
+    }
+}
+
+#[test]
+fn a_multi_keyring_needs_a_member(rt: HostRuntime) {
+    assert!(rt; nothing_is_empty(rt.alloc()));
+}
+
+/// Whether one level more is too deep.
+fn is_too_deep(alloc: Global, tree: Tree) -> bool {
+    match Multi::new(Some(tree), Vec::new(alloc)) {
+        Err(MultiError::TooDeep) => true,
+        _ => false,
+    }
+}
+
+/// Whether eight levels are so high, and one more is refused.
+fn ends_at_eight_levels(alloc: Global) -> bool {
+    match nested(alloc, 7) {
+        Some(tree) => tree.height() == 8 && is_too_deep(alloc, tree),
+        None => false,
+    }
+}
+
+#[test]
+fn eight_levels_are_taken_and_nine_are_too_deep(rt: HostRuntime) {
+    assert!(rt; ends_at_eight_levels(rt.alloc()));
+}
+
+/// So many raw keys.
+fn many(alloc: Global, count: u32) -> Option<Vec<Tree>> {
+    let mut children = Vec::new(alloc);
+    for _ in 0..count {
+        match children.push(raw(alloc, "k")?) {
+            Ok(()) => {}
+            Err(_) => return None,
+        }
+    }
+    Some(children)
+}
+
+/// The number of entries that are too many; 0 where they are taken. None where there are over 100 children.
+fn refused_width(children: Vec<Tree>) -> Option<u64> {
+    if children.len() > 100 {
+        return None;
+    }
+    match Multi::new(None, children) {
+        Ok(_) => Some(0),
+        Err(MultiError::TooWide(count)) => Some(count),
+        Err(_) => None,
+    }
+}
+
+/// The same of so many raw keys.
+fn refused_width_of(alloc: Global, count: u32) -> Option<u64> {
+    refused_width(many(alloc, count)?)
+}
+
+#[test]
+fn sixty_four_entries_are_taken_and_one_more_is_too_wide(rt: HostRuntime) {
+    assert!(rt; refused_width_of(rt.alloc(), 64) == Some(0));
+    assert!(rt; refused_width_of(rt.alloc(), 65) == Some(65));
+}
+
+/// The known keyring in a box, as a tree.
+fn boxed(alloc: Global) -> Option<Tree> {
+    match Box::new(alloc, known_ring(alloc)?) {
+        Ok(boxed) => {
+            let boxed: Box<dyn Keyring> = boxed;
+            Some(Node::Handed(boxed))
+        }
+        Err(_) => None,
+    }
+}
+
+/// The tree alone, in a row.
+fn row_of(alloc: Global, tree: Tree) -> Option<Vec<Tree>> {
+    let mut row = Vec::new(alloc);
+    match row.push(tree) {
+        Ok(()) => Some(row),
+        Err(_) => None,
+    }
+}
+
+/// A multi-keyring of a raw key that generates the data key, and the known keyring in a box.
+fn tree_of_two(alloc: Global) -> Option<Tree> {
+    let children = row_of(alloc, boxed(alloc)?)?;
+    tree_of(alloc, multi_of(raw(alloc, "one")?, children)?)
+}
+
+/// There are two entries: the generator's with the first initialization vector, and the boxed keyring's with the second.
+fn are_in_order(entries: &[DataKeyEntry]) -> bool {
+    match entries {
+        [first, second] => {
+            first.info() == b"one\0\0\0\x80\0\0\0\x0caaaaaaaaaaaa".as_slice()
+                && second.info() == b"k\0\0\0\x80\0\0\0\x0cbbbbbbbbbbbb".as_slice()
+        }
+        _ => false,
+    }
+}
+
+/// What a keyring of two wraps makes of the data key of 32 bytes `k`, with initialization vectors of `a` and of `b`.
+fn wrapped_twice<K: Keyring>(alloc: Global, keyring: &mut K) -> Option<Wrapped> {
+    if keyring.wraps() != 2 {
+        return None;
+    }
+    let random = *b"kkkkkkkkkkkkkkkkkkkkkkkkkkkkkkkkaaaaaaaaaaaabbbbbbbbbbbb";
+    match keyring.on_encrypt(alloc, &Context::new(alloc), &random, None) {
+        Ok(wrapped) => Some(wrapped),
+        Err(_) => None,
+    }
+}
+
+/// Whether a keyring finds that data key in these entries.
+fn finds_k<K: Keyring>(alloc: Global, keyring: &mut K, entries: &[DataKeyEntry]) -> bool {
+    match keyring.on_decrypt(alloc, &Context::new(alloc), entries) {
+        Ok(Some(key)) => *key.bytes() == [b'k'; 32],
+        _ => false,
+    }
+}
+
+/// Whether the known keyring finds it.
+fn known_finds_k(alloc: Global, entries: &[DataKeyEntry]) -> bool {
+    match known_ring(alloc) {
+        Some(mut ring) => finds_k(alloc, &mut ring, entries),
+        None => false,
+    }
+}
+
+/// Whether a keyring makes two entries in their order, and it and the known keyring alone open them.
+fn wraps_twice<K: Keyring>(alloc: Global, keyring: &mut K) -> bool {
+    match wrapped_twice(alloc, keyring) {
+        Some(wrapped) => {
+            are_in_order(wrapped.entries())
+                && finds_k(alloc, keyring, wrapped.entries())
+                && known_finds_k(alloc, wrapped.entries())
+        }
+        None => false,
+    }
+}
+
+/// Whether the tree of two does so.
+fn tree_of_two_wraps(alloc: Global) -> bool {
+    match tree_of_two(alloc) {
+        Some(mut tree) => wraps_twice(alloc, &mut tree),
+        None => false,
+    }
+}
+
+#[test]
+fn a_tree_over_a_boxed_keyring_wraps_and_opens(rt: HostRuntime) {
+    assert!(rt; tree_of_two_wraps(rt.alloc()));
+}

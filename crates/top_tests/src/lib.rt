@@ -1,0 +1,31 @@
+//! The tests of the library's calls that no data of a program of cases shows: calls over real objects, as files, streams of std, generators and the
+//! system's clock; the forms in memory one by one; and calls that no words of the program reach. The crates of these calls have no tests of their own, and
+//! so each is proved once.
+#![tactic(auto)]
+
+#[cfg(test)]
+mod asking;
+#[cfg(test)]
+mod base_files;
+#[cfg(test)]
+mod base_generators;
+#[cfg(test)]
+mod base_memory;
+#[cfg(test)]
+mod base_streams;
+#[cfg(test)]
+mod caching;
+#[cfg(test)]
+mod file_keyrings;
+#[cfg(test)]
+mod keyrings;
+#[cfg(test)]
+mod known_wraps;
+#[cfg(test)]
+mod managers;
+#[cfg(test)]
+mod parts;
+#[cfg(test)]
+mod scratch_path;
+#[cfg(test)]
+mod sealing;
