@@ -14,6 +14,8 @@ use crate::pair::Pair;
 use esdk_fields::{Refusal, Text};
 use std::alloc::{AllocError, AllocFailed, Global};
 use std::cmp::Ordering;
+use std::error::Error;
+use std::fmt;
 
 /// Why a pair was not inserted.
 #[derive(Drop)]
@@ -23,6 +25,23 @@ pub enum PairError {
     /// Memory ran out.
     Memory,
 }
+
+impl fmt::Display for PairError {
+    fn fmt<W: fmt::Write>(&self, f: &mut fmt::Formatter<W>) -> fmt::Result {
+        match self {
+            PairError::Refusal(refusal) => fmt::Display::fmt(refusal, f),
+            PairError::Memory => f.write_str("memory ran out"),
+        }
+    }
+}
+
+impl fmt::Debug for PairError {
+    fn fmt<W: fmt::Write>(&self, f: &mut fmt::Formatter<W>) -> fmt::Result {
+        fmt::Display::fmt(self, f)
+    }
+}
+
+impl Error for PairError {}
 
 impl From<AllocError> for PairError {
     ghost use Rattle.std.specs.Prelude.{◌≡◌};

@@ -1,14 +1,6 @@
-pub mod CallPlan
 pub mod Clock
 pub mod Entropy
 pub mod FileShelf
-pub mod ListClock
-pub mod ListEntropy
-pub mod MemFile
-pub mod MemFiles
-pub mod MemShelf
-pub mod MemSink
-pub mod MemSource
 pub mod RngEntropy
 pub mod Shelf
 pub mod Sink

@@ -26,22 +26,6 @@ pub record EntropyState : Type 0 where
   pub to_come : Option (List ℕ)
   pub faults : ℕ
 
--- the state of a source that tells and counts so
-abbrev pub source_state : {S : Type 0} → (S → Option (List ℕ)) → (S → ℕ) → (S → ℕ) → S → SourceState
-source_state left given faults source = record { left = left source; given = given source; faults = faults source }
-
--- the state of a sink that tells and counts so
-abbrev pub sink_state : {S : Type 0} → (S → Option (List ℕ)) → (S → ℕ) → S → SinkState
-sink_state written faults sink = record { written = written sink; faults = faults sink }
-
--- the state of a shelf that tells and counts so
-abbrev pub shelf_state : {S : Type 0} → (S → Option Files) → (S → ℕ) → (S → ℕ) → S → ShelfState
-shelf_state files given faults shelf = record { files = files shelf; given = given shelf; faults = faults shelf }
-
--- the state of an entropy that tells and counts so
-abbrev pub entropy_state : {S : Type 0} → (S → Option (List ℕ)) → (S → ℕ) → S → EntropyState
-entropy_state to_come faults entropy = record { to_come = to_come entropy; faults = faults entropy }
-
 -- why a file can't be read: the shelf failed, or tells that the name isn't there
 abbrev pub FailsToRead : ShelfState → ShelfState → List ℕ → Type 0
 FailsToRead old new name = Rose old.faults new.faults ⊎ ((is_missing old.files name ≡ true) × (new.faults ≡ old.faults))

@@ -70,11 +70,7 @@ fn append_file(rt: HostRuntime, name: &str, bytes: &[u8]) -> io::Result<()> {
 }
 
 impl Shelf for FileShelf {
-    ghost files = { λ _. None };
-
-    ghost given = { λ s. s.given };
-
-    ghost faults = { λ s. s.faults };
+    ghost state = { λ s. record { files = None; given = s.given; faults = s.faults } };
 
     fn read_at(&mut self, name: &str, at: u64, out: &mut [u8]) -> Result<usize, Failed> {
         match read_file(self.rt, name, at, out) {

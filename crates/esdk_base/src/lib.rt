@@ -4,22 +4,14 @@
 //! front to the end; a `Shelf` holds files by their names; an `Entropy` gives random bytes; a `Clock`
 //! gives the moment. Each has a meaning, as the bytes left, the bytes written, the files, the bytes to
 //! come or the moments to come, which an object may tell or not, and all but the clock a count of
-//! their faults. The forms in memory tell everything; the adapters over std's `Read` and `Write`, over
-//! the system's files, over a seeded generator and over the system's clock tell no content.
+//! their faults. The adapters over std's `Read` and `Write`, over the system's files, over a seeded
+//! generator and over the system's clock tell no content; forms in memory that tell everything are a
+//! crate of their own, `esdk_memory`.
 #![tactic(auto)]
 
-mod call_plan;
 mod clock;
 mod entropy;
 mod file_shelf;
-mod fronts;
-mod list_clock;
-mod list_entropy;
-mod mem_file;
-mod mem_files;
-mod mem_shelf;
-mod mem_sink;
-mod mem_source;
 mod rng_entropy;
 mod shelf;
 mod sink;
@@ -31,11 +23,6 @@ mod system_clock;
 pub use clock::Clock;
 pub use entropy::Entropy;
 pub use file_shelf::FileShelf;
-pub use list_clock::ListClock;
-pub use list_entropy::ListEntropy;
-pub use mem_shelf::MemShelf;
-pub use mem_sink::MemSink;
-pub use mem_source::MemSource;
 pub use rng_entropy::RngEntropy;
 pub use shelf::Shelf;
 pub use sink::Sink;

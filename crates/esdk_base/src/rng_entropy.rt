@@ -35,9 +35,7 @@ impl RngEntropy {
 }
 
 impl Entropy for RngEntropy {
-    ghost to_come = { λ _. None };
-
-    ghost faults = { λ e. e.faults };
+    ghost state = { λ e. record { to_come = None; faults = e.faults } };
 
     fn fill(&mut self, out: &mut [u8]) -> Result<(), Failed>
         ensures bytes { FillConsumes None None result out.new }

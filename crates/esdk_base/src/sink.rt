@@ -1,7 +1,5 @@
 //! Where bytes go.
 
-ghost use Rattle.std.specs.Prelude.{ℕ, List};
-ghost use Rattle.std.specs.declared.option.Option.{Option};
 ghost use Rattle.esdk_fields.specs.Counts.{HasCause};
 ghost use Rattle.esdk_base.specs.Sink.{PutAppends};
 
@@ -9,14 +7,13 @@ use crate::Failed;
 
 /// A stream of bytes that is written once, from its front to its end.
 pub trait Sink {
-    /// The bytes written, where the sink tells them.
-    ghost written: { Self → Option (List ℕ) };
+    ghost use Rattle.esdk_base.specs.Streams.{SinkState};
 
-    /// How often the sink failed so far, at most 2^64 - 1.
-    ghost faults: { Self → ℕ };
+    /// The bytes written, where the sink tells them; and how often it failed so far, at most 2^64 - 1.
+    ghost state: { Self → SinkState };
 
     /// Appends `bytes`. After `Failed` a front of them, which may be empty or all, was appended.
     fn put(&mut self, bytes: &[u8]) -> Result<(), Failed>
-        ensures bytes { PutAppends (written self.old) (written self.new) result bytes.now }
-        ensures cause { HasCause (faults self.old) (faults self.new) result };
+        ensures bytes { PutAppends (state self.old).written (state self.new).written result bytes.now }
+        ensures cause { HasCause (state self.old).faults (state self.new).faults result };
 }

@@ -1,25 +1,30 @@
 //! Where bytes come from.
 
-ghost use Rattle.std.specs.Prelude.{ℕ, List};
 ghost use Rattle.std.specs.Io.{ReadsAtMost};
 ghost use Rattle.std.specs.Io.KnownBytes.{ReadConsumes};
-ghost use Rattle.std.specs.declared.option.Option.{Option};
 ghost use Rattle.esdk_fields.specs.Counts.{CountsGiven, HasCause};
+
+use std::error::Error;
+use std::fmt;
 
 /// A call of an outside object failed. The object's count of faults has risen, but for a shelf that has no file of the name.
 #[derive(Debug, Clone, Copy, PartialEq, Eq)]
 pub struct Failed;
 
+impl fmt::Display for Failed {
+    fn fmt<W: fmt::Write>(&self, f: &mut fmt::Formatter<W>) -> fmt::Result {
+        f.write_str("a call of an outside object failed")
+    }
+}
+
+impl Error for Failed {}
+
 /// A stream of bytes that is read once, from its front to its end.
 pub trait Source {
-    /// The bytes left, where the source tells them.
-    ghost left: { Self → Option (List ℕ) };
+    ghost use Rattle.esdk_base.specs.Streams.{SourceState};
 
-    /// How many bytes were given so far, at most 2^64 - 1.
-    ghost given: { Self → ℕ };
-
-    /// How often the source failed so far, at most 2^64 - 1.
-    ghost faults: { Self → ℕ };
+    /// The bytes left, where the source tells them; how many bytes it gave so far, and how often it failed, each at most 2^64 - 1.
+    ghost state: { Self → SourceState };
 
     /// Puts the first n bytes left into the front of `out` and takes them away, and answers n.
     ///
@@ -27,7 +32,7 @@ pub trait Source {
     /// before.
     fn read(&mut self, out: &mut [u8]) -> Result<usize, Failed>
         ensures bound { ReadsAtMost result out.new }
-        ensures bytes { ReadConsumes (left self.old) (left self.new) result out.new }
-        ensures given { CountsGiven (given self.old) (given self.new) result }
-        ensures cause { HasCause (faults self.old) (faults self.new) result };
+        ensures bytes { ReadConsumes (state self.old).left (state self.new).left result out.new }
+        ensures given { CountsGiven (state self.old).given (state self.new).given result }
+        ensures cause { HasCause (state self.old).faults (state self.new).faults result };
 }

@@ -34,9 +34,7 @@ impl<W: Write> StdSink<W> {
 }
 
 impl<W: Write> Sink for StdSink<W> {
-    ghost written = { λ _. None };
-
-    ghost faults = { λ s. s.faults };
+    ghost state = { λ s. record { written = None; faults = s.faults } };
 
     fn put(&mut self, bytes: &[u8]) -> Result<(), Failed>
         ensures bytes { PutAppends None None result bytes.now }

@@ -39,11 +39,7 @@ impl<R: Read> StdSource<R> {
 }
 
 impl<R: Read> Source for StdSource<R> {
-    ghost left = { λ _. None };
-
-    ghost given = { λ s. s.given };
-
-    ghost faults = { λ s. s.faults };
+    ghost state = { λ s. record { left = None; given = s.given; faults = s.faults } };
 
     fn read(&mut self, out: &mut [u8]) -> Result<usize, Failed>
         ensures bound { ReadsAtMost result out.new }

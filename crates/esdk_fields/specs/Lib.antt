@@ -6,7 +6,6 @@ pub mod Reading
 pub mod Sized
 pub mod Gives
 pub mod Sequential
-pub mod Report
 pub mod Laws
 pub mod Lending
 pub mod Counts

@@ -39,7 +39,7 @@ pub enum Fault {
     UnitTooLong(u64),
     /// M10: the message ends before it is whole.
     Truncated,
-    /// M11: the caller's context has a key that the format keeps for itself.
+    /// M11: the header stores the key that the format keeps for itself.
     ReservedKey,
     /// M12: the caller's context has another value than the message's; the key.
     ContextMismatch(Text),

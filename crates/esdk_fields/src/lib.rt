@@ -1,5 +1,5 @@
 //! The small types that every format of the library is made of: texts, blobs of bytes, the cursor that reads fields, the faults that a message
-//! can have and the lines that name them. `specs/` says what reading fields in order means; the formats are written in its words.
+//! can have. `specs/` says what reading fields in order means; the formats are written in its words.
 #![tactic(auto)]
 
 mod blobs;
@@ -9,7 +9,6 @@ mod faults;
 mod fields;
 mod laws;
 mod refusals;
-mod report;
 mod shown;
 mod stops;
 mod texts;
@@ -21,6 +20,5 @@ pub use faults::{ContextFault, Fault};
 pub use fields::{bytes_of, sized_of, u8_of, u16_of, u32_of, u64_of};
 pub use laws::{fields_come_in_order, judgement_stands, numbers_are_read_back};
 pub use refusals::{FieldError, FileRefusal, Outside, Refusal};
-pub use report::{fault_text, file_text, outside_text, printed, refusal_text};
 pub use stops::{Stop, refused};
 pub use texts::Text;

@@ -55,6 +55,8 @@ pub enum FileRefusal {
     NamesClash(Text),
     /// K10: the file is longer than a file may be.
     FileTooLong,
+    /// K11: the node of this number, which is to be retired, is no raw key, or there is none; its number.
+    NotRaw(u32),
 }
 
 impl FileRefusal {
@@ -83,6 +85,7 @@ impl FileRefusal {
                 name.as_str(),
             )?)),
             FileRefusal::FileTooLong => Ok(FileRefusal::FileTooLong),
+            FileRefusal::NotRaw(place) => Ok(FileRefusal::NotRaw(*place)),
         }
     }
 }

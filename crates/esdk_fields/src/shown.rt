@@ -80,6 +80,7 @@ impl FileRefusal {
             FileRefusal::NoSuchPlug(_) => "K8 NoSuchPlug",
             FileRefusal::NamesClash(_) => "K9 NamesClash",
             FileRefusal::FileTooLong => "K10 FileTooLong",
+            FileRefusal::NotRaw(_) => "K11 NotRaw",
         }
     }
 }

@@ -1,12 +1,13 @@
 //! Taking a small file of a shelf.
 ghost use Rattle.std.specs.Prelude.{◌≡◌, ◌<◌, ◌≤◌, [], IfOk, IfErr, OnOk, length, vec_len};
-ghost use Rattle.esdk_base.specs.Streams.{shelf_state};
 ghost use Rattle.whole_input.specs.File.{Adds, FileCause, IsFile};
 
 use crate::buffer::buffer_of;
 use esdk_base::Shelf;
 use esdk_fields::Blob;
 use std::alloc::{AllocError, AllocFailed, Global};
+use std::error::Error;
+use std::fmt;
 
 /// How many bytes are read at once at the most.
 const PIECE: usize = 65536;
@@ -25,6 +26,18 @@ pub enum FileError {
     Memory,
 }
 
+impl fmt::Display for FileError {
+    fn fmt<W: fmt::Write>(&self, f: &mut fmt::Formatter<W>) -> fmt::Result {
+        match self {
+            FileError::Shelf => f.write_str("the file was not read"),
+            FileError::TooLong => f.write_str("the file has more than 1,048,576 bytes"),
+            FileError::Memory => f.write_str("memory ran out"),
+        }
+    }
+}
+
+impl Error for FileError {}
+
 impl From<AllocError> for FileError {
     ghost use Rattle.std.specs.Prelude.{◌≡◌};
     ghost use Rattle.whole_input.specs.declared.file.FileError.TheVariants.{Memory};
@@ -39,9 +52,9 @@ impl From<AllocError> for FileError {
 /// Takes all bytes of the file that has this name on the shelf, at most 1,048,576. The shelf stays
 /// as it is.
 pub fn take_file<F: Shelf>(alloc: Global, shelf: &mut F, name: &str) -> Result<Blob, FileError>
-    ensures file { IfOk result (λ bytes. IsFile (shelf_state F.files F.given F.faults shelf.old) (shelf_state F.files F.given F.faults shelf.new) name.now bytes) }
-    ensures cause { IfErr result (λ error. FileCause (shelf_state F.files F.given F.faults shelf.old) (shelf_state F.files F.given F.faults shelf.new) name.now error) }
-    ensures stays { F.files shelf.new ≡ F.files shelf.old }
+    ensures file { IfOk result (λ bytes. IsFile (F.state shelf.old) (F.state shelf.new) name.now bytes) }
+    ensures cause { IfErr result (λ error. FileCause (F.state shelf.old) (F.state shelf.new) name.now error) }
+    ensures stays { (F.state shelf.new).files ≡ (F.state shelf.old).files }
 {
     let mut buffer = buffer_of(alloc, PIECE)?;
     let mut bytes = Blob::new(alloc);
@@ -58,9 +71,9 @@ fn fill<F: Shelf>(
 ) -> Result<(), FileError>
     requires room { 0 < length buffer.old }
     requires empty { bytes.old ≡ [] }
-    ensures file { OnOk result (IsFile (shelf_state F.files F.given F.faults shelf.old) (shelf_state F.files F.given F.faults shelf.new) name.now bytes.new) }
-    ensures cause { IfErr result (λ error. FileCause (shelf_state F.files F.given F.faults shelf.old) (shelf_state F.files F.given F.faults shelf.new) name.now error) }
-    ensures stays { F.files shelf.new ≡ F.files shelf.old }
+    ensures file { OnOk result (IsFile (F.state shelf.old) (F.state shelf.new) name.now bytes.new) }
+    ensures cause { IfErr result (λ error. FileCause (F.state shelf.old) (F.state shelf.new) name.now error) }
+    ensures stays { (F.state shelf.new).files ≡ (F.state shelf.old).files }
 {
     while bytes.bytes().len() <= MOST_FILE {
         match add_piece(shelf, name, buffer, bytes) {
@@ -81,8 +94,8 @@ fn add_piece<F: Shelf>(
     bytes: &mut Blob,
 ) -> Result<bool, FileError>
     requires room { 0 < length buffer.old }
-    ensures adds { Adds (shelf_state F.files F.given F.faults shelf.old) (shelf_state F.files F.given F.faults shelf.new) name.now bytes.old bytes.new result }
-    ensures stays { F.files shelf.new ≡ F.files shelf.old }
+    ensures adds { Adds (F.state shelf.old) (F.state shelf.new) name.now bytes.old bytes.new result }
+    ensures stays { (F.state shelf.new).files ≡ (F.state shelf.old).files }
 {
     let Ok(count) = shelf.read_at(name, bytes.bytes().len() as u64, buffer) else {
         return Err(FileError::Shelf);

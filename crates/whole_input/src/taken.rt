@@ -1,6 +1,5 @@
 //! Taking all bytes of a source.
 ghost use Rattle.std.specs.Prelude.{◌≡◌, ◌+◌, ◌≤◌, ◌<◌, ◌^◌, [], IfOk, OnErr, length, vec_len};
-ghost use Rattle.esdk_base.specs.Streams.{source_state};
 ghost use Rattle.whole_input.specs.Taken.{Fills, Loses, TakesAll, TakesPiece};
 
 use crate::buffer::buffer_of;
@@ -39,10 +38,9 @@ pub struct Taken {
 /// The buffer, of 65,536 bytes, is taken before the first read. Where memory runs out, the bytes
 /// taken so far are lost.
 pub fn take_all<S: Source>(alloc: Global, input: &mut S) -> Result<Taken, AllocError>
-    ensures taken { IfOk result (λ taken. TakesAll
-        (source_state S.left S.given S.faults input.old) (source_state S.left S.given S.faults input.new) taken) }
-    ensures lost { OnErr result (Loses (source_state S.left S.given S.faults input.old) (source_state S.left S.given S.faults input.new)) }
-    ensures most { S.given input.new ≤ S.given input.old + 2 ^ 62 }
+    ensures taken { IfOk result (λ taken. TakesAll (S.state input.old) (S.state input.new) taken) }
+    ensures lost { OnErr result (Loses (S.state input.old) (S.state input.new)) }
+    ensures most { (S.state input.new).given ≤ (S.state input.old).given + 2 ^ 62 }
 {
     let mut buffer = buffer_of(alloc, PIECE)?;
     let mut bytes = Blob::new(alloc);
@@ -54,8 +52,8 @@ pub fn take_all<S: Source>(alloc: Global, input: &mut S) -> Result<Taken, AllocE
 fn fill<S: Source>(input: &mut S, buffer: &mut [u8], bytes: &mut Blob) -> Result<End, AllocError>
     requires room { 0 < length buffer.old }
     requires empty { bytes.old ≡ [] }
-    ensures fills { Fills (source_state S.left S.given S.faults input.old) (source_state S.left S.given S.faults input.new) bytes.new result }
-    ensures most { S.given input.new ≤ S.given input.old + 2 ^ 62 }
+    ensures fills { Fills (S.state input.old) (S.state input.new) bytes.new result }
+    ensures most { (S.state input.new).given ≤ (S.state input.old).given + 2 ^ 62 }
 {
     while bytes.bytes().len() < MOST_INPUT {
         let room = buffer.len().min(MOST_INPUT - bytes.bytes().len());
@@ -75,8 +73,7 @@ fn take_piece<S: Source>(
     bytes: &mut Blob,
 ) -> Result<Option<End>, AllocError>
     requires room { 0 < length buffer.old }
-    ensures { TakesPiece (length buffer.old) (source_state S.left S.given S.faults input.old)
-        (source_state S.left S.given S.faults input.new) bytes.old bytes.new result }
+    ensures { TakesPiece (length buffer.old) (S.state input.old) (S.state input.new) bytes.old bytes.new result }
 {
     let Ok(count) = input.read(buffer) else {
         return Ok(Some(End::Failed));

@@ -1,11 +1,10 @@
 use Rattle.std.proofs.Common.{length, arith, ap, sym, subst}
-use Rattle.esdk_base.specs.Streams.{shelf_state}
 use Rattle.whole_input.proofs.Adding.{Adding, adding_none, adding_more, adding_ends, adding_long, adding_fails}
 use Rattle.whole_input.proofs.file.fill.Goals as goal
 
 pub loop-bytes-init : goal.loop-bytes-init
 loop-bytes-init g c =
-    let first = shelf_state g.F.Shelf.files g.F.Shelf.given g.F.Shelf.faults c.args.shelf.now in
+    let first = g.F.Shelf.state c.args.shelf.now in
     subst (λ b. Adding first first c.args.name.now b) (sym c.requires.empty) (adding_none first c.args.name.now)
 
 pub loop-bytes-preserved : goal.loop-bytes-preserved

@@ -1,12 +1,11 @@
 use Rattle.std.proofs.Common.{◌≤◌, ◌+◌, ◌^◌, length, take, arith, sym, subst, ap}
 use Rattle.std.proofs.lemmas.List.{length-take}
-use Rattle.esdk_base.specs.Streams.{source_state}
 use Rattle.whole_input.proofs.Coming.{Filling, filling_none, filling_more, filling_ends, filling_loses, longer}
 use Rattle.whole_input.proofs.taken.fill.Goals as goal
 
 pub loop-bytes-init : goal.loop-bytes-init
 loop-bytes-init g c =
-    let first = source_state g.S.Source.left g.S.Source.given g.S.Source.faults c.args.input.now in
+    let first = g.S.Source.state c.args.input.now in
     subst (λ b. Filling first first b) (sym c.requires.empty) (filling_none first)
 
 pub loop-bytes-preserved : goal.loop-bytes-preserved
