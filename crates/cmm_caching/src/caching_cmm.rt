@@ -131,8 +131,13 @@ impl<M: Manager> Manager for CachingCmm<M> {
             → TellsOn (CachingTells self.new.1 (M.meaning self.new.0) (M.tells self.new.0)) (CachingTells self.old.1 (M.meaning self.old.0) (M.tells self.old.0)) }
         ensures exact { CachingExact self.old.1 (M.meaning self.old.0) (M.exact self.old.0)
             → CachingExact self.new.1 (M.meaning self.new.0) (M.exact self.new.0) }
-        ensures gives { IfOk result (GivesMaterials (caching_meaning self.old.1 (M.meaning self.old.0)) (CachingTells self.old.1 (M.meaning self.old.0) (M.tells self.old.0)) (CachingExact self.old.1 (M.meaning self.old.0) (M.exact self.old.0)) request.now random.now) }
-        ensures cause { IfErr result (GivesNone (caching_meaning self.old.1 (M.meaning self.old.0)) (caching_meaning self.new.1 (M.meaning self.new.0)) (CachingExact self.old.1 (M.meaning self.old.0) (M.exact self.old.0)) request.now) }
+        ensures gives { IfOk result (GivesMaterials
+            (caching_meaning self.old.1 (M.meaning self.old.0))
+            (CachingTells self.old.1 (M.meaning self.old.0) (M.tells self.old.0))
+            (CachingExact self.old.1 (M.meaning self.old.0) (M.exact self.old.0)) request.now random.now) }
+        ensures cause { IfErr result (GivesNone
+            (caching_meaning self.old.1 (M.meaning self.old.0)) (caching_meaning self.new.1 (M.meaning self.new.0))
+            (CachingExact self.old.1 (M.meaning self.old.0) (M.exact self.old.0)) request.now) }
         ensures bears { BearsOn (BearsWith self.old.1) (BearsWith self.new.1) Seal now request.now.declared enc_served result }
         ensures within { (lines : List JournalLine) → KeepsWithin (limits_of self.new.1) lines → KeepsWithin (limits_of self.old.1) lines }
         ensures gave { IfOk result (CachingGave (M.gave self.new.0 request.now now random.now)) }
@@ -168,8 +173,14 @@ impl<M: Manager> Manager for CachingCmm<M> {
             → TellsOn (CachingTells self.new.1 (M.meaning self.new.0) (M.tells self.new.0)) (CachingTells self.old.1 (M.meaning self.old.0) (M.tells self.old.0)) }
         ensures exact { CachingExact self.old.1 (M.meaning self.old.0) (M.exact self.old.0)
             → CachingExact self.new.1 (M.meaning self.new.0) (M.exact self.new.0) }
-        ensures finds { IfOk result (FindsMaterials (caching_meaning self.old.1 (M.meaning self.old.0)) (caching_meaning self.new.1 (M.meaning self.new.0)) (CachingTells self.old.1 (M.meaning self.old.0) (M.tells self.old.0)) (CachingExact self.old.1 (M.meaning self.old.0) (M.exact self.old.0)) request.now) }
-        ensures cause { IfErr result (FindsNone (caching_meaning self.old.1 (M.meaning self.old.0)) (caching_meaning self.new.1 (M.meaning self.new.0)) (CachingTells self.old.1 (M.meaning self.old.0) (M.tells self.old.0)) (CachingExact self.old.1 (M.meaning self.old.0) (M.exact self.old.0)) request.now) }
+        ensures finds { IfOk result (FindsMaterials
+            (caching_meaning self.old.1 (M.meaning self.old.0)) (caching_meaning self.new.1 (M.meaning self.new.0))
+            (CachingTells self.old.1 (M.meaning self.old.0) (M.tells self.old.0))
+            (CachingExact self.old.1 (M.meaning self.old.0) (M.exact self.old.0)) request.now) }
+        ensures cause { IfErr result (FindsNone
+            (caching_meaning self.old.1 (M.meaning self.old.0)) (caching_meaning self.new.1 (M.meaning self.new.0))
+            (CachingTells self.old.1 (M.meaning self.old.0) (M.tells self.old.0))
+            (CachingExact self.old.1 (M.meaning self.old.0) (M.exact self.old.0)) request.now) }
         ensures bears { BearsOn (BearsWith self.old.1) (BearsWith self.new.1) Unseal now None dec_served result }
         ensures within { (lines : List JournalLine) → KeepsWithin (limits_of self.new.1) lines → KeepsWithin (limits_of self.old.1) lines }
         ensures found { IfOk result (CachingFound (M.found self.new.0 request.now now)) }

@@ -92,8 +92,12 @@ impl<M: Manager> Manager for RequiredCmm<M> {
         ensures tells { TellsOn (M.tells self.old.0) (M.tells self.new.0) }
         ensures same { (required_meaning self.old.1 (M.meaning self.old.0)).plain ≡ true → TellsOn (M.tells self.new.0) (M.tells self.old.0) }
         ensures exact { RequiredExact (M.exact self.old.0) (M.meaning self.old.0) → RequiredExact (M.exact self.new.0) (M.meaning self.new.0) }
-        ensures gives { IfOk result (GivesMaterials (required_meaning self.old.1 (M.meaning self.old.0)) (M.tells self.old.0) (RequiredExact (M.exact self.old.0) (M.meaning self.old.0)) request.now random.now) }
-        ensures cause { IfErr result (GivesNone (required_meaning self.old.1 (M.meaning self.old.0)) (required_meaning self.new.1 (M.meaning self.new.0)) (RequiredExact (M.exact self.old.0) (M.meaning self.old.0)) request.now) }
+        ensures gives { IfOk result (GivesMaterials
+            (required_meaning self.old.1 (M.meaning self.old.0)) (M.tells self.old.0)
+            (RequiredExact (M.exact self.old.0) (M.meaning self.old.0)) request.now random.now) }
+        ensures cause { IfErr result (GivesNone
+            (required_meaning self.old.1 (M.meaning self.old.0)) (required_meaning self.new.1 (M.meaning self.new.0))
+            (RequiredExact (M.exact self.old.0) (M.meaning self.old.0)) request.now) }
         ensures bears { BearsOn (M.bears self.old.0) (M.bears self.new.0) Seal now request.now.declared enc_served result }
         ensures within { (lines : List JournalLine) → M.within self.new.0 lines → M.within self.old.0 lines }
         ensures gave { IfOk result (M.gave self.new.0 (requiring self.new.1 request.now) now random.now) }
@@ -122,8 +126,12 @@ impl<M: Manager> Manager for RequiredCmm<M> {
         ensures tells { TellsOn (M.tells self.old.0) (M.tells self.new.0) }
         ensures same { (required_meaning self.old.1 (M.meaning self.old.0)).plain ≡ true → TellsOn (M.tells self.new.0) (M.tells self.old.0) }
         ensures exact { RequiredExact (M.exact self.old.0) (M.meaning self.old.0) → RequiredExact (M.exact self.new.0) (M.meaning self.new.0) }
-        ensures finds { IfOk result (FindsMaterials (required_meaning self.old.1 (M.meaning self.old.0)) (required_meaning self.new.1 (M.meaning self.new.0)) (M.tells self.old.0) (RequiredExact (M.exact self.old.0) (M.meaning self.old.0)) request.now) }
-        ensures cause { IfErr result (FindsNone (required_meaning self.old.1 (M.meaning self.old.0)) (required_meaning self.new.1 (M.meaning self.new.0)) (M.tells self.old.0) (RequiredExact (M.exact self.old.0) (M.meaning self.old.0)) request.now) }
+        ensures finds { IfOk result (FindsMaterials
+            (required_meaning self.old.1 (M.meaning self.old.0)) (required_meaning self.new.1 (M.meaning self.new.0))
+            (M.tells self.old.0) (RequiredExact (M.exact self.old.0) (M.meaning self.old.0)) request.now) }
+        ensures cause { IfErr result (FindsNone
+            (required_meaning self.old.1 (M.meaning self.old.0)) (required_meaning self.new.1 (M.meaning self.new.0))
+            (M.tells self.old.0) (RequiredExact (M.exact self.old.0) (M.meaning self.old.0)) request.now) }
         ensures bears { BearsOn (M.bears self.old.0) (M.bears self.new.0) Unseal now None dec_served result }
         ensures within { (lines : List JournalLine) → M.within self.new.0 lines → M.within self.old.0 lines }
         ensures found { IfOk result (M.found self.new.0 request.now now) }

@@ -1,8 +1,8 @@
 -- A keyring of one wrapping key, whose bytes stand in a file of a shelf.
 -- AWS Encryption SDK Specification, "Raw AES Keyring".
-use Rattle.std.specs.Prelude.{◌≡◌, ◌≢◌, ℕ, List, [], ◌∷◌, false, Option, None, Result, Ok, Err}
+use Rattle.std.specs.Prelude.{◌≡◌, ◌≢◌, ℕ, List, [], ◌∷◌, false, None, Result, Ok, Err}
 use Rattle.std.specs.Option.{option_map}
-use Rattle.esdk_base.specs.Shelf.{Files}
+use Rattle.esdk_base.specs.Streams.{ShelfState}
 use Rattle.keyring_trait.specs.Wrapping.{WrapKeyValue}
 use Rattle.keyring_trait.specs.Keyring.{KeyringMeaning}
 use Rattle.raw_aes_keyring.specs.declared.raw_aes.RawError.{RawError}
@@ -24,14 +24,14 @@ MakesKeydir k (Ok made) = (made ≡ k) × (k.namespace ≢ reserved_namespace)
 MakesKeydir k (Err ReservedNamespace) = k.namespace ≡ reserved_namespace
 MakesKeydir k (Err Memory) = k.namespace ≢ reserved_namespace
 
--- the wrapping key of these bytes
+-- the wrapping key of these bytes, which isn't retired
 abbrev pub wrap_key : {S : Type 0} → KeydirValue S → List ℕ → WrapKeyValue
-wrap_key k bytes = record { namespace = k.namespace; name = k.name; key = bytes }
+wrap_key k bytes = record { namespace = k.namespace; name = k.name; key = bytes; retired = false }
 
 -- It tells its one wrapping key where its shelf tells a file of 32 bytes; it makes one entry, refuses nothing, and counts its own failures.
-abbrev pub keydir_meaning : {S : Type 0} → (S → Option Files) → KeydirValue S → KeyringMeaning
-keydir_meaning files k = record {
-  keys = option_map (λ bytes. wrap_key k bytes ∷ []) (told_key (files k.shelf) k.file);
+abbrev pub keydir_meaning : {S : Type 0} → (S → ShelfState) → KeydirValue S → KeyringMeaning
+keydir_meaning state k = record {
+  keys = option_map (λ bytes. wrap_key k bytes ∷ []) (told_key (state k.shelf).files k.file);
   wraps = 1;
   refuses_key = None;
   refuses_none = None;

@@ -20,7 +20,7 @@ pub struct KeydirKeyring<S> {
 }
 
 impl<S> Model for KeydirKeyring<S> {
-    ghost use Rattle.std.specs.Prelude.{[]};
+    ghost use Rattle.std.specs.Prelude.{[], false};
     ghost use Rattle.raw_aes_keyring.specs.RawKey.{IsRawKey};
     ghost use Rattle.keydir_keyring.specs.Keydir.{KeydirValue};
 
@@ -28,7 +28,7 @@ impl<S> Model for KeydirKeyring<S> {
 
     ghost view = { λ k. record { shelf = k.shelf; file = k.file; namespace = k.namespace; name = k.name; faults = k.faults } };
 
-    ghost invariant = { λ k. IsRawKey (record { namespace = k.namespace; name = k.name; key = [] }) };
+    ghost invariant = { λ k. IsRawKey (record { namespace = k.namespace; name = k.name; key = []; retired = false }) };
 }
 
 impl<S: Drop> KeydirKeyring<S> {

@@ -1,8 +1,7 @@
 //! The key of a file as a keyring. AWS Encryption SDK Specification, "Keyring Interface" and "Raw AES Keyring".
 
-ghost use Rattle.std.specs.Prelude.{◌≡◌, ◌∷◌, [], None, length, is_some, IfOk, IfErr, IfSome, OnOk};
+ghost use Rattle.std.specs.Prelude.{◌≡◌, ◌∷◌, [], false, None, length, is_some, IfOk, IfErr, IfSome, OnOk};
 ghost use Rattle.std.specs.Option.{option_copied};
-ghost use Rattle.esdk_base.specs.Streams.{shelf_state};
 ghost use Rattle.keyring_trait.specs.Keyring.{KeyringGoes, Opens, UnwrapCause, WrapCause, Wraps, refusal_with, wanted};
 ghost use Rattle.keydir_keyring.specs.Answers.{Answers, Keeps};
 ghost use Rattle.keydir_keyring.specs.Keydir.{keydir_meaning};
@@ -22,7 +21,7 @@ use std::alloc::Global;
 /// the call, or the file isn't there, or gave more or fewer than 32 bytes. It raises the keyring's own count. `Memory` comes only where there was a key to read.
 /// The shelf's files stay as they are.
 impl<S: Shelf + Drop> Keyring for KeydirKeyring<S> {
-    ghost meaning = { λ k. keydir_meaning S.files k };
+    ghost meaning = { λ k. keydir_meaning S.state k };
 
     fn wraps(&self) -> u32 {
         1
@@ -39,13 +38,13 @@ impl<S: Shelf + Drop> Keyring for KeydirKeyring<S> {
         random: &[u8],
         key: Option<&DataKey>,
     ) -> Result<Wrapped, RingError>
-        requires { length random.now ≡ wanted (is_some key) (keydir_meaning S.files self.old).wraps }
-        ensures goes { KeyringGoes (keydir_meaning S.files self.old) (keydir_meaning S.files self.new) }
-        ensures wraps { IfOk result (Wraps (keydir_meaning S.files self.old) context.now random.now (option_copied key.entry)) }
-        ensures taken { OnOk result (refusal_with (is_some key.entry) (keydir_meaning S.files self.old) ≡ None) }
-        ensures cause { IfErr result (WrapCause (refusal_with (is_some key.entry) (keydir_meaning S.files self.old)) self.old.faults self.new.faults) }
-        ensures keeps { Keeps (shelf_state S.files S.given S.faults) self.old self.new }
-        ensures answers { Answers (shelf_state S.files S.given S.faults) self.old self.new result }
+        requires { length random.now ≡ wanted (is_some key) (keydir_meaning S.state self.old).wraps }
+        ensures goes { KeyringGoes (keydir_meaning S.state self.old) (keydir_meaning S.state self.new) }
+        ensures wraps { IfOk result (Wraps (keydir_meaning S.state self.old) context.now random.now (option_copied key.entry)) }
+        ensures taken { OnOk result (refusal_with (is_some key.entry) (keydir_meaning S.state self.old) ≡ None) }
+        ensures cause { IfErr result (WrapCause (refusal_with (is_some key.entry) (keydir_meaning S.state self.old)) self.old.faults self.new.faults) }
+        ensures keeps { Keeps S.state self.old self.new }
+        ensures answers { Answers S.state self.old self.new result }
     {
         let mut keyring = self.read(alloc)?;
         keyring.on_encrypt(alloc, context, random, key)
@@ -57,11 +56,11 @@ impl<S: Shelf + Drop> Keyring for KeydirKeyring<S> {
         context: &Context,
         entries: &[DataKeyEntry],
     ) -> Result<Option<DataKey>, RingError>
-        ensures goes { KeyringGoes (keydir_meaning S.files self.old) (keydir_meaning S.files self.new) }
-        ensures opens { IfOk result (Opens (keydir_meaning S.files self.old) (keydir_meaning S.files self.new) context.now entries.now) }
+        ensures goes { KeyringGoes (keydir_meaning S.state self.old) (keydir_meaning S.state self.new) }
+        ensures opens { IfOk result (Opens (keydir_meaning S.state self.old) (keydir_meaning S.state self.new) context.now entries.now) }
         ensures cause { IfErr result (UnwrapCause self.old.faults self.new.faults) }
-        ensures keeps { Keeps (shelf_state S.files S.given S.faults) self.old self.new }
-        ensures answers { Answers (shelf_state S.files S.given S.faults) self.old self.new result }
+        ensures keeps { Keeps S.state self.old self.new }
+        ensures answers { Answers S.state self.old self.new result }
     {
         let mut keyring = self.read(alloc)?;
         keyring.on_decrypt(alloc, context, entries)
@@ -69,11 +68,12 @@ impl<S: Shelf + Drop> Keyring for KeydirKeyring<S> {
 }
 
 impl<S: Shelf> KeydirKeyring<S> {
-    /// The raw AES keyring of the key that stands in the file now.
+    /// The raw AES keyring of the key that stands in the file now, which isn't retired.
     fn read(&mut self, alloc: Global) -> Result<RawAes, RingError>
-        ensures key { IfOk result (λ keyring. IfSome (keydir_meaning S.files self.old).keys (λ keys. keys ≡ keyring ∷ [])) }
-        ensures keeps { Keeps (shelf_state S.files S.given S.faults) self.old self.new }
-        ensures answers { Answers (shelf_state S.files S.given S.faults) self.old self.new result }
+        ensures key { IfOk result (λ keyring. IfSome (keydir_meaning S.state self.old).keys (λ keys. keys ≡ keyring ∷ [])) }
+        ensures active { IfOk result (λ keyring. keyring.retired ≡ false) }
+        ensures keeps { Keeps S.state self.old self.new }
+        ensures answers { Answers S.state self.old self.new result }
     {
         let Some(key) = read_key(&mut self.shelf, self.file.as_str()) else {
             self.faults = self.faults.saturating_add(1);

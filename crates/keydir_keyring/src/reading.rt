@@ -3,7 +3,6 @@
 ghost use Rattle.std.specs.Prelude.{◌≡◌, ◌<◌, ◌≤◌, ◌+◌, List, ℕ, [], length, take, drop, IfOk};
 ghost use Rattle.esdk_fields.specs.Counts.{CountsGiven};
 ghost use Rattle.esdk_base.specs.Shelf.{HasCauseOrMissing, Holds, is_missing};
-ghost use Rattle.esdk_base.specs.Streams.{shelf_state};
 ghost use Rattle.keydir_keyring.specs.Reading.{Gave, IsFilled, IsFront, ReadsKey};
 
 use esdk_base::{Failed, Shelf};
@@ -13,11 +12,10 @@ const KEY_LENGTH: usize = 32;
 
 /// The bytes of the file, where it has just 32. None where a read of it failed, or where it has more or fewer. No more than 33 of its bytes are read.
 pub(crate) fn read_key<S: Shelf>(shelf: &mut S, file: &str) -> Option<[u8; 32]>
-    ensures files { S.files shelf.new ≡ S.files shelf.old }
-    ensures later { S.faults shelf.old ≤ S.faults shelf.new }
-    ensures most { S.given shelf.new ≤ S.given shelf.old + 33 }
-    ensures key { ReadsKey (shelf_state S.files S.given S.faults shelf.old)
-        (shelf_state S.files S.given S.faults shelf.new) file.now result }
+    ensures files { (S.state shelf.new).files ≡ (S.state shelf.old).files }
+    ensures later { (S.state shelf.old).faults ≤ (S.state shelf.new).faults }
+    ensures most { (S.state shelf.new).given ≤ (S.state shelf.old).given + 33 }
+    ensures key { ReadsKey (S.state shelf.old) (S.state shelf.new) file.now result }
 {
     // One byte more than a key has shows whether the file goes on behind it.
     let mut room = [0; KEY_LENGTH + 1];
@@ -43,11 +41,11 @@ fn key_of(bytes: &[u8]) -> [u8; 32]
 /// Fills the room with the front of the file, as far as the file goes, and answers how many bytes that is.
 fn read_front<S: Shelf>(shelf: &mut S, file: &str, room: &mut [u8]) -> Result<usize, Failed>
     requires { 0 < length room.old }
-    ensures front { IfOk result (IsFront (S.files shelf.old) file.now room.new) }
-    ensures gave { IfOk result (Gave (shelf_state S.files S.given S.faults shelf.old) (shelf_state S.files S.given S.faults shelf.new)) }
-    ensures most { S.given shelf.new ≤ S.given shelf.old + length room.old }
-    ensures cause { HasCauseOrMissing (is_missing (S.files shelf.old) file.now) (S.faults shelf.old) (S.faults shelf.new) result }
-    ensures files { S.files shelf.new ≡ S.files shelf.old }
+    ensures front { IfOk result (IsFront (S.state shelf.old).files file.now room.new) }
+    ensures gave { IfOk result (Gave (S.state shelf.old) (S.state shelf.new)) }
+    ensures most { (S.state shelf.new).given ≤ (S.state shelf.old).given + length room.old }
+    ensures cause { HasCauseOrMissing (is_missing (S.state shelf.old).files file.now) (S.state shelf.old).faults (S.state shelf.new).faults result }
+    ensures files { (S.state shelf.new).files ≡ (S.state shelf.old).files }
 {
     let mut count = 0;
     while count < room.len() {
@@ -70,12 +68,12 @@ fn read_more<S: Shelf>(
     room: &mut [u8],
 ) -> Result<usize, Failed>
     requires { count < length room.old }
-    ensures filled { IfOk result (λ more. IsFilled (S.files shelf.old) file.now room.old count → IsFilled (S.files shelf.old) file.now room.new (count + more)) }
-    ensures end { IfOk result (λ more. (bytes : List ℕ) → Holds (S.files shelf.old) file.now bytes → more ≡ 0 → drop count bytes ≡ []) }
+    ensures filled { IfOk result (λ more. IsFilled (S.state shelf.old).files file.now room.old count → IsFilled (S.state shelf.old).files file.now room.new (count + more)) }
+    ensures end { IfOk result (λ more. (bytes : List ℕ) → Holds (S.state shelf.old).files file.now bytes → more ≡ 0 → drop count bytes ≡ []) }
     ensures bound { IfOk result (λ more. count + more ≤ length room.new) }
-    ensures given { CountsGiven (S.given shelf.old) (S.given shelf.new) result }
-    ensures cause { HasCauseOrMissing (is_missing (S.files shelf.old) file.now) (S.faults shelf.old) (S.faults shelf.new) result }
-    ensures files { S.files shelf.new ≡ S.files shelf.old }
+    ensures given { CountsGiven (S.state shelf.old).given (S.state shelf.new).given result }
+    ensures cause { HasCauseOrMissing (is_missing (S.state shelf.old).files file.now) (S.state shelf.old).faults (S.state shelf.new).faults result }
+    ensures files { (S.state shelf.new).files ≡ (S.state shelf.old).files }
 {
     shelf.read_at(file, count as u64, &mut room[count..])
 }

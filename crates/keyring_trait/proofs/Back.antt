@@ -1,6 +1,6 @@
 -- What a keyring wrapped comes back.
 use Rattle.std.proofs.Common.{◌≡◌, ℕ, zero, suc, ◌*◌, ◌≤◌, List, [], ◌∷◌, length, take, drop, Option, Some, refl, sym, ap, ◌∙◌, subst, arith}
-use Rattle.std.specs.Prelude.{All, IfSome}
+use Rattle.std.specs.Prelude.{All, Contains, IfSome}
 use Rattle.std.proofs.lemmas.List.{length-drop, length-take-le}
 use Rattle.std.proofs.lemmas.List.Elements.{All-cons}
 use Rattle.esdk_fields.specs.Counts.{Stayed}
@@ -10,6 +10,7 @@ use Rattle.edk_codec.specs.Entry.{Entry}
 use Rattle.keyring_trait.specs.Wrapping.{WrapKeyValue, unwrapped, made, active, ivs_of, AreIvs}
 use Rattle.keyring_trait.specs.Keyring.{KeyringMeaning, WrappedValue, OpensWith, Opens}
 use Rattle.keyring_trait.specs.Laws.{AreApart, HasWrapped}
+use Rattle.keyring_trait.proofs.Active.{active_listed, active_apart}
 use Rattle.keyring_trait.proofs.Made.{made_is_wrapped}
 use Rattle.keyring_trait.proofs.Wrapping.{unwrapped_key}
 
@@ -30,10 +31,16 @@ ivs_are keys n bytes many long = record { enough = length-ivs_of n bytes ∙ sym
 -- what a keyring wrapped is what it unwraps
 pub told_back : (keys : List WrapKeyValue) (n : ℕ) (c : List KeyValue) (key bytes : List ℕ) (entries : List Entry) → length (active keys) ≡ n → 1 ≤ n → length bytes ≡ 12 * n → length key ≡ 32 → AreApart keys keys
     → entries ≡ made keys c key (ivs_of n bytes) → unwrapped keys entries c ≡ Some key
-told_back [] n c key bytes entries many one long twice apart is = absurd (omega arith)
-told_back (w ∷ ws) n c key bytes entries many one long twice apart is =
-    let wrapped = made_is_wrapped (w ∷ ws) (w ∷ ws) c key (ivs_of n bytes) w w (ivs_are (w ∷ ws) n bytes many long) twice apart (Contains-head w ws) (Contains-head w ws) (record { namespace = refl; name = refl; key = refl }) in
-    ap (λ (es : List Entry). unwrapped (w ∷ ws) es c) is ∙ unwrapped_key (w ∷ ws) (w ∷ ws) c key (made (w ∷ ws) c key (ivs_of n bytes)) wrapped.0
+told_back keys n c key bytes entries many one long twice apart is = by_first (active keys) refl
+  where
+    by_first : (ws : List WrapKeyValue) → ws ≡ active keys → unwrapped keys entries c ≡ Some key
+    by_first [] none = absurd (let none_long : 0 ≡ n = ap length none ∙ many in omega (arith, none_long, one))
+    by_first (w ∷ ws) first =
+        let wrote : Contains (active keys) w = subst (λ (l : List WrapKeyValue). Contains l w) first (Contains-head w ws) in
+        let wrapped =
+        made_is_wrapped keys keys c key (ivs_of n bytes) w w (ivs_are keys n bytes many long) twice (active_apart keys keys apart) wrote (active_listed keys w wrote)
+        (record { namespace = refl; name = refl; key = refl }) in
+        ap (λ (es : List Entry). unwrapped keys es c) is ∙ unwrapped_key (active keys) keys c key (made keys c key (ivs_of n bytes)) wrapped.0
 
 pub comes_back : (ring old new : KeyringMeaning) (keys : List WrapKeyValue) (c : List KeyValue) (random key : List ℕ) (wrapped : WrappedValue) (found : Option (List ℕ))
     → HasWrapped ring keys c random key wrapped → old.keys ≡ ring.keys → Stayed old.faults new.faults → Opens old new c wrapped.entries found → found ≡ Some key

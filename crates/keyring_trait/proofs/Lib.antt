@@ -1,6 +1,7 @@
 pub mod Firsts
 pub mod Wrapping
 pub mod Unlocking
+pub mod Active
 pub mod Made
 pub mod Least
 pub mod Holding

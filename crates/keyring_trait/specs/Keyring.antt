@@ -9,7 +9,7 @@ use Rattle.keyring_trait.specs.declared.ring_refusals.RingError.{RingError}
 use Rattle.keyring_trait.specs.declared.ring_refusals.RingError.TheVariants.{Refused, KeyringFault, Memory}
 use Rattle.keyring_trait.specs.Wrapping.{WrapKeyValue, unwrapped, made, ivs_of, IsOpened}
 
--- The wrapping keys, where the keyring tells them; how many entries it makes of a data key; what it refuses with a data key handed to it, and without one;
+-- The wrapping keys, retired or not, where the keyring tells them; how many entries it makes of a data key; what it refuses with a data key handed to it, and without one;
 -- how often it failed; and whether it is steady, so that it never fails.
 pub record KeyringMeaning : Type 0 where
   pub keys : Option (List WrapKeyValue)
@@ -56,7 +56,8 @@ pub record WrappedValue : Type 0 where
   pub key : List ℕ
   pub entries : List Entry
 
--- The data key is the one handed over or drawn, and there is one entry for each wrap. Where the keys are told, these are their wraps of it, in order.
+-- The data key is the one handed over or drawn, and there is one entry for each wrap. Where the keys are told, these are
+-- the wraps of it under those that aren't retired, in order.
 pub record Wraps (m : KeyringMeaning) (c : List KeyValue) (random : List ℕ) (handed : Option (List ℕ)) (wrapped : WrappedValue) : Type 0 where
   pub key : wrapped.key ≡ key_in handed random
   pub count : length wrapped.entries ≡ m.wraps
@@ -70,7 +71,7 @@ WrapCause refusal old new Memory = refusal ≡ None
 
 -- ---- unwrapping
 
--- What is found with these keys. A data key is one that some key of these opens; nothing is found only where none opens an entry; and where nothing failed it is
+-- What is found with these keys, retired or not. A data key is one that some key of these opens; nothing is found only where none opens an entry; and where nothing failed it is
 -- the one of the first key, and for it of the first entry.
 pub record OpensWith (keys : List WrapKeyValue) (entries : List Entry) (c : List KeyValue) (stayed : Type 0) (found : Option (List ℕ)) : Type 0 where
   pub opened : IfSome found (λ key. IsOpened keys entries c key)

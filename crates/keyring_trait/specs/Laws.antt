@@ -92,7 +92,7 @@ DrawsIvs = (keys : List WrapKeyValue) (n : ℕ) (bytes : List ℕ) → length (a
 
 -- ---- a keyring
 
--- A keyring tells these keys, one of which wraps, and no two of which share namespace and name. It was handed this data key over a context, with so many random bytes as it
+-- A keyring tells these keys, one of which isn't retired, and no two of which share namespace and name. It was handed this data key over a context, with so many random bytes as it
 -- wants, and made this of it.
 pub record HasWrapped (ring : KeyringMeaning) (keys : List WrapKeyValue) (c : List KeyValue) (random key : List ℕ) (wrapped : WrappedValue) : Type 0 where
   pub told : ring.keys ≡ Some keys

@@ -1,6 +1,6 @@
 -- What a cryptographic materials manager is to its callers, and what its calls answer.
 -- AWS Encryption SDK Specification, "CMM Interface", Get Encryption Materials and Decrypt Materials.
-use Rattle.std.specs.Prelude.{◌≡◌, ℕ, ◌+◌, ◌*◌, ◌≤◌, ◌<◌, Bool, true, false, List, [], ◌∷◌, ◌++◌, length, take, drop, All, ⊤, Option, Some, None, option_map, find, nat_eq, codes, Result, MatchResult}
+use Rattle.std.specs.Prelude.{◌≡◌, ℕ, ◌≤◌, ◌<◌, Bool, true, false, List, [], ◌∷◌, ◌++◌, length, take, drop, All, ⊤, Option, Some, None, option_map, find, nat_eq, codes, Result, MatchResult}
 use Rattle.std.specs.List.{starts_with}
 use Rattle.esdk_fields.specs.Counts.{Rose, Stayed}
 use Rattle.esdk_fields.specs.declared.faults.Fault.{Fault}
@@ -78,13 +78,14 @@ refusal_named rings.GeneratorHasKey = refusals.GeneratorHasKey
 unfoldable pub request_refusal : ManagerMeaning → List KeyValue → Option Refusal
 request_refusal m context = first_some (λ o. o) (required_absent context m.demands ∷ reserved_used context ∷ option_map refusal_named m.refuses ∷ [])
 
--- The entries are wraps of the data key under these keys, over the whole context, one for each, and in order. The IV of each stands in its information.
+-- The entries are wraps of the data key over the whole context, one under each of these keys that isn't retired, in order. The IV of each stands in its information.
 pub record AreWraps (keys : List WrapKeyValue) (materials : EncMaterialsValue) : Type 0 where
   pub ivs : List (List ℕ)
   pub are_ivs : AreIvs keys ivs
   pub entries : materials.entries ≡ made keys materials.context materials.key ivs
 
--- The data key is the first 32 of these random bytes. Where the keys are told, the entries are their wraps of it, with the bytes behind it as IVs.
+-- The data key is the first 32 of these random bytes. Where the keys are told, the entries are the wraps of it under those
+-- that aren't retired, with the bytes behind it as IVs.
 pub record AreDrawn (wraps : ℕ) (tells : List WrapKeyValue → Type 0) (random : List ℕ) (materials : EncMaterialsValue) : Type 0 where
   pub key : materials.key ≡ take 32 random
   pub entries : (keys : List WrapKeyValue) → tells keys → materials.entries ≡ made keys materials.context materials.key (ivs_of wraps (drop 32 random))

@@ -1,5 +1,5 @@
 -- What is asked of a materials manager. AWS Encryption SDK Specification, "CMM Interface", Encryption Materials Request and Decrypt Materials Request.
-use Rattle.std.specs.Prelude.{◌≡◌, ℕ, Bool, true, not, List, All, Option, option_map, find}
+use Rattle.std.specs.Prelude.{◌≡◌, ℕ, true, not, List, All, Option, option_map, find}
 use Rattle.esdk_fields.specs.declared.refusals.Refusal.{Refusal}
 use Rattle.esdk_fields.specs.declared.refusals.Refusal.TheVariants.{RequiredAbsent}
 use Rattle.context_codec.specs.Context.{KeyValue}

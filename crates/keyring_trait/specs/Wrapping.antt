@@ -1,6 +1,6 @@
 -- Wrapping a data key under a raw AES key, and unwrapping it.
 -- AWS Encryption SDK Specification, "Raw AES Keyring", OnEncrypt and OnDecrypt; the cipher is AES-256 in GCM (NIST SP 800-38D).
-use Rattle.std.specs.Prelude.{◌≡◌, ℕ, zero, suc, ◌+◌, Bool, ◌&&◌, ◌==◌, List, [], ◌∷◌, ◌++◌, length, take, drop, All, Contains, Option, None, if◌then◌else◌}
+use Rattle.std.specs.Prelude.{◌≡◌, ℕ, zero, suc, ◌+◌, Bool, not, ◌&&◌, ◌==◌, List, [], ◌∷◌, ◌++◌, length, take, drop, filter, All, Contains, Option, None, if◌then◌else◌}
 use Rattle.std.specs.Option.{option_or}
 use Rattle.std.specs.Str.{bytes_eq}
 use Rattle.cipher_spec.specs.Gcm.{sealed, opened}
@@ -8,11 +8,12 @@ use Rattle.context_codec.specs.Context.{KeyValue, ctx_text}
 use Rattle.edk_codec.specs.Entry.{Entry}
 use Rattle.edk_codec.specs.RawInfo.{raw_info}
 
--- A wrapping key: the namespace and the name by which an entry speaks of it, and its 32 bytes.
+-- A wrapping key: the namespace and the name by which an entry speaks of it, its 32 bytes, and whether it is retired. A retired key unwraps and doesn't wrap.
 pub record WrapKeyValue : Type 0 where
   pub namespace : List ℕ
   pub name : List ℕ
   pub key : List ℕ
+  pub retired : Bool
 
 -- The data key sealed under a wrapping key and an IV. The associated data is the text of the whole context.
 unfoldable pub wrap : WrapKeyValue → List KeyValue → List ℕ → List ℕ → Entry
@@ -43,12 +44,15 @@ first_some find (x ∷ xs) = option_or (find x) (first_some find xs)
 unfoldable pub unwrapped : List WrapKeyValue → List Entry → List KeyValue → Option (List ℕ)
 unwrapped keys entries c = first_some (λ w. first_some (unwrap w c) entries) keys
 
--- the keys that wrap, of those that unwrap: all of them
+abbrev pub is_active : WrapKeyValue → Bool
+is_active w = not w.retired
+
+-- the keys that wrap, of those that unwrap: the ones that aren't retired, in order
 abbrev pub active : List WrapKeyValue → List WrapKeyValue
-active keys = keys
+active keys = filter is_active keys
 
 -- each key's wrap of the data key, in order, with the IVs in order
-abbrev made_under : List WrapKeyValue → List KeyValue → List ℕ → List (List ℕ) → List Entry
+abbrev pub made_under : List WrapKeyValue → List KeyValue → List ℕ → List (List ℕ) → List Entry
 made_under [] c key ivs = []
 made_under (w ∷ ws) c key [] = []
 made_under (w ∷ ws) c key (iv ∷ ivs) = wrap w c iv key ∷ made_under ws c key ivs

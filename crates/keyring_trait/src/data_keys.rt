@@ -41,8 +41,8 @@ impl DataKey {
     }
 }
 
-/// A wrapping key: the namespace and the name by which an encrypted data key speaks of it, and its 32 bytes.
-/// A contract sees a `WrapKeyValue` of the three lists of bytes.
+/// A wrapping key: the namespace and the name by which an encrypted data key speaks of it, its 32 bytes, and whether it is retired.
+/// A contract sees a `WrapKeyValue` of the three lists of bytes and that truth value.
 #[derive(Drop)]
 pub struct WrapKey {
     /// The namespace, which is the provider id of the entries that this key makes.
@@ -51,6 +51,8 @@ pub struct WrapKey {
     pub name: Text,
     /// The bytes of the key.
     pub key: [u8; 32],
+    /// Whether the key is retired: then it unwraps data keys, and wraps none.
+    pub retired: bool,
 }
 
 impl Model for WrapKey {
@@ -58,7 +60,7 @@ impl Model for WrapKey {
 
     ghost Value = { WrapKeyValue };
 
-    ghost view = { λ w. record { namespace = w.namespace; name = w.name; key = w.key } };
+    ghost view = { λ w. record { namespace = w.namespace; name = w.name; key = w.key; retired = w.retired } };
 }
 
 impl WrapKey {
@@ -70,6 +72,7 @@ impl WrapKey {
             namespace: self.namespace.copy()?,
             name: self.name.copy()?,
             key: self.key,
+            retired: self.retired,
         })
     }
 }

@@ -19,8 +19,8 @@ pub trait Keyring: Drop {
     /// What the keyring means to its callers. Every call keeps all of it but the count of faults.
     ghost meaning: { Self → KeyringMeaning };
 
-    /// How many entries the keyring makes of a data key, at most 64. Where the keys are told, as many of them wrap; a keyring that generates data keys
-    /// makes at least one entry.
+    /// How many entries the keyring makes of a data key, at most 64. Where the keys are told, as many of them aren't retired; a keyring that generates
+    /// data keys makes at least one entry.
     fn wraps(&self) -> u32
         ensures value { result ≡ (meaning self.now).wraps }
         ensures bound { result ≤ 64 }
@@ -33,7 +33,8 @@ pub trait Keyring: Drop {
         ensures { result ≡ refusal_with has_key (meaning self.now) };
 
     /// Wraps the data key, or a new one of the first 32 random bytes where none is handed over, for each wrap with the next 12 random bytes as IV.
-    /// The text of the context, which has to be the whole context, is authenticated with it.
+    /// Where the keys are told, the entries are its wraps under each key that isn't retired, in order. The text of the context, which has to be the whole
+    /// context, is authenticated with it.
     ///
     /// `Refused` exactly where `refuses` says so, before all else. `KeyringFault` only where the count of faults rose.
     fn on_encrypt(
@@ -49,7 +50,7 @@ pub trait Keyring: Drop {
         ensures taken { OnOk result (refusal_with (is_some key.entry) (meaning self.old) ≡ None) }
         ensures cause { IfErr result (WrapCause (refusal_with (is_some key.entry) (meaning self.old)) (meaning self.old).faults (meaning self.new).faults) };
 
-    /// The data key of the first wrapping key that opens an entry, and for it of the first such entry. None where no key opens an entry.
+    /// The data key of the first wrapping key, retired or not, that opens an entry, and for it of the first such entry. None where no key opens an entry.
     /// The text of the context, which has to be the whole context, is what was authenticated. An entry that is of no key, or doesn't open, is passed over.
     ///
     /// `KeyringFault` only where the count of faults rose; never `Refused`.

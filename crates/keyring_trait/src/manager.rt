@@ -26,7 +26,7 @@ pub trait Manager: Drop {
     /// What the manager means to its callers. Every call keeps all of it but the count of faults.
     ghost meaning: { Self → ManagerMeaning };
 
-    /// The manager tells that these are its wrapping keys, in order. Every call keeps what is told, and a plain manager tells nothing else then.
+    /// The manager tells that these are its wrapping keys, retired or not, in order. Every call keeps what is told, and a plain manager tells nothing else then.
     ghost tells: { Self → List WrapKeyValue → Type 0 };
 
     /// The manager is exact: it refuses exactly where the definitions say so, in their order, and requires its own demands and no more. Every call keeps that.
@@ -45,8 +45,8 @@ pub trait Manager: Drop {
     /// The last materials to decrypt with that it found were these, to this request, at this moment. For the rest as `gave`.
     ghost found: { Self → DecRequestValue → ℕ → DecMaterialsValue → Type 0 };
 
-    /// How many entries the materials to encrypt with have, at most 64. Every manager bears the empty list, and what it bears is within its limits. The keys that it
-    /// requires by itself ascend, so that the first of some of them is the least.
+    /// How many entries the materials to encrypt with have, at most 64. Where the keys are told, as many of them aren't retired. Every manager bears the empty list, and
+    /// what it bears is within its limits. The keys that it requires by itself ascend, so that the first of some of them is the least.
     fn wraps(&self) -> u32
         ensures value { result ≡ (meaning self.now).wraps }
         ensures bound { result ≤ 64 }
@@ -61,7 +61,8 @@ pub trait Manager: Drop {
     fn refuses(&self) -> Option<RingRefusal>
         ensures { result ≡ (meaning self.now).refuses };
 
-    /// Materials to encrypt with, at the moment `now` in seconds. The random bytes are 32 and 12 for each wrap.
+    /// Materials to encrypt with, at the moment `now` in seconds. The random bytes are 32 and 12 for each wrap. Where the keys are told, each entry is the wrap of the
+    /// data key under the key at the entry's place among those that aren't retired, over the whole context, with the IV that stands in its information.
     ///
     /// `Refusal` with Q1 or Q4 only where the key that it names has the reserved prefix and is in the context, or isn't in the context; with Q5 or Q6 only where
     /// `refuses` says so; with no other. An exact manager answers Q4 with the least of its demands that isn't in the context, else Q1 with the least reserved key,

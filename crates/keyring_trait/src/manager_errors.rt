@@ -2,6 +2,8 @@
 
 use esdk_fields::{Fault, Refusal};
 use std::alloc::{AllocError, AllocFailed};
+use std::error::Error;
+use std::fmt;
 
 /// Why a materials manager hands out no materials.
 #[derive(Drop)]
@@ -15,6 +17,25 @@ pub enum ManagerError {
     /// Memory ran out.
     Memory,
 }
+
+impl fmt::Display for ManagerError {
+    fn fmt<W: fmt::Write>(&self, f: &mut fmt::Formatter<W>) -> fmt::Result {
+        match self {
+            ManagerError::Fault(fault) => fmt::Display::fmt(fault, f),
+            ManagerError::Refusal(refusal) => fmt::Display::fmt(refusal, f),
+            ManagerError::KeyringFault => f.write_str("a keyring failed"),
+            ManagerError::Memory => f.write_str("memory ran out"),
+        }
+    }
+}
+
+impl fmt::Debug for ManagerError {
+    fn fmt<W: fmt::Write>(&self, f: &mut fmt::Formatter<W>) -> fmt::Result {
+        fmt::Display::fmt(self, f)
+    }
+}
+
+impl Error for ManagerError {}
 
 impl From<AllocError> for ManagerError {
     ghost use Rattle.std.specs.Prelude.{◌≡◌};

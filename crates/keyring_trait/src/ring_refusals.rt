@@ -1,6 +1,8 @@
 //! Why a keyring makes or finds no data key.
 
 use std::alloc::{AllocError, AllocFailed};
+use std::error::Error;
+use std::fmt;
 
 /// What a keyring refuses, whatever the context.
 #[derive(Clone, Copy, PartialEq, Eq)]
@@ -10,6 +12,30 @@ pub enum RingRefusal {
     /// A data key was handed over, and there is a keyring that generates one.
     GeneratorHasKey,
 }
+
+impl RingRefusal {
+    /// What is wrong, as one line says it.
+    fn text(&self) -> &'static str {
+        match self {
+            RingRefusal::NoGenerator => "no keyring generates a data key",
+            RingRefusal::GeneratorHasKey => "the generator was handed a data key",
+        }
+    }
+}
+
+impl fmt::Display for RingRefusal {
+    fn fmt<W: fmt::Write>(&self, f: &mut fmt::Formatter<W>) -> fmt::Result {
+        f.write_str(self.text())
+    }
+}
+
+impl fmt::Debug for RingRefusal {
+    fn fmt<W: fmt::Write>(&self, f: &mut fmt::Formatter<W>) -> fmt::Result {
+        fmt::Display::fmt(self, f)
+    }
+}
+
+impl Error for RingRefusal {}
 
 /// Why a keyring makes or finds no data key.
 #[derive(Drop)]
@@ -21,6 +47,24 @@ pub enum RingError {
     /// Memory ran out.
     Memory,
 }
+
+impl fmt::Display for RingError {
+    fn fmt<W: fmt::Write>(&self, f: &mut fmt::Formatter<W>) -> fmt::Result {
+        f.write_str(match self {
+            RingError::Refused(refusal) => refusal.text(),
+            RingError::KeyringFault => "the keyring failed",
+            RingError::Memory => "memory ran out",
+        })
+    }
+}
+
+impl fmt::Debug for RingError {
+    fn fmt<W: fmt::Write>(&self, f: &mut fmt::Formatter<W>) -> fmt::Result {
+        fmt::Display::fmt(self, f)
+    }
+}
+
+impl Error for RingError {}
 
 impl From<AllocError> for RingError {
     ghost use Rattle.std.specs.Prelude.{◌≡◌};

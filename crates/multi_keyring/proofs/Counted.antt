@@ -1,5 +1,5 @@
 -- How many entries a multi-keyring makes.
-use Rattle.std.proofs.Common.{◌≡◌, ℕ, ◌+◌, ◌-◌, ◌^◌, ◌≤◌, min, nat_lt, Bool, true, false, ◌&&◌, List, [], ◌∷◌, length, Option, Some, None, refl, arith, length-append}
+use Rattle.std.proofs.Common.{◌≡◌, ℕ, ◌+◌, ◌-◌, ◌^◌, ◌≤◌, min, nat_lt, Bool, true, false, ◌&&◌, List, [], ◌∷◌, length, Option, Some, None, refl, ap, arith, length-append}
 use Rattle.std.proofs.lemmas.Bool.Decides.{nat_tests}
 use Rattle.std.specs.Prelude.{IfSome, if◌then◌else◌}
 use Rattle.std.specs.Option.{option_or}
@@ -7,13 +7,15 @@ use Rattle.esdk_fields.specs.Counts.{Stayed}
 use Rattle.keyring_trait.specs.Wrapping.{WrapKeyValue, active}
 use Rattle.keyring_trait.specs.Keyring.{KeyringMeaning}
 use Rattle.keyring_trait.specs.declared.ring_refusals.RingRefusal.{RingRefusal}
+use Rattle.keyring_trait.proofs.Active.{active-append}
 use Rattle.multi_keyring.specs.Tree.{both_keys, all_keys, all_wraps, all_faults, all_steady, first_refusal, generator_refusal, joined}
 use Rattle.multi_keyring.specs.Rows.{IsCounted, AllCounted}
 
-both_told : (keys others : Option (List WrapKeyValue)) (a b : ℕ) → IfSome keys (λ ks. length ks ≡ a) → IfSome others (λ ks. length ks ≡ b) → IfSome (both_keys keys others) (λ ks. length ks ≡ a + b)
+both_told : (keys others : Option (List WrapKeyValue)) (a b : ℕ) → IfSome keys (λ ks. length (active ks) ≡ a) → IfSome others (λ ks. length (active ks) ≡ b)
+    → IfSome (both_keys keys others) (λ ks. length (active ks) ≡ a + b)
 both_told None others a b told told_others = tt
 both_told (Some ks) None a b told told_others = tt
-both_told (Some ks) (Some ls) a b told told_others = omega (arith, length-append ks ls, told, told_others)
+both_told (Some ks) (Some ls) a b told told_others = omega (arith, ap length (active-append ks ls), length-append (active ks) (active ls), told, told_others)
 
 -- as many keys wrap as there are entries
 pub all_told : (ms : List KeyringMeaning) → AllCounted ms → IfSome (all_keys ms) (λ keys. length (active keys) ≡ all_wraps ms)

@@ -9,3 +9,4 @@ pub mod Finding
 pub mod Appending
 pub mod Multis
 pub mod Leaves
+pub mod Unvisited

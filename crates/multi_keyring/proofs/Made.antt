@@ -4,8 +4,9 @@ use Rattle.std.specs.Prelude.{IfSome}
 use Rattle.std.proofs.lemmas.List.{append_assoc, append-nil, take-append-le, drop-append-le, length-drop}
 use Rattle.context_codec.specs.Context.{KeyValue}
 use Rattle.edk_codec.specs.Entry.{Entry}
-use Rattle.keyring_trait.specs.Wrapping.{WrapKeyValue, wrap, made, ivs_of}
+use Rattle.keyring_trait.specs.Wrapping.{WrapKeyValue, wrap, active, made_under, made, ivs_of}
 use Rattle.keyring_trait.specs.Keyring.{KeyringMeaning, WrappedValue, Wraps, ivs_in}
+use Rattle.keyring_trait.proofs.Active.{active-append}
 use Rattle.multi_keyring.specs.Tree.{both_keys, all_keys, all_wraps}
 use Rattle.multi_keyring.specs.Rows.{AllCounted, Appends}
 use Rattle.multi_keyring.proofs.Counted.{all_told}
@@ -28,19 +29,25 @@ ivs_of-append (suc a) b r s long =
     ∙ (ap (λ (iv : List ℕ). iv ∷ ivs_of (a + b) (drop 12 (r ++ s))) (take-append-le 12 r s enough)
     ∙ (ap (λ (l : List ℕ). take 12 r ∷ ivs_of (a + b) l) (drop-append-le 12 r s enough) ∙ ap (λ (l : List (List ℕ)). take 12 r ∷ l) rest))
 
-made-append : (ks ls : List WrapKeyValue) (c : List KeyValue) (key : List ℕ) (is js : List (List ℕ)) → length is ≡ length ks → made (ks ++ ls) c key (is ++ js) ≡ made ks c key is ++ made ls c key js
-made-append [] ls c key [] js enough = refl
-made-append [] ls c key (i ∷ is) js enough = absurd (omega (arith, enough))
-made-append (k ∷ ks) ls c key [] js enough = absurd (omega (arith, enough))
-made-append (k ∷ ks) ls c key (i ∷ is) js enough = ap (λ (es : List Entry). wrap k c i key ∷ es) (made-append ks ls c key is js (omega (arith, enough)))
+made_under-append : (ks ls : List WrapKeyValue) (c : List KeyValue) (key : List ℕ) (is js : List (List ℕ)) → length is ≡ length ks
+    → made_under (ks ++ ls) c key (is ++ js) ≡ made_under ks c key is ++ made_under ls c key js
+made_under-append [] ls c key [] js enough = refl
+made_under-append [] ls c key (i ∷ is) js enough = absurd (omega (arith, enough))
+made_under-append (k ∷ ks) ls c key [] js enough = absurd (omega (arith, enough))
+made_under-append (k ∷ ks) ls c key (i ∷ is) js enough = ap (λ (es : List Entry). wrap k c i key ∷ es) (made_under-append ks ls c key is js (omega (arith, enough)))
 
-both_made : (k l : Option (List WrapKeyValue)) (a b : ℕ) (c : List KeyValue) (key r s : List ℕ) (before mid now : List Entry) → length r ≡ 12 * a → IfSome k (λ ks. length ks ≡ a)
+made-append : (ks ls : List WrapKeyValue) (c : List KeyValue) (key : List ℕ) (is js : List (List ℕ)) → length is ≡ length (active ks)
+    → made (ks ++ ls) c key (is ++ js) ≡ made ks c key is ++ made ls c key js
+made-append ks ls c key is js enough =
+    ap (λ (ws : List WrapKeyValue). made_under ws c key (is ++ js)) (active-append ks ls) ∙ made_under-append (active ks) (active ls) c key is js enough
+
+both_made : (k l : Option (List WrapKeyValue)) (a b : ℕ) (c : List KeyValue) (key r s : List ℕ) (before mid now : List Entry) → length r ≡ 12 * a → IfSome k (λ ks. length (active ks) ≡ a)
     → IfSome k (λ ks. mid ≡ before ++ made ks c key (ivs_of a r)) → IfSome l (λ ls. now ≡ mid ++ made ls c key (ivs_of b s))
     → IfSome (both_keys k l) (λ ks. now ≡ before ++ made ks c key (ivs_of (a + b) (r ++ s)))
 both_made None l a b c key r s before mid now long told first next = tt
 both_made (Some ks) None a b c key r s before mid now long told first next = tt
 both_made (Some ks) (Some ls) a b c key r s before mid now long told first next =
-    let enough : length (ivs_of a r) ≡ length ks = length-ivs_of a r ∙ sym told in
+    let enough : length (ivs_of a r) ≡ length (active ks) = length-ivs_of a r ∙ sym told in
     next ∙ (ap (λ (es : List Entry). es ++ made ls c key (ivs_of b s)) first ∙ (append_assoc before (made ks c key (ivs_of a r)) (made ls c key (ivs_of b s))
     ∙ ap (λ (es : List Entry). before ++ es)
     (sym (made-append ks ls c key (ivs_of a r) (ivs_of b s) enough) ∙ ap (λ (ivs : List (List ℕ)). made (ks ++ ls) c key ivs) (sym (ivs_of-append a b r s long)))))

@@ -55,11 +55,11 @@ from_marks ms = first_row (rows ms)
 pub from_marks-marks : {P : Type 0} (f : Forest P) → from_marks (marks f) ≡ f
 from_marks-marks f = ap from_marks (sym (append-nil (marks f))) ∙ ap first_row (rows-marks f [])
 
--- a raw key is stored as its three parts
+-- a raw key is stored as its four parts
 abbrev pub key_code : Coded WrapKeyValue
 key_code =
-    code_by ((List ℕ × List ℕ) × List ℕ) (coded× (coded× (coded_list coded_ℕ) (coded_list coded_ℕ)) (coded_list coded_ℕ)) (λ w. ((w.namespace, w.name), w.key))
-    (λ p. record { namespace = p.0.0; name = p.0.1; key = p.1 }) (λ _. refl)
+    code_by (((List ℕ × List ℕ) × List ℕ) × Bool) (coded× (coded× (coded× (coded_list coded_ℕ) (coded_list coded_ℕ)) (coded_list coded_ℕ)) coded_bool)
+    (λ w. (((w.namespace, w.name), w.key), w.retired)) (λ p. record { namespace = p.0.0.0; name = p.0.0.1; key = p.0.1; retired = p.1 }) (λ _. refl)
 
 -- a forest is stored as its marks
 abbrev pub forest_code : {P : Type 0} → Coded P → Coded (Forest P)

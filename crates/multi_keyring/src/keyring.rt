@@ -11,7 +11,8 @@ use edk_codec::DataKeyEntry;
 use keyring_trait::{DataKey, Keyring, RingError, RingRefusal, Wrapped};
 use std::alloc::Global;
 
-/// A tree makes one entry with each of its leaves, the generator's first, and opens an entry with any of them.
+/// A tree makes the entries of its leaves, the generator's first, and opens an entry with any of them: a raw key makes one, a retired one none, and a keyring that was handed
+/// in as many as it says.
 ///
 /// With a data key handed to it a multi-keyring refuses `GeneratorHasKey` where it has a generator, else what the first child refuses that does. Without one it refuses
 /// `NoGenerator` where it has no generator, else what the generator refuses without one, else what the first child refuses with one.

@@ -1,4 +1,4 @@
-//! Multi-keyrings: keyrings that wrap a data key once with each of their members, and unwrap it with any of them. They can be nested, to trees.
+//! Multi-keyrings: keyrings that wrap a data key with each of their members, and unwrap it with any of them. They can be nested, to trees.
 //! AWS Encryption SDK Specification, "Multi-Keyring".
 //!
 //! The definitions stand in `specs/`: `Forest` says what trees are, `Tree` what a tree means as a keyring, `Making` what is refused as a multi-keyring.

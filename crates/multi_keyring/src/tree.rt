@@ -3,7 +3,7 @@
 use raw_aes_keyring::RawAes;
 use std::marker::Model;
 
-/// A tree of keyrings: one raw AES key, a keyring that was handed in, or a multi-keyring of further trees.
+/// A tree of keyrings: one raw AES key, which may be retired, a keyring that was handed in, or a multi-keyring of further trees.
 #[derive(Drop)]
 #[cycle(tree)]
 pub enum Node<P> {

@@ -1,10 +1,11 @@
 -- What a keyring of one wrapping key answers.
-use Rattle.std.proofs.Common.{◌≡◌, ℕ, List, [], ◌∷◌, length, take, Option, Some, None, sym, ap, ◌∙◌, arith}
+use Rattle.std.proofs.Common.{◌≡◌, ℕ, Bool, true, false, not, List, [], ◌∷◌, length, take, Option, Some, None, sym, ap, ◌∙◌, arith}
+use Rattle.std.specs.Prelude.{if◌then◌else◌}
 use Rattle.std.proofs.lemmas.List.{take_all}
 use Rattle.esdk_fields.specs.Counts.{Stayed}
 use Rattle.context_codec.specs.Context.{KeyValue}
 use Rattle.edk_codec.specs.Entry.{Entry}
-use Rattle.keyring_trait.specs.Wrapping.{WrapKeyValue, wrap, unwrapped}
+use Rattle.keyring_trait.specs.Wrapping.{WrapKeyValue, wrap, made_under, made, ivs_of, unwrapped}
 use Rattle.keyring_trait.specs.Keyring.{WrappedValue, key_in, ivs_in, Wraps, OpensWith, Opens}
 use Rattle.keyring_trait.proofs.Wrapping.{unwraps_only_wraps}
 use Rattle.raw_aes_keyring.specs.Keyring.{raw_meaning}
@@ -18,11 +19,22 @@ opens_unwrapped keys entries c stayed None is = record { opened = tt; none = λ 
 pub opens_one : (w : WrapKeyValue) (c : List KeyValue) (entries : List Entry) (found : Option (List ℕ)) → found ≡ unwrapped (w ∷ []) entries c → Opens (raw_meaning w) (raw_meaning w) c entries found
 opens_one w c entries found is = opens_unwrapped (w ∷ []) entries c (Stayed 0 0) found is
 
+-- the wrap that a key makes which isn't retired
+one_made : (w : WrapKeyValue) (c : List KeyValue) (key bytes : List ℕ) → w.retired ≡ false → made (w ∷ []) c key (ivs_of (if w.retired then 0 else 1) bytes) ≡ wrap w c (take 12 bytes) key ∷ []
+one_made w c key bytes active = ap (λ (b : Bool). made_under (if not b then w ∷ [] else []) c key (ivs_of (if b then 0 else 1) bytes)) active
+
 -- one wrap is what a keyring of one key makes
-pub wraps_one : (w : WrapKeyValue) (c : List KeyValue) (random : List ℕ) (handed : Option (List ℕ)) (wrapped : WrappedValue) (iv : List ℕ) → wrapped.key ≡ key_in handed random → iv ≡ ivs_in handed random → length iv ≡ 12
-    → wrapped.entries ≡ wrap w c iv wrapped.key ∷ [] → Wraps (raw_meaning w) c random handed wrapped
-wraps_one w c random handed wrapped iv key iv_is twelve entries = record {
-  key = key;
-  count = ap length entries;
-  told = entries ∙ ap (λ (i : List ℕ). wrap w c i wrapped.key ∷ []) (sym (take_all 12 iv (omega (arith, twelve))) ∙ ap (take 12) iv_is);
-}
+pub wraps_one : (w : WrapKeyValue) (c : List KeyValue) (random : List ℕ) (handed : Option (List ℕ)) (wrapped : WrappedValue) (iv : List ℕ) → w.retired ≡ false → wrapped.key ≡ key_in handed random
+    → iv ≡ ivs_in handed random → length iv ≡ 12 → wrapped.entries ≡ wrap w c iv wrapped.key ∷ [] → Wraps (raw_meaning w) c random handed wrapped
+wraps_one w c random handed wrapped iv active key iv_is twelve entries =
+    let first : iv ≡ take 12 (ivs_in handed random) = sym (take_all 12 iv (omega (arith, twelve))) ∙ ap (take 12) iv_is in
+    record {
+      key = key;
+      count = rw active (ap length entries);
+      told = entries ∙ ap (λ (i : List ℕ). wrap w c i wrapped.key ∷ []) first ∙ sym (one_made w c wrapped.key (ivs_in handed random) active);
+    }
+
+-- no wrap is what a keyring of a retired key makes
+pub wraps_none : (w : WrapKeyValue) (c : List KeyValue) (random : List ℕ) (handed : Option (List ℕ)) (wrapped : WrappedValue) → w.retired ≡ true → wrapped.key ≡ key_in handed random
+    → wrapped.entries ≡ [] → Wraps (raw_meaning w) c random handed wrapped
+wraps_none w c random handed wrapped retired key entries = record { key = key; count = rw retired (ap length entries); told = rw retired entries }

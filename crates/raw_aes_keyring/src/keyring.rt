@@ -11,19 +11,24 @@ use edk_codec::DataKeyEntry;
 use keyring_trait::{DataKey, Keyring, RingError, RingRefusal, Wrapped};
 use std::alloc::Global;
 
-/// The keyring of one wrapping key makes one entry, refuses nothing, and fails only where memory runs out.
+/// The keyring of one wrapping key makes one entry, refuses nothing, and fails only where memory runs out. Where the key is retired, it makes no entry: it refuses to generate
+/// a data key, and gives back one that it is handed.
 impl Keyring for RawAes {
     ghost meaning = { raw_meaning };
 
     fn wraps(&self) -> u32 {
-        1
+        if self.key.retired { 0 } else { 1 }
     }
 
-    fn refuses(&self, _has_key: bool) -> Option<RingRefusal> {
-        None
+    fn refuses(&self, has_key: bool) -> Option<RingRefusal> {
+        if self.key.retired && !has_key {
+            Some(RingRefusal::NoGenerator)
+        } else {
+            None
+        }
     }
 
-    #[tactic(auto, using(crate::proofs::OneKey::wraps_one))]
+    #[tactic(auto, using(crate::proofs::OneKey::wraps_one, crate::proofs::OneKey::wraps_none))]
     fn on_encrypt(
         &mut self,
         alloc: Global,
@@ -31,6 +36,12 @@ impl Keyring for RawAes {
         random: &[u8],
         key: Option<&DataKey>,
     ) -> Result<Wrapped, RingError> {
+        if self.key.retired {
+            return match key {
+                Some(key) => Ok(Wrapped::new(*key, Vec::new(alloc))),
+                None => Err(RingError::Refused(RingRefusal::NoGenerator)),
+            };
+        }
         let (key, iv) = key_and_iv(random, key);
         let entry = self.wrap(alloc, context, &iv, &key)?;
         let mut entries = Vec::new(alloc);

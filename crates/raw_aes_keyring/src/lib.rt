@@ -1,4 +1,4 @@
-//! A raw AES keyring: one wrapping key of AES-256, which wraps data keys and unwraps them.
+//! A raw AES keyring: one wrapping key of AES-256, which wraps data keys and unwraps them. A retired key unwraps and doesn't wrap.
 //! AWS Encryption SDK Specification, "Raw AES Keyring".
 #![tactic(auto)]
 

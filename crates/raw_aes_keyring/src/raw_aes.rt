@@ -1,6 +1,6 @@
 //! The keyring, and why none is made.
 
-ghost use Rattle.std.specs.Prelude.{◌≡◌, ◌≤◌, length, IfOk};
+ghost use Rattle.std.specs.Prelude.{◌≡◌, ◌≤◌, true, false, length, IfOk};
 ghost use Rattle.raw_aes_keyring.specs.Made.{MakesKeyring};
 
 use esdk_fields::Text;
@@ -34,7 +34,7 @@ impl From<AllocError> for RawError {
     }
 }
 
-/// A keyring of one wrapping key. Its namespace and its name have at most 1,024 bytes each, and the namespace isn't `aws-kms`.
+/// A keyring of one wrapping key, which may be retired. Its namespace and its name have at most 1,024 bytes each, and the namespace isn't `aws-kms`.
 /// A contract sees the wrapping key.
 #[derive(Drop)]
 pub struct RawAes {
@@ -63,20 +63,24 @@ impl RawAes {
     ) -> Result<RawAes, RawError>
         requires namespace { length namespace.now ≤ 1024 }
         requires name { length name.now ≤ 1024 }
-        ensures { MakesKeyring (record { namespace = namespace.now; name = name.now; key = key }) result }
+        ensures { MakesKeyring (record { namespace = namespace.now; name = name.now; key = key; retired = false }) result }
     {
-        if namespace == RESERVED_NAMESPACE {
-            return Err(RawError::ReservedNamespace);
-        }
-        let namespace = Text::new(alloc, namespace)?;
-        let name = Text::new(alloc, name)?;
-        Ok(RawAes {
-            key: WrapKey {
-                namespace,
-                name,
-                key,
-            },
-        })
+        made(alloc, namespace, name, key, false)
+    }
+
+    /// A keyring of the retired wrapping key of this namespace, this name and these bytes: it opens what that key wrapped, and wraps nothing itself.
+    /// `ReservedNamespace` comes exactly where the namespace is `aws-kms`; `Memory` where memory ran out.
+    pub fn retired(
+        alloc: Global,
+        namespace: &str,
+        name: &str,
+        key: [u8; 32],
+    ) -> Result<RawAes, RawError>
+        requires namespace { length namespace.now ≤ 1024 }
+        requires name { length name.now ≤ 1024 }
+        ensures { MakesKeyring (record { namespace = namespace.now; name = name.now; key = key; retired = true }) result }
+    {
+        made(alloc, namespace, name, key, true)
     }
 
     /// An equal keyring. Fails only where memory runs out.
@@ -87,4 +91,29 @@ impl RawAes {
             key: self.key.copy()?,
         })
     }
+}
+
+/// A keyring of the wrapping key with these parts.
+fn made(
+    alloc: Global,
+    namespace: &str,
+    name: &str,
+    key: [u8; 32],
+    retired: bool,
+) -> Result<RawAes, RawError>
+    requires namespace { length namespace.now ≤ 1024 }
+    requires name { length name.now ≤ 1024 }
+    ensures { MakesKeyring (record { namespace = namespace.now; name = name.now; key = key; retired = retired }) result }
+{
+    if namespace == RESERVED_NAMESPACE {
+        return Err(RawError::ReservedNamespace);
+    }
+    Ok(RawAes {
+        key: WrapKey {
+            namespace: Text::new(alloc, namespace)?,
+            name: Text::new(alloc, name)?,
+            key,
+            retired,
+        },
+    })
 }

@@ -1,6 +1,6 @@
 //! Wrapping a data key. AWS Encryption SDK Specification, "Raw AES Keyring", OnEncrypt.
 
-ghost use Rattle.std.specs.Prelude.{◌≡◌, ◌≤◌, List, ◌++◌, length, IfOk};
+ghost use Rattle.std.specs.Prelude.{◌≡◌, ◌≤◌, false, List, ◌++◌, length, IfOk};
 ghost use Rattle.cipher_spec.specs.Gcm.{sealed};
 ghost use Rattle.context_codec.specs.Context.{KeyValue, ctx_text};
 ghost use Rattle.keyring_trait.specs.Wrapping.{wrap};
@@ -17,7 +17,8 @@ use std::alloc::{AllocError, Global};
 impl RawAes {
     /// The entry that wraps the data key under this keyring's key and the IV: its provider is the namespace, its information the name, the
     /// lengths of tag and IV, and the IV, and its ciphertext the sealed data key with the tag behind it. The text of the context, which has to
-    /// be the whole context, is authenticated with it. No two data keys may be wrapped with one IV. Fails only where memory runs out.
+    /// be the whole context, is authenticated with it. The key isn't retired, and no two data keys may be wrapped with one IV. Fails only where memory
+    /// runs out.
     pub fn wrap(
         &self,
         alloc: Global,
@@ -25,6 +26,7 @@ impl RawAes {
         iv: &[u8; 12],
         key: &DataKey,
     ) -> Result<DataKeyEntry, AllocError>
+        requires { self.now.retired ≡ false }
         ensures { IfOk result (λ e. e ≡ wrap self.now context.now iv.now key.now) }
     {
         let aad = whole_text(alloc, context)?;

@@ -3,6 +3,7 @@ use Rattle.std.specs.Prelude.{is_some, Ok, Err}
 use Rattle.keyring_trait.specs.declared.ring_refusals.RingError.TheVariants.{Refused, KeyringFault, Memory}
 use Rattle.multi_keyring.proofs.Finding.{starts, ends_here, goes_on, generator_ends, generator_goes_on, after_none, after_fault}
 use Rattle.multi_keyring.proofs.Joining.{after, so_far}
+use Rattle.multi_keyring.proofs.Unvisited.{still_unvisited}
 use Rattle.multi_keyring.proofs.Multis.{value_of, height_stays, value_height, multi_goes, multi_opens}
 use Rattle.multi_keyring.proofs.+decrypt.Goals.{unwrapping::unwrap_with_any-in-Ok-None, unwrapping::unwrap_with_any-in-Err-KeyringFault}
 use Rattle.multi_keyring.proofs.+decrypt.Goals as goal
@@ -118,7 +119,7 @@ unwrapping::unwrap_with_any-returns-in-Err-Memory g t c =
 pub unwrapping::unwrap_with_any-loop-i-preserved :
     goal.unwrapping::unwrap_with_any-loop-i-preserved
 unwrapping::unwrap_with_any-loop-i-preserved g t c = (
-  search rules,
+  still_unvisited c.loop-i.nodes.items c.args.nodes.now.items c.loop-i.i c.decrypt.new.self c.loop-i.invariant.0,
   goes_on g.P.Keyring.meaning c.args.nodes.now.items c.loop-i.nodes.items c.loop-i.i c.loop-i.failed c.match-decrypt.failed c.args.context.now c.args.entries.now c.index_mut.result.now
       c.decrypt.new.self c.decrypt.result c.loop-i.invariant.1 (search rules) (search rules)
       (record { height = c.decrypt.ensures.height; goes = c.decrypt.ensures.goes; opens = c.decrypt.ensures.opens; none = c.decrypt.ensures.none })

@@ -9,6 +9,7 @@ use Rattle.multi_keyring.specs.Tree.{all_faults, all_wraps, joined, meanings, tr
 use Rattle.multi_keyring.proofs.Meanings.{meanings-forest, row_is, joined_row}
 use Rattle.multi_keyring.proofs.Finding.{stays_same}
 use Rattle.multi_keyring.proofs.Appending.{begins, err_is, kept_here, cause_here, step_here}
+use Rattle.multi_keyring.proofs.Unvisited.{still_unvisited}
 use Rattle.multi_keyring.proofs.Multis.{value_of, height_stays, value_height, multi_goes, split_is, generator_wraps, generator_kept}
 use Rattle.multi_keyring.proofs.+encrypt.Goals as goal
 
@@ -105,7 +106,7 @@ wrapping::wrap_with_all-returns-in_err-wrapped-clause-stays g t c =
 
 pub wrapping::wrap_with_all-loop-i-preserved : goal.wrapping::wrap_with_all-loop-i-preserved
 wrapping::wrap_with_all-loop-i-preserved g t c = (
-  search rules,
+  still_unvisited c.loop-i.nodes.items c.args.nodes.now.items c.loop-i.i c.encrypt.new.self c.loop-i.invariant.0,
   step_here g.P.Keyring.meaning c.args.nodes.now.items c.loop-i.nodes.items c.loop-i.i c.args.context.now c.args.key.now c.args.random.now c.loop-i.rest.now c.split_at.result.0.now
       c.split_at.result.1.now c.args.entries.now.items c.loop-i.entries.items c.append.new.self.items c.index_mut-node.result.now c.encrypt.new.self c.in_ok-wrapped.wrapped c.loop-i.invariant.1
       (search rules) (search rules)

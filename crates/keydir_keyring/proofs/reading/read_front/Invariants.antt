@@ -6,12 +6,12 @@ use Rattle.keydir_keyring.proofs.reading.read_front.Given as goal
 
 abbrev pub invariant-loop-count : goal.invariant-loop-count
 invariant-loop-count g l = record {
-  filled : IsFilled (g.S.Shelf.files l.fn.shelf) l.file l.room l.count;
-  there : is_missing (g.S.Shelf.files l.fn.shelf) l.file ≡ true → l.count ≡ 0;
-  given : RoseBy l.count (g.S.Shelf.given l.fn.shelf) (g.S.Shelf.given l.shelf);
-  most : g.S.Shelf.given l.shelf ≤ g.S.Shelf.given l.fn.shelf + l.count;
-  files : g.S.Shelf.files l.shelf ≡ g.S.Shelf.files l.fn.shelf;
-  faults : g.S.Shelf.faults l.shelf ≡ g.S.Shelf.faults l.fn.shelf;
+  filled : IsFilled (g.S.Shelf.state l.fn.shelf).files l.file l.room l.count;
+  there : is_missing (g.S.Shelf.state l.fn.shelf).files l.file ≡ true → l.count ≡ 0;
+  given : RoseBy l.count (g.S.Shelf.state l.fn.shelf).given (g.S.Shelf.state l.shelf).given;
+  most : (g.S.Shelf.state l.shelf).given ≤ (g.S.Shelf.state l.fn.shelf).given + l.count;
+  files : (g.S.Shelf.state l.shelf).files ≡ (g.S.Shelf.state l.fn.shelf).files;
+  faults : (g.S.Shelf.state l.shelf).faults ≡ (g.S.Shelf.state l.fn.shelf).faults;
 }
 
 abbrev pub decreases-loop-count : goal.decreases-loop-count
