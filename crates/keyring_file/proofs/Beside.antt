@@ -1,13 +1,27 @@
 -- Rows of trees, one behind the other.
-use Rattle.std.proofs.Common.{◌≡◌, ◌≤◌, ◌+◌, ℕ, List, [], ◌∷◌, ◌++◌, length, refl, sym, ap, ◌∙◌, arith, append_assoc}
-use Rattle.std.specs.Prelude.{max}
-use Rattle.std.proofs.lemmas.List.{append-nil, length-append}
+use Rattle.std.proofs.Common.{◌≡◌, ◌≤◌, ◌+◌, ℕ, List, [], ◌∷◌, ◌++◌, length, map, refl, sym, ap, ap₂, ◌∙◌, arith, append_assoc}
+use Rattle.std.specs.Prelude.{false}
+use Rattle.std.proofs.lemmas.List.{map-append}
+use Rattle.keyring_trait.specs.Wrapping.{WrapKeyValue}
 use Rattle.multi_keyring.specs.declared.tree.Node.{Node}
 use Rattle.multi_keyring.specs.declared.tree.Node.TheVariants.{Raw, Handed, Multi}
 use Rattle.multi_keyring.specs.Forest.{Forest, Nil, RawThen, HandedThen, MultiThen, tallest}
 use Rattle.multi_keyring.specs.Nodes.{forest}
+use Rattle.keyring_file.specs.Leaves.{wrap_key}
 use Rattle.keyring_file.specs.Tree.{beside}
 use Rattle.keyring_file.specs.Counts.{leaves_of, raw_keys, count_of_trees}
+use Rattle.keyring_file.specs.Retired.{nodes_in}
+
+-- a raw key as a walk keeps it, whether it is retired or not
+abbrev pub unretired : WrapKeyValue → WrapKeyValue
+unretired w = wrap_key w.namespace w.name w.key false
+
+-- the raw keys as a walk keeps them, in order
+abbrev pub kept_keys : {P : Type 0} → Forest P → List WrapKeyValue
+kept_keys Nil = []
+kept_keys (RawThen key trees) = unretired key ∷ kept_keys trees
+kept_keys (HandedThen keyring trees) = kept_keys trees
+kept_keys (MultiThen has members trees) = kept_keys members ++ kept_keys trees
 
 pub forest_beside : {P : Type 0} (xs ys : List (Node P)) → forest (xs ++ ys) ≡ beside (forest xs) (forest ys)
 forest_beside [] ys = refl
@@ -39,11 +53,18 @@ leaves_beside wraps (RawThen key trees) b = let t = leaves_beside wraps trees b 
 leaves_beside wraps (HandedThen keyring trees) b = let t = leaves_beside wraps trees b in omega (arith, t)
 leaves_beside wraps (MultiThen has members trees) b = let t = leaves_beside wraps trees b in omega (arith, t)
 
-pub keys_beside : {P : Type 0} (a b : Forest P) → raw_keys (beside a b) ≡ raw_keys a ++ raw_keys b
+pub keys_beside : {P : Type 0} (a b : Forest P) → kept_keys (beside a b) ≡ kept_keys a ++ kept_keys b
 keys_beside Nil b = refl
-keys_beside (RawThen key trees) b = ap (λ keys. key ∷ keys) (keys_beside trees b)
+keys_beside (RawThen key trees) b = ap (λ keys. unretired key ∷ keys) (keys_beside trees b)
 keys_beside (HandedThen keyring trees) b = keys_beside trees b
-keys_beside (MultiThen has members trees) b = ap (λ keys. raw_keys members ++ keys) (keys_beside trees b) ∙ sym (append_assoc (raw_keys members) (raw_keys trees) (raw_keys b))
+keys_beside (MultiThen has members trees) b = ap (λ keys. kept_keys members ++ keys) (keys_beside trees b) ∙ sym (append_assoc (kept_keys members) (kept_keys trees) (kept_keys b))
+
+-- they are the raw keys, but for whether they are retired
+pub kept_are : {P : Type 0} (trees : Forest P) → kept_keys trees ≡ map unretired (raw_keys trees)
+kept_are Nil = refl
+kept_are (RawThen key trees) = ap (λ keys. unretired key ∷ keys) (kept_are trees)
+kept_are (HandedThen keyring trees) = kept_are trees
+kept_are (MultiThen has members trees) = ap₂ (λ (a b : List WrapKeyValue). a ++ b) (kept_are members) (kept_are trees) ∙ sym (map-append unretired (raw_keys members) (raw_keys trees))
 
 pub count_beside : {P : Type 0} (a b : Forest P) → count_of_trees (beside a b) ≡ count_of_trees a + count_of_trees b
 count_beside Nil b = omega arith
@@ -56,3 +77,9 @@ count_forest [] = refl
 count_forest (Raw key ∷ nodes) = let t = count_forest nodes in omega (arith, t)
 count_forest (Handed keyring ∷ nodes) = let t = count_forest nodes in omega (arith, t)
 count_forest (Multi multi ∷ nodes) = let t = count_forest nodes in omega (arith, t)
+
+pub nodes_beside : {P : Type 0} (a b : Forest P) → nodes_in (beside a b) ≡ nodes_in a + nodes_in b
+nodes_beside Nil b = omega arith
+nodes_beside (RawThen key trees) b = let t = nodes_beside trees b in omega (arith, t)
+nodes_beside (HandedThen keyring trees) b = let t = nodes_beside trees b in omega (arith, t)
+nodes_beside (MultiThen has members trees) b = let t = nodes_beside trees b in omega (arith, t)

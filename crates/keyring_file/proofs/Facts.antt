@@ -1,27 +1,26 @@
 -- What the trees that a walk reads keep.
 use Rattle.std.proofs.Common.{◌≡◌, ◌≤◌, ◌+◌, ◌*◌, ℕ, zero, suc, Bool, true, false, List, [], ◌∷◌, ◌++◌, length, refl, sym, ap, subst, ◌∙◌, arith, append_assoc}
-use Rattle.std.specs.Prelude.{◌^◌, Option, Some, None, Result, Ok, Err, is_some, max}
+use Rattle.std.specs.Prelude.{◌^◌, Option, Some, None, Ok, Err, is_some}
 use Rattle.std.specs.List.{list_any}
-use Rattle.std.specs.Str.{bytes_eq}
 use Rattle.std.proofs.lemmas.List.{append-nil, length-append}
 use Rattle.serde_json.specs.Data.{Data, Items, no_items, item}
-use Rattle.esdk_fields.specs.declared.refusals.FileRefusal.{FileRefusal}
-use Rattle.esdk_fields.specs.declared.refusals.FileRefusal.TheVariants.{BadShape, BadKey, ReservedNamespace, TooDeep}
+use Rattle.esdk_fields.specs.declared.refusals.FileRefusal.TheVariants.{BadShape, TooDeep}
 use Rattle.keyring_trait.specs.Wrapping.{WrapKeyValue}
-use Rattle.raw_aes_keyring.specs.RawKey.{reserved_namespace}
 use Rattle.multi_keyring.specs.Forest.{Forest, Nil, RawThen, HandedThen, MultiThen, tallest}
-use Rattle.keyring_file.specs.Base64Key.{base64_key}
 use Rattle.keyring_file.specs.Form.{Form, RawForm, PlugForm, MultiForm, form_of, has_node, is_empty, IsFit}
 use Rattle.keyring_file.specs.Walk.{Met, Walk, clashes}
-use Rattle.keyring_file.specs.Leaves.{wrap_key, raw_leaf, plug_leaf}
+use Rattle.keyring_file.specs.declared.form.Version.{Version}
+use Rattle.keyring_file.specs.Leaves.{wrap_key, raw_key, raw_leaf, plug_leaf}
 use Rattle.keyring_file.specs.Tree.{beside, row, optional, multi, formed, tree}
 use Rattle.keyring_file.specs.Room.{HasRoom}
-use Rattle.keyring_file.specs.Counts.{leaves_of, raw_keys, count_of_trees, AreOfOneKey}
+use Rattle.keyring_file.specs.Counts.{leaves_of, count_of_trees, AreOfOneKey}
+use Rattle.keyring_file.specs.Retired.{nodes_in}
 use Rattle.keyring_file.specs.declared.plugs.Plug.{Plug}
 use Rattle.keyring_file.proofs.Agreeing.{agree_more}
-use Rattle.keyring_file.proofs.Beside.{tallest_beside, leaves_beside, keys_beside, count_beside}
+use Rattle.keyring_file.proofs.Beside.{unretired, kept_keys, tallest_beside, leaves_beside, keys_beside, count_beside, nodes_beside}
 use Rattle.keyring_file.proofs.Forms.{form_fit}
-use Rattle.keyring_file.proofs.Steps.{Went, Got, Counted, Kept, Used, went, got, passed, counted_on, kept_on, used_on, with_key, with_leaves, with_node, with_plugs}
+use Rattle.keyring_file.proofs.RawKeys.{key_read, result_is}
+use Rattle.keyring_file.proofs.Steps.{went, got, counted_on, used_on, with_key, with_leaves, with_node, with_plugs}
 
 -- no node is open: each that was met has a leaf below it or is one
 pub record IsSettled {P : Type 0} (met : Met P) : Type 0 where
@@ -36,7 +35,8 @@ settled_room levels met few s = record { few = few; leaves = s.leaves; keys = s.
 pub record AreRead {P : Type 0} (wraps : P → ℕ) (levels : ℕ) (trees : Forest P) (old new : Met P) : Type 0 where
   pub low : tallest trees ≤ levels
   pub leaves : new.leaves ≡ old.leaves + leaves_of wraps trees
-  pub keys : new.keys ≡ old.keys ++ raw_keys trees
+  pub keys : new.keys ≡ old.keys ++ kept_keys trees
+  pub nodes : new.nodes ≡ old.nodes + nodes_in trees
   pub count : old.nodes + count_of_trees trees ≤ new.nodes
   pub same : count_of_trees trees ≡ 0 → new ≡ old
   pub agree : AreOfOneKey old.keys → AreOfOneKey new.keys
@@ -56,6 +56,7 @@ none_read wraps levels met = record {
   low = omega arith;
   leaves = omega arith;
   keys = sym (append-nil met.keys);
+  nodes = omega arith;
   count = omega arith;
   same = λ none. refl;
   agree = λ one. one;
@@ -74,7 +75,8 @@ both_read wraps levels a b old mid new one two =
     record {
       low = tallest_beside levels a b one.low two.low;
       leaves = omega (arith, one.leaves, two.leaves, leaves_beside wraps a b);
-      keys = two.keys ∙ ap (λ keys. keys ++ raw_keys b) one.keys ∙ append_assoc old.keys (raw_keys a) (raw_keys b) ∙ ap (λ keys. old.keys ++ keys) (sym (keys_beside a b));
+      keys = two.keys ∙ ap (λ keys. keys ++ kept_keys b) one.keys ∙ append_assoc old.keys (kept_keys a) (kept_keys b) ∙ ap (λ keys. old.keys ++ keys) (sym (keys_beside a b));
+      nodes = omega (arith, one.nodes, two.nodes, nodes_beside a b);
       count = omega (arith, one.count, two.count, counted);
       same = λ none. two.same (omega (arith, none, counted)) ∙ one.same (omega (arith, none, counted));
       agree = λ agree. two.agree (one.agree agree);
@@ -83,39 +85,34 @@ both_read wraps levels a b old mid new one two =
 
 -- ---- leaves
 
-abbrev read_as : {A : Type 0} → A → Result A FileRefusal
-read_as x = Ok x
-
-result_is : {A : Type 0} (x y : A) → read_as x ≡ Ok y → x ≡ y
-result_is x y e = cc
-
 module _ {P : Type 0} (wraps : P → ℕ) (levels : ℕ) (old : Met P) where
   raw_settled : (w : WrapKeyValue) → old.leaves + 1 ≤ 64 → HasRoom (suc levels) old → IsSettled (with_leaves 1 (with_key w (with_node old)))
   raw_settled w most h =
       let longer = length-append old.keys (w ∷ []) in
       record { leaves = most; keys = omega (arith, longer, h.keys); nodes = omega (arith, longer, h.nodes) }
 
-  raw_is : (w : WrapKeyValue) → old.leaves + 1 ≤ 64 → list_any (clashes w) old.keys ≡ false → AreRead wraps (suc levels) (RawThen w Nil) old (with_leaves 1 (with_key w (with_node old)))
+  raw_is : (w : WrapKeyValue) → old.leaves + 1 ≤ 64 → list_any (clashes (unretired w)) old.keys ≡ false
+      → AreRead wraps (suc levels) (RawThen w Nil) old (with_leaves 1 (with_key (unretired w) (with_node old)))
   raw_is w most apart = record {
     low = omega arith;
     leaves = omega arith;
     keys = refl;
+    nodes = omega arith;
     count = omega arith;
     same = λ none. absurd (omega (arith, none));
-    agree = λ agree. agree_more old.keys w apart agree;
-    settled = λ some h. raw_settled w most h;
+    agree = λ agree. agree_more old.keys (unretired w) apart agree;
+    settled = λ some h. raw_settled (unretired w) most h;
   }
 
-  raw_read : (place : ℕ) (namespace name text : List ℕ) (y : WrapKeyValue × Met P) → raw_leaf place namespace name text (with_node old) ≡ Ok y
+  raw_read : (place : ℕ) (namespace name text : List ℕ) (retired : Bool) (y : WrapKeyValue × Met P) → raw_leaf place namespace name text retired (with_node old) ≡ Ok y
       → AreRead wraps (suc levels) (RawThen y.0 Nil) old y.1
   unfolding raw_leaf
-  raw_read place namespace name text y e =
-      let a = passed (bytes_eq namespace reserved_namespace) ReservedNamespace _ (with_node old) y e in
-      let b = got (BadKey place) (base64_key text) _ (with_node old) y a in
-      let w = wrap_key namespace name b.value in
-      let c = kept_on w _ (with_node old) y b.rest in
-      let d = counted_on 1 _ (with_key w (with_node old)) y c.rest in
-      subst (λ y. AreRead wraps (suc levels) (RawThen y.0 Nil) old y.1) (result_is (w, with_leaves 1 (with_key w (with_node old))) y d.rest) (raw_is w d.most c.apart)
+  raw_read place namespace name text retired y e =
+      let k = went (raw_key place namespace name text (with_node old)) _ y e in
+      let r = key_read place namespace name text (with_node old) k.value k.is in
+      let w = wrap_key namespace name k.value.0 retired in
+      subst (λ y. AreRead wraps (suc levels) (RawThen y.0 Nil) old y.1) (result_is (w, k.value.1) y k.rest)
+      (subst (AreRead wraps (suc levels) (RawThen w Nil) old) r.new (raw_is w r.most r.apart))
 
   plug_settled : (left : List (Plug P)) (n : ℕ) → length left + 1 ≡ length old.plugs → old.leaves + n ≤ 64 → HasRoom (suc levels) old → IsSettled (with_leaves n (with_plugs left (with_node old)))
   plug_settled left n fewer most h = record { leaves = most; keys = omega (arith, h.keys); nodes = omega (arith, fewer, h.nodes) }
@@ -126,6 +123,7 @@ module _ {P : Type 0} (wraps : P → ℕ) (levels : ℕ) (old : Met P) where
     low = omega arith;
     leaves = omega arith;
     keys = sym (append-nil old.keys);
+    nodes = omega arith;
     count = omega arith;
     same = λ none. absurd (omega (arith, none));
     agree = λ agree. agree;
@@ -198,7 +196,8 @@ module _ {P : Type 0} (wraps : P → ℕ) (levels : ℕ) (below : Data → Walk 
   above has members old new r some = record {
     low = omega (arith, r.low);
     leaves = omega (arith, r.leaves);
-    keys = r.keys ∙ ap (λ keys. old.keys ++ keys) (sym (append-nil (raw_keys members)));
+    keys = r.keys ∙ ap (λ keys. old.keys ++ keys) (sym (append-nil (kept_keys members)));
+    nodes = omega (arith, r.nodes);
     count = omega (arith, r.count);
     same = λ none. absurd (omega (arith, none));
     agree = r.agree;
@@ -207,10 +206,10 @@ module _ {P : Type 0} (wraps : P → ℕ) (levels : ℕ) (below : Data → Walk 
 
   formed_read : (place : ℕ) (form : Form) (old : Met P) (y : Forest P × Met P) → IsFit form → formed wraps below place form (with_node old) ≡ Ok y
       → IsRead wraps (suc levels) y.0 old y.1
-  formed_read place (RawForm namespace name text) old y fit e =
-      let a = went (raw_leaf place namespace name text (with_node old)) _ y e in
+  formed_read place (RawForm namespace name text retired) old y fit e =
+      let a = went (raw_leaf place namespace name text retired (with_node old)) _ y e in
       subst (λ y. IsRead wraps (suc levels) y.0 old y.1) (result_is (RawThen a.value.0 Nil, a.value.1) y a.rest)
-      (record { read = raw_read wraps levels old place namespace name text a.value a.is; one = refl })
+      (record { read = raw_read wraps levels old place namespace name text retired a.value a.is; one = refl })
   formed_read place (PlugForm name) old y fit e =
       let a = went (plug_leaf wraps name (with_node old)) _ y e in
       subst (λ y. IsRead wraps (suc levels) y.0 old y.1) (result_is (HandedThen a.value.0 Nil, a.value.1) y a.rest)
@@ -224,9 +223,9 @@ module _ {P : Type 0} (wraps : P → ℕ) (levels : ℕ) (below : Data → Walk 
 fails_so : {A : Type 0} (y : A) → Err TooDeep ≡ Ok y → ⊥
 fails_so y e = absurd cc
 
-pub tree_read : {P : Type 0} (wraps : P → ℕ) (levels : ℕ) → Reads wraps levels (tree wraps levels)
+pub tree_read : {P : Type 0} (wraps : P → ℕ) (version : Version) (levels : ℕ) → Reads wraps levels (tree wraps version levels)
 unfolding tree
-tree_read wraps zero d old y e = let a = got (BadShape (old.nodes + 1)) (form_of d) _ (with_node old) y e in absurd (fails_so _ a.rest)
-tree_read wraps (suc levels) d old y e =
-    let a = got (BadShape (old.nodes + 1)) (form_of d) _ (with_node old) y e in
-    formed_read wraps levels (tree wraps levels) (tree_read wraps levels) (old.nodes + 1) a.value old y (form_fit d a.value a.is) a.rest
+tree_read wraps version zero d old y e = let a = got (BadShape (old.nodes + 1)) (form_of version d) _ (with_node old) y e in absurd (fails_so _ a.rest)
+tree_read wraps version (suc levels) d old y e =
+    let a = got (BadShape (old.nodes + 1)) (form_of version d) _ (with_node old) y e in
+    formed_read wraps levels (tree wraps version levels) (tree_read wraps version levels) (old.nodes + 1) a.value old y (form_fit version d a.value a.is) a.rest

@@ -1,21 +1,24 @@
 -- The tree of a whole file.
-use Rattle.std.proofs.Common.{◌≡◌, ◌≢◌, ◌<◌, ◌≤◌, ◌+◌, ◌*◌, ℕ, Bool, true, false, List, [], ◌∷◌, length, refl, sym, ap, subst, ◌∙◌, inl, inr, arith}
-use Rattle.std.specs.Prelude.{◌^◌, ◌⊎◌, Option, Some, None, Result, Ok, Err, if◌then◌else◌}
+use Rattle.std.proofs.Common.{◌≡◌, ◌<◌, ◌≤◌, ℕ, Bool, true, false, List, [], ◌∷◌, length, map, refl, ap, subst, ◌∙◌, arith}
+use Rattle.std.specs.Prelude.{◌^◌, Contains, Option, Some, None, Result, Ok, Err, if◌then◌else◌}
+use Rattle.std.proofs.lemmas.List.{get_or-map, length-map}
 use Rattle.serde_json.specs.Data.{Data}
 use Rattle.esdk_fields.specs.declared.refusals.FileRefusal.{FileRefusal}
 use Rattle.keyring_trait.specs.Wrapping.{WrapKeyValue}
 use Rattle.multi_keyring.specs.Forest.{Forest, Nil, RawThen, tallest}
 use Rattle.keyring_file.specs.declared.plugs.Plug.{Plug}
+use Rattle.keyring_file.specs.declared.form.Version.{Version}
 use Rattle.keyring_file.specs.KeyLine.{key_line}
 use Rattle.keyring_file.specs.KeyFile.{is_json, line_tree, only_tree, start, node_tree, json_tree, tree_of}
-use Rattle.keyring_file.specs.Json.{value_of}
+use Rattle.keyring_file.specs.JsonValues.{value_of}
 use Rattle.keyring_file.specs.Form.{ring_of}
 use Rattle.keyring_file.specs.Walk.{Met}
 use Rattle.keyring_file.specs.Tree.{tree}
 use Rattle.keyring_file.specs.Room.{HasRoom}
 use Rattle.keyring_file.specs.Counts.{leaves_of, raw_keys, AreOfOneKey}
 use Rattle.keyring_file.proofs.Agreeing.{agree_more}
-use Rattle.keyring_file.proofs.Facts.{AreRead, IsRead, IsSettled, tree_read}
+use Rattle.keyring_file.proofs.Beside.{unretired, kept_are}
+use Rattle.keyring_file.proofs.Facts.{IsRead, tree_read}
 
 pub start_room : {P : Type 0} (plugs : List (Plug P)) → length plugs < 2 ^ 24 → HasRoom 8 (start plugs)
 start_room plugs few = record { few = omega arith; leaves = omega arith; keys = omega arith; nodes = omega (arith, few) }
@@ -29,15 +32,15 @@ of_key : {P : Type 0} (wraps : P → ℕ) (plugs : List (Plug P)) (trees : Fores
 of_key wraps plugs trees (Ok w) e = of_line w cc
 of_key wraps plugs trees (Err refusal) e = absurd cc
 
-of_walk : {P : Type 0} (wraps : P → ℕ) (plugs : List (Plug P)) (trees : Forest P) (node : Data) (r : Result (Forest P × Met P) FileRefusal)
-    → tree wraps 8 node (start plugs) ≡ r → only_tree r ≡ Ok trees → IsOf wraps plugs trees
-of_walk wraps plugs trees node (Ok y) is e =
+of_walk : {P : Type 0} (wraps : P → ℕ) (plugs : List (Plug P)) (trees : Forest P) (version : Version) (node : Data) (r : Result (Forest P × Met P) FileRefusal)
+    → tree wraps version 8 node (start plugs) ≡ r → only_tree r ≡ Ok trees → IsOf wraps plugs trees
+of_walk wraps plugs trees version node (Ok y) is e =
     let same : y.0 ≡ trees = cc in
-    of_node y.1 (subst (λ t. IsRead wraps 8 t (start plugs) y.1) same (tree_read wraps 8 node (start plugs) y is))
-of_walk wraps plugs trees node (Err refusal) is e = absurd cc
+    of_node y.1 (subst (λ t. IsRead wraps 8 t (start plugs) y.1) same (tree_read wraps version 8 node (start plugs) y is))
+of_walk wraps plugs trees version node (Err refusal) is e = absurd cc
 
-of_ring : {P : Type 0} (wraps : P → ℕ) (plugs : List (Plug P)) (trees : Forest P) (ring : Option Data) → node_tree wraps plugs ring ≡ Ok trees → IsOf wraps plugs trees
-of_ring wraps plugs trees (Some node) e = of_walk wraps plugs trees node (tree wraps 8 node (start plugs)) refl e
+of_ring : {P : Type 0} (wraps : P → ℕ) (plugs : List (Plug P)) (trees : Forest P) (ring : Option (Version × Data)) → node_tree wraps plugs ring ≡ Ok trees → IsOf wraps plugs trees
+of_ring wraps plugs trees (Some (version, node)) e = of_walk wraps plugs trees version node (tree wraps version 8 node (start plugs)) refl e
 of_ring wraps plugs trees None e = absurd cc
 
 of_json : {P : Type 0} (wraps : P → ℕ) (plugs : List (Plug P)) (trees : Forest P) (file : Option Data) → json_tree wraps plugs file ≡ Ok trees → IsOf wraps plugs trees
@@ -70,9 +73,17 @@ one_agrees w = agree_more [] w refl (λ u v one two namespace name. absurd (omeg
 none_agree : AreOfOneKey []
 none_agree = λ u v one two namespace name. absurd (omega (arith, one.1))
 
+-- that of keys as a walk keeps them is that of the keys
+kept_in : (keys : List WrapKeyValue) (w : WrapKeyValue) → Contains keys w → Contains (map unretired keys) (unretired w)
+kept_in keys w has =
+    (has.0, omega (arith, has.1, length-map keys unretired), get_or-map unretired keys has.0 w (unretired w) has.1 ∙ ap unretired has.2)
+
+agree_unretired : (keys : List WrapKeyValue) → AreOfOneKey (map unretired keys) → AreOfOneKey keys
+agree_unretired keys agree = λ v w one two namespace name. agree (unretired v) (unretired w) (kept_in keys v one) (kept_in keys w two) namespace name
+
 agree_of : {P : Type 0} (wraps : P → ℕ) (plugs : List (Plug P)) (trees : Forest P) → IsOf wraps plugs trees → AreOfOneKey (raw_keys trees)
 agree_of wraps plugs trees (of_line w is) = subst (λ t. AreOfOneKey (raw_keys t)) is (one_agrees w)
-agree_of wraps plugs trees (of_node new r) = subst AreOfOneKey r.read.keys (r.read.agree none_agree)
+agree_of wraps plugs trees (of_node new r) = agree_unretired (raw_keys trees) (subst AreOfOneKey (r.read.keys ∙ kept_are trees) (r.read.agree none_agree))
 
 pub file_agrees : {P : Type 0} (wraps : P → ℕ) (bytes : List ℕ) (plugs : List (Plug P)) (trees : Forest P) → tree_of wraps bytes plugs ≡ Ok trees → AreOfOneKey (raw_keys trees)
 file_agrees wraps bytes plugs trees e = agree_of wraps plugs trees (of_file wraps bytes plugs trees e)

@@ -1,5 +1,5 @@
 -- Which parts have a key.
-use Rattle.std.proofs.Common.{◌≡◌, ◌≢◌, ◌≤◌, ℕ, Bool, true, false, not, List, [], ◌∷◌, length, refl, subst, arith}
+use Rattle.std.proofs.Common.{◌≡◌, ◌≢◌, ◌≤◌, ℕ, Bool, true, false, not, List, [], ◌∷◌, length, refl, sym, ap, subst, arith}
 use Rattle.std.specs.Prelude.{◌&&◌, ◌==◌, nat_le, Result, Ok, Err, if◌then◌else◌}
 use Rattle.std.specs.Str.{bytes_eq}
 use Rattle.std.proofs.lemmas.Bool.{eqb-false, le-leb, leb-true, ne_eqb, not-true}
@@ -48,6 +48,7 @@ pub record AreParts (parts : List (List ℕ)) (w : WrapKeyValue) : Type 0 where
   pub name : is_word w.name ≡ true
   pub unreserved : bytes_eq w.namespace reserved_namespace ≡ false
   pub spelled : decode_sized digits 32 ≡ Ok w.key
+  pub active : w.retired ≡ false
 
 record Passed (words reserved : Bool) (r : Result WrapKeyValue FileRefusal) (w : WrapKeyValue) : Type 0 where
   words_are : words ≡ true
@@ -61,7 +62,7 @@ passed true true r w e = absurd cc
 passed true false r w e = record { words_are = refl; reserved_is = refl; rest = e }
 
 abbrev made : List ℕ → List ℕ → List ℕ → WrapKeyValue
-made a b key = record { namespace = a; name = b; key = key }
+made a b key = record { namespace = a; name = b; key = key; retired = false }
 
 same_key : (a b key : List ℕ) (w : WrapKeyValue) → key_with a b (Ok key) ≡ Ok w → made a b key ≡ w
 same_key a b key w e = cc
@@ -70,7 +71,7 @@ decoded : (a b digits : List ℕ) (r : Result (List ℕ) FromHexError) (w : Wrap
     → key_with a b r ≡ Ok w → AreParts (a ∷ b ∷ digits ∷ []) w
 decoded a b digits (Ok key) w is one two other e =
     subst (AreParts (a ∷ b ∷ digits ∷ [])) (same_key a b key w e)
-    (record { digits = digits; are = refl; namespace = one; name = two; unreserved = other; spelled = is })
+    (record { digits = digits; are = refl; namespace = one; name = two; unreserved = other; spelled = is; active = refl })
 decoded a b digits (Err why) w is one two other e = absurd cc
 
 three_read : (a b digits : List ℕ) (w : WrapKeyValue) → key_of_parts a b digits ≡ Ok w → AreParts (a ∷ b ∷ digits ∷ []) w
@@ -89,4 +90,4 @@ parts_read (a ∷ b ∷ c ∷ d ∷ parts) w e = absurd cc
 
 pub parts_are_read : (parts : List (List ℕ)) (w : WrapKeyValue) → AreParts parts w → key_in parts ≡ Ok w
 unfolding key_of_parts
-parts_are_read parts w p = rw (p.are, p.namespace, p.name, p.unreserved, p.spelled) refl
+parts_are_read parts w p = rw (p.are, p.namespace, p.name, p.unreserved, p.spelled) (ap (λ retired. Ok (record w { retired = retired })) (sym p.active))

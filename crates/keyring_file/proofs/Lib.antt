@@ -2,6 +2,7 @@ pub mod Agreeing
 pub mod Beside
 pub mod Blanks
 pub mod Facts
+pub mod Fed
 pub mod Files
 pub mod Forms
 pub mod Keys
@@ -9,7 +10,13 @@ pub mod LineTrees
 pub mod Lines
 pub mod Members
 pub mod Multis
+pub mod NewFiles
+pub mod Plains
+pub mod RawKeys
+pub mod Renewed
+pub mod Rewritten
 pub mod Rows
+pub mod Spaces
 pub mod Splitting
 pub mod Steps
 pub mod Taken

@@ -47,6 +47,7 @@ line_key bytes w p =
       namespace = record { some = namespace.some; short = namespace.short; unspaced = none.0 };
       name = record { some = name.some; short = name.short; unspaced = none.1 };
       unreserved = λ same. absurd (true_other (sym ((bytes_eq-Decides w.namespace reserved_namespace).1 same) ∙ p.unreserved));
+      active = p.active;
     }
 
 -- the line, but for its end
@@ -118,6 +119,7 @@ spelled_is_read bytes w s =
       name = word_is w.name s.key.name.some s.key.name.short;
       unreserved = false_from_ne_true (bytes_eq w.namespace reserved_namespace) (λ e. s.key.unreserved ((bytes_eq-Decides w.namespace reserved_namespace).0 e));
       spelled = s.spelled;
+      active = s.key.active;
     }) in
     rw (is_utf8-from_IsUtf8 bytes s.text) read
 

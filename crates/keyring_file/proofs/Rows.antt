@@ -1,6 +1,6 @@
 -- Reading the nodes of a row, one after the other.
 use Rattle.std.proofs.Common.{◌≡◌, ◌≢◌, ◌<◌, ◌+◌, ◌-◌, ℕ, zero, suc, List, [], ◌∷◌, ◌++◌, length, drop, get_or, refl, sym, ap, subst, ◌∙◌, arith}
-use Rattle.std.specs.Prelude.{Option, Some, None, Result, Ok, Err}
+use Rattle.std.specs.Prelude.{Some, None, Result, Ok, Err}
 use Rattle.std.proofs.lemmas.List.{drop_all, drop_more}
 use Rattle.serde_json.specs.declared.value.Value.{Value}
 use Rattle.serde_json.specs.Data.{Data}
@@ -13,6 +13,7 @@ use Rattle.multi_keyring.specs.Nodes.{forest}
 use Rattle.keyring_file.specs.declared.key_file.TreeError.{TreeError}
 use Rattle.keyring_file.specs.declared.key_file.TreeError.TheVariants.{File, Memory}
 use Rattle.keyring_file.specs.declared.walk.Walk as walk
+use Rattle.keyring_file.specs.declared.form.Version.{Version}
 use Rattle.keyring_file.specs.Found.{Gives}
 use Rattle.keyring_file.specs.Form.{Form, form_of}
 use Rattle.keyring_file.specs.Walk.{Met, Walk, then_walk, done}
@@ -73,21 +74,21 @@ row_done below nodes i trees met is =
 
 -- ---- one node
 
-pub tree_unshaped : {P : Type 0} (wraps : P → ℕ) (levels : ℕ) (d : Data) (met : Met P) → form_of d ≡ None → tree wraps levels d met ≡ Err (BadShape (met.nodes + 1))
+pub tree_unshaped : {P : Type 0} (wraps : P → ℕ) (version : Version) (levels : ℕ) (d : Data) (met : Met P) → form_of version d ≡ None → tree wraps version levels d met ≡ Err (BadShape (met.nodes + 1))
 unfolding tree
-tree_unshaped wraps zero d met none = rw none refl
-tree_unshaped wraps (suc levels) d met none = rw none refl
+tree_unshaped wraps version zero d met none = rw none refl
+tree_unshaped wraps version (suc levels) d met none = rw none refl
 
-pub tree_bottom : {P : Type 0} (wraps : P → ℕ) (levels : ℕ) (d : Data) (met : Met P) (form : Form) → form_of d ≡ Some form → levels ≡ 0 → tree wraps levels d met ≡ Err TooDeep
+pub tree_bottom : {P : Type 0} (wraps : P → ℕ) (version : Version) (levels : ℕ) (d : Data) (met : Met P) (form : Form) → form_of version d ≡ Some form → levels ≡ 0 → tree wraps version levels d met ≡ Err TooDeep
 unfolding tree
-tree_bottom wraps zero d met form is none = rw is refl
-tree_bottom wraps (suc levels) d met form is none = absurd (omega (arith, none))
+tree_bottom wraps version zero d met form is none = rw is refl
+tree_bottom wraps version (suc levels) d met form is none = absurd (omega (arith, none))
 
-pub tree_formed : {P : Type 0} (wraps : P → ℕ) (levels : ℕ) (d : Data) (met : Met P) (form : Form) → form_of d ≡ Some form → levels ≢ 0
-    → tree wraps levels d met ≡ formed wraps (tree wraps (levels - 1)) (met.nodes + 1) form (with_node met)
+pub tree_formed : {P : Type 0} (wraps : P → ℕ) (version : Version) (levels : ℕ) (d : Data) (met : Met P) (form : Form) → form_of version d ≡ Some form → levels ≢ 0
+    → tree wraps version levels d met ≡ formed wraps (tree wraps version (levels - 1)) (met.nodes + 1) form (with_node met)
 unfolding tree
-tree_formed wraps zero d met form is some = absurd (some refl)
-tree_formed wraps (suc levels) d met form is some =
+tree_formed wraps version zero d met form is some = absurd (some refl)
+tree_formed wraps version (suc levels) d met form is some =
     let less : suc levels - 1 ≡ levels = omega arith in
     rw (is, less) refl
 

@@ -1,12 +1,14 @@
 -- The forms of a JSON keyring file and of its nodes. They are this library's.
-use Rattle.std.specs.Prelude.{◌≡◌, ◌≤◌, ℕ, Bool, true, false, ◌+◌, ◌||◌, ◌==◌, not, nat_le, List, length, codes, Option, Some, None, is_some, option_map}
+use Rattle.std.specs.Prelude.{◌≡◌, ◌≤◌, ℕ, Bool, true, false, ◌+◌, ◌||◌, ◌==◌, not, nat_le, List, length, codes, Option, Some, None, is_some, option_map, if◌then◌else◌}
 use Rattle.serde_json.specs.Data.{Data, Items, no_items, item}
-use Rattle.serde_json.specs.Find.{get, as_str, as_array, as_number, as_u64}
-use Rattle.keyring_file.specs.Json.{◌>>=◌, ◌>>◌, provided, member_count, text_at}
+use Rattle.serde_json.specs.Find.{get, as_bool, as_str, as_array, as_number, as_u64}
+use Rattle.keyring_file.specs.declared.form.Version.{Version}
+use Rattle.keyring_file.specs.declared.form.Version.TheVariants.{One, Two}
+use Rattle.keyring_file.specs.JsonValues.{◌>>=◌, ◌>>◌, provided, member_count, text_at}
 
--- A node: a raw key by its namespace, its name and its key in base64; a keyring that is handed over under a name; or a multi-keyring of nodes.
+-- A node: a raw key by its namespace, its name, its key in base64 and whether it is retired; a keyring that is handed over under a name; or a multi-keyring of nodes.
 pub data Form : Type 0 where
-  RawForm : (namespace name key : List ℕ) → Form
+  RawForm : (namespace name key : List ℕ) (retired : Bool) → Form
   PlugForm : (name : List ℕ) → Form
   MultiForm : (generator : Option Data) (children : Items) → Form
 
@@ -19,14 +21,29 @@ short text = do
 unfoldable pub short_text_at : List ℕ → Data → Option (List ℕ)
 short_text_at name d = text_at name d >>= short
 
--- {"namespace":TEXT,"name":TEXT,"key":TEXT}
-unfoldable pub raw_form : Data → Option Form
-raw_form d = do
-  provided (member_count d == 3)
+abbrev pub count : Option Data → ℕ
+count (Some d) = 1
+count None = 0
+
+-- the member that says whether a raw key is retired; version 1 has none
+abbrev pub retired_member : Version → Data → Option Data
+retired_member One d = None
+retired_member Two d = get (codes "retired") d
+
+-- what it says, where it says true or false; a key of which nothing is said isn't retired
+abbrev pub is_retired : Option Data → Option Bool
+is_retired (Some said) = as_bool said
+is_retired None = Some false
+
+-- {"namespace":TEXT,"name":TEXT,"key":TEXT}, and in version 2 maybe "retired"
+unfoldable pub raw_form : Version → Data → Option Form
+raw_form version d = do
+  provided (member_count d == 3 + count (retired_member version d))
   namespace ← short_text_at (codes "namespace") d
   name ← short_text_at (codes "name") d
   key ← text_at (codes "key") d
-  Some (RawForm namespace name key)
+  retired ← is_retired (retired_member version d)
+  Some (RawForm namespace name key retired)
 
 -- TEXT
 abbrev pub plug_form : Data → Option Form
@@ -36,10 +53,6 @@ plug_form d = option_map PlugForm (as_str d)
 abbrev pub children_of : Option Data → Option Items
 children_of (Some list) = as_array list
 children_of None = Some no_items
-
-abbrev pub count : Option Data → ℕ
-count (Some d) = 1
-count None = 0
 
 abbrev pub is_empty : Items → Bool
 is_empty no_items = true
@@ -57,32 +70,39 @@ multi_form d = do
   provided (has_node (get (codes "generator") d) children)
   Some (MultiForm (get (codes "generator") d) children)
 
-abbrev pub only_form : Option Data → Option Data → Option Data → Option Form
-only_form (Some raw) plug multi = raw_form raw
-only_form None (Some plug) multi = plug_form plug
-only_form None None (Some multi) = multi_form multi
-only_form None None None = None
+abbrev pub only_form : Version → Option Data → Option Data → Option Data → Option Form
+only_form version (Some raw) plug multi = raw_form version raw
+only_form version None (Some plug) multi = plug_form plug
+only_form version None None (Some multi) = multi_form multi
+only_form version None None None = None
 
 -- {"raw":..}, {"plug":..} or {"multi":..}
-unfoldable pub form_of : Data → Option Form
-form_of d = do
+unfoldable pub form_of : Version → Data → Option Form
+form_of version d = do
   provided (member_count d == 1)
-  only_form (get (codes "raw") d) (get (codes "plug") d) (get (codes "multi") d)
+  only_form version (get (codes "raw") d) (get (codes "plug") d) (get (codes "multi") d)
+
+-- the multi-keyring of a node has a list of children
+abbrev pub lists_children : Data → Bool
+lists_children d = is_some (get (codes "multi") d >>= get (codes "children"))
 
 -- the number that a member is, where it is one of 64 bits without a point or an exponent
 abbrev pub number_at : List ℕ → Data → Option ℕ
 number_at name d = get name d >>= as_number >>= as_u64
 
--- {"version":1,"ring":NODE}
-unfoldable pub ring_of : Data → Option Data
+abbrev pub version_of : ℕ → Option Version
+version_of n = if n == 1 then Some One else if n == 2 then Some Two else None
+
+-- {"version":1,"ring":NODE} or {"version":2,"ring":NODE}: its version and its node
+unfoldable pub ring_of : Data → Option (Version × Data)
 ring_of d = do
   provided (member_count d == 2)
-  version ← number_at (codes "version") d
-  provided (version == 1)
-  get (codes "ring") d
+  version ← number_at (codes "version") d >>= version_of
+  ring ← get (codes "ring") d
+  Some (version, ring)
 
 -- What the form of a node keeps: no namespace and no name is too long, and a multi-keyring has a member.
 abbrev pub IsFit : Form → Type 0
-IsFit (RawForm namespace name key) = (length namespace ≤ 1024) × (length name ≤ 1024)
+IsFit (RawForm namespace name key retired) = (length namespace ≤ 1024) × (length name ≤ 1024)
 IsFit (PlugForm name) = Unit {0}
 IsFit (MultiForm generator children) = has_node generator children ≡ true

@@ -1,5 +1,5 @@
 -- What the code finds, where it stands in the bytes.
-use Rattle.std.specs.Prelude.{◌≡◌, ◌≢◌, ◌<◌, ℕ, slice_index_or, List, [], ◌∷◌, length, Option, Some, None, option_map, Result, Ok, Err}
+use Rattle.std.specs.Prelude.{◌≡◌, ◌≢◌, ◌<◌, ℕ, false, slice_index_or, List, [], ◌∷◌, length, Option, Some, None, option_map, Result, Ok, Err}
 use Rattle.std.specs.Borrow.{Bor}
 use Rattle.std.specs.List.{remove}
 use Rattle.esdk_fields.specs.declared.refusals.FileRefusal.{FileRefusal}
@@ -34,7 +34,7 @@ FindsParts None parts = length parts ≢ 3
 
 -- the key of a line
 abbrev pub key_value : KeyLine → WrapKeyValue
-key_value line = record { namespace = line.namespace.now; name = line.name.now; key = line.key }
+key_value line = record { namespace = line.namespace.now; name = line.name.now; key = line.key; retired = false }
 
 -- this key, or this refusal
 abbrev pub FindsKey : Result KeyLine FileRefusal → Result WrapKeyValue FileRefusal → Type 0
@@ -51,7 +51,7 @@ ReadsValue (Err Memory) found = Unit {0}
 
 -- a node's form, where its parts stand in the file
 abbrev pub form_value : form.Form → Form
-form_value (forms.Raw namespace name key) = RawForm namespace.now name.now key.now
+form_value (forms.Raw namespace name key retired) = RawForm namespace.now name.now key.now retired
 form_value (forms.Plug name) = PlugForm name.now
 form_value (forms.Multi generator children) = MultiForm (option_map (λ node. view node.now) generator) (items_view children.now)
 

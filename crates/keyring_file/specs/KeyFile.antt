@@ -10,8 +10,9 @@ use Rattle.multi_keyring.specs.declared.tree.Node.{Node}
 use Rattle.multi_keyring.specs.Forest.{Forest, Nil, RawThen}
 use Rattle.multi_keyring.specs.Nodes.{forest}
 use Rattle.keyring_file.specs.declared.plugs.Plug.{Plug}
+use Rattle.keyring_file.specs.declared.form.Version.{Version}
 use Rattle.keyring_file.specs.KeyLine.{key_line}
-use Rattle.keyring_file.specs.Json.{value_of}
+use Rattle.keyring_file.specs.JsonValues.{value_of}
 use Rattle.keyring_file.specs.Form.{ring_of}
 use Rattle.keyring_file.specs.Walk.{Met}
 use Rattle.keyring_file.specs.Tree.{tree}
@@ -39,9 +40,9 @@ only_tree (Err refusal) = Err refusal
 abbrev pub start : {P : Type 0} → List (Plug P) → Met P
 start plugs = record { nodes = 0; leaves = 0; keys = []; plugs = plugs }
 
--- K2, at the file's own place, where the file has another form than {"version":1,"ring":NODE}; then what its node means, which may have 8 levels
-abbrev pub node_tree : {P : Type 0} → (P → ℕ) → List (Plug P) → Option Data → Result (Forest P) FileRefusal
-node_tree wraps plugs (Some node) = only_tree (tree wraps 8 node (start plugs))
+-- K2, at the file's own place, where the file has another form than {"version":1,"ring":NODE}, with 1 or 2; then what its node means, which may have 8 levels
+abbrev pub node_tree : {P : Type 0} → (P → ℕ) → List (Plug P) → Option (Version × Data) → Result (Forest P) FileRefusal
+node_tree wraps plugs (Some (version, node)) = only_tree (tree wraps version 8 node (start plugs))
 node_tree wraps plugs None = Err (BadShape 0)
 
 -- K1, where the file is no JSON

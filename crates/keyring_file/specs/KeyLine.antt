@@ -1,6 +1,6 @@
 -- A key line: the namespace of a raw AES key, one space, its name, one space, the key in 64 hexadecimal digits of either case, and at most one line feed at the
 -- end. The form and its refusals are this library's; what namespace and name mean: AWS Encryption SDK Specification, "Raw AES Keyring", Initialization.
-use Rattle.std.specs.Prelude.{ℕ, Bool, ◌&&◌, ◌==◌, not, nat_le, List, [], ◌∷◌, length, Result, Ok, Err, if◌then◌else◌}
+use Rattle.std.specs.Prelude.{ℕ, Bool, false, ◌&&◌, ◌==◌, not, nat_le, List, [], ◌∷◌, length, Result, Ok, Err, if◌then◌else◌}
 use Rattle.std.specs.Io.BufRead.{strip_last}
 use Rattle.std.specs.List.{slice_split}
 use Rattle.std.specs.Str.{bytes_eq, is_utf8}
@@ -23,9 +23,9 @@ parts_in bytes = space_parts (strip_last 10 bytes)
 abbrev pub is_word : List ℕ → Bool
 is_word part = not (length part == 0) && nat_le (length part) 1024
 
--- the key, where the digits are 64; else K3
+-- the key, which isn't retired, where the digits are 64; else K3
 abbrev pub key_with : List ℕ → List ℕ → Result (List ℕ) FromHexError → Result WrapKeyValue FileRefusal
-key_with namespace name (Ok key) = Ok (record { namespace = namespace; name = name; key = key })
+key_with namespace name (Ok key) = Ok (record { namespace = namespace; name = name; key = key; retired = false })
 key_with namespace name (Err e) = Err (BadKey 1)
 
 -- K2, where namespace or name is empty or too long; then K4, where the namespace is the reserved one; then K3

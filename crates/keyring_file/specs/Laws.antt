@@ -1,13 +1,17 @@
 -- What the laws of this crate say.
-use Rattle.std.specs.Prelude.{◌≡◌, ◌↔◌, ◌<◌, ◌≤◌, ◌^◌, ℕ, false, List, ◌∷◌, ◌++◌, length, Ok}
+use Rattle.std.specs.Prelude.{◌≡◌, ◌↔◌, ◌<◌, ◌≤◌, ◌^◌, ℕ, false, List, ◌∷◌, ◌++◌, length, codes, Option, Some, Ok}
 use Rattle.std.specs.Str.{IsUtf8}
 use Rattle.hex.specs.Hex.{encode_lower, encode_upper}
+use Rattle.serde_json.specs.Data.{Data}
 use Rattle.esdk_fields.specs.Bytes.{AreBytes}
 use Rattle.keyring_trait.specs.Wrapping.{WrapKeyValue}
 use Rattle.multi_keyring.specs.Forest.{Forest, Nil, RawThen, tallest}
 use Rattle.keyring_file.specs.declared.plugs.Plug.{Plug}
 use Rattle.keyring_file.specs.Counts.{leaves_of, raw_keys, AreOfOneKey}
 use Rattle.keyring_file.specs.KeyFile.{is_json, tree_of}
+use Rattle.keyring_file.specs.Form.{number_at}
+use Rattle.keyring_file.specs.Migrate.{migration, IsFileOf}
+use Rattle.keyring_file.specs.Retired.{retired_in}
 use Rattle.keyring_file.specs.Spelling.{IsLineKey, IsLineEnd, IsKeyLine, line_text}
 
 -- A file that is no JSON file is read as one raw key exactly where it is that key's line.
@@ -38,3 +42,9 @@ TreesAreSmall P = (wraps : P → ℕ) (bytes : List ℕ) (plugs : List (Plug P))
 -- In a tree that is read, raw keys of one namespace and name are one key.
 abbrev pub RawKeysAgree : Type 0 → Type 0
 RawKeysAgree P = (wraps : P → ℕ) (bytes : List ℕ) (plugs : List (Plug P)) (tree : Forest P) → tree_of wraps bytes plugs ≡ Ok tree → AreOfOneKey (raw_keys tree)
+
+-- A file that is written anew is of version 2. Whichever keyrings are handed over, its tree is the given file's, refusals included, but that the raw key of the
+-- number that is meant is retired.
+abbrev pub MigrationKeepsTrees : Type 0 → Type 0
+MigrationKeepsTrees P = (wraps : P → ℕ) (plugs : List (Plug P)) (retire : Option ℕ) (bytes new : List ℕ) (d : Data) → migration retire bytes ≡ Ok d → IsFileOf new d
+    → (number_at (codes "version") d ≡ Some 2) × (tree_of wraps new plugs ≡ retired_in retire (tree_of wraps bytes plugs))

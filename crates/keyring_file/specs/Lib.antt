@@ -1,6 +1,6 @@
 pub mod KeyLine
 pub mod Spelling
-pub mod Json
+pub mod JsonValues
 pub mod Form
 pub mod Base64Key
 pub mod Plugs
@@ -10,5 +10,8 @@ pub mod Tree
 pub mod KeyFile
 pub mod Room
 pub mod Counts
+pub mod Plain
+pub mod Migrate
+pub mod Retired
 pub mod Found
 pub mod Laws

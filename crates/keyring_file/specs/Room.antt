@@ -8,3 +8,9 @@ pub record HasRoom {P : Type 0} (levels : ℕ) (met : Met P) : Type 0 where
   pub leaves : met.leaves ≤ 64
   pub keys : length met.keys ≤ met.leaves
   pub nodes : met.nodes + levels + 8 * length met.plugs ≤ 8 * length met.keys + 8 + 2 ^ 27
+
+-- The same where a keyring that is handed over counts as one leaf.
+pub record HasSpace {P : Type 0} (levels : ℕ) (met : Met P) : Type 0 where
+  pub few : levels ≤ 8
+  pub leaves : met.leaves ≤ 64
+  pub nodes : met.nodes + levels ≤ 8 * met.leaves + 8

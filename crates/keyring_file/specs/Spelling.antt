@@ -1,5 +1,5 @@
 -- The same acceptance without splitting: which bytes are the line of which key.
-use Rattle.std.specs.Prelude.{◌≡◌, ◌≢◌, ◌⊎◌, ◌≤◌, ℕ, List, [], ◌∷◌, ◌++◌, length, All, Ok}
+use Rattle.std.specs.Prelude.{◌≡◌, ◌≢◌, ◌⊎◌, ◌≤◌, ℕ, false, List, [], ◌∷◌, ◌++◌, length, All, Ok}
 use Rattle.std.specs.Str.{IsUtf8}
 use Rattle.hex.specs.Hex.{decode_sized}
 use Rattle.keyring_trait.specs.Wrapping.{WrapKeyValue}
@@ -16,6 +16,7 @@ pub record IsLineKey (w : WrapKeyValue) : Type 0 where
   pub namespace : IsWord w.namespace
   pub name : IsWord w.name
   pub unreserved : w.namespace ≢ reserved_namespace
+  pub active : w.retired ≡ false
 
 -- a line's end: nothing, or a line feed
 abbrev pub IsLineEnd : List ℕ → Type 0

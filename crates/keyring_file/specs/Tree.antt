@@ -3,6 +3,7 @@ use Rattle.std.specs.Prelude.{ℕ, zero, suc, Bool, Option, Some, None, is_some}
 use Rattle.serde_json.specs.Data.{Data, Items, no_items, item}
 use Rattle.esdk_fields.specs.declared.refusals.FileRefusal.TheVariants.{BadShape, TooDeep}
 use Rattle.multi_keyring.specs.Forest.{Forest, Nil, RawThen, HandedThen, MultiThen}
+use Rattle.keyring_file.specs.declared.form.Version.{Version}
 use Rattle.keyring_file.specs.Leaves.{raw_leaf, plug_leaf}
 use Rattle.keyring_file.specs.Form.{Form, RawForm, PlugForm, MultiForm, form_of}
 use Rattle.keyring_file.specs.Walk.{◌>>=◌, Walk, done, or_refuse, numbered}
@@ -35,8 +36,8 @@ multi tree generator children = do
   done (is_some generator, beside first others)
 
 abbrev pub formed : {P : Type 0} → (P → ℕ) → (Data → Walk P (Forest P)) → ℕ → Form → Walk P (Forest P)
-formed wraps tree place (RawForm namespace name text) = do
-  w ← raw_leaf place namespace name text
+formed wraps tree place (RawForm namespace name text retired) = do
+  w ← raw_leaf place namespace name text retired
   done (RawThen w Nil)
 formed wraps tree place (PlugForm name) = do
   keyring ← plug_leaf wraps name
@@ -46,12 +47,12 @@ formed wraps tree place (MultiForm generator children) = do
   done (MultiThen members.0 members.1 Nil)
 
 -- The tree of a node, which may have so many levels. K2 at its number where it has none of the three forms; then K6 where no level is left for it.
-unfoldable pub tree : {P : Type 0} → (P → ℕ) → (levels : ℕ) → Data → Walk P (Forest P)
-tree wraps zero d = do
+unfoldable pub tree : {P : Type 0} → (P → ℕ) → Version → (levels : ℕ) → Data → Walk P (Forest P)
+tree wraps version zero d = do
   place ← numbered
-  form ← or_refuse (BadShape place) (form_of d)
+  form ← or_refuse (BadShape place) (form_of version d)
   or_refuse TooDeep None
-tree wraps (suc levels) d = do
+tree wraps version (suc levels) d = do
   place ← numbered
-  form ← or_refuse (BadShape place) (form_of d)
-  formed wraps (tree wraps levels) place form
+  form ← or_refuse (BadShape place) (form_of version d)
+  formed wraps (tree wraps version levels) place form

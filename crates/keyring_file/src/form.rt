@@ -2,23 +2,33 @@
 
 ghost use Rattle.std.specs.Prelude.{◌≡◌, ◌≤◌, option_map};
 ghost use Rattle.serde_json.specs.View.{view, items_view};
-ghost use Rattle.keyring_file.specs.Form.{short_text_at, raw_form, plug_form, count, children_of, has_node, multi_form, form_of, ring_of};
+ghost use Rattle.keyring_file.specs.Form.{version_of, ring_of, form_of, short_text_at, count, retired_member, is_retired, raw_form, plug_form, children_of, has_node, multi_form, lists_children};
 ghost use Rattle.keyring_file.specs.Found.{form_value};
 
-use crate::json::{member_count, text_at};
+use crate::json_values::{member_count, text_at};
 use serde_json::Value;
 
 /// The most bytes that a namespace or a name may have.
 const LONGEST: usize = 1024;
 
+/// The version of a JSON keyring file.
+#[derive(Clone, Copy)]
+pub(crate) enum Version {
+    /// No key is retired.
+    One,
+    /// A raw key may have the member `retired`.
+    Two,
+}
+
 /// A node of a keyring file, as it stands there.
 #[derive(Clone, Copy)]
 pub(crate) enum Form<'a> {
-    /// A raw key: its namespace, its name, and its bytes in base64.
+    /// A raw key: its namespace, its name, its bytes in base64, and whether it is retired.
     Raw {
         namespace: &'a str,
         name: &'a str,
         key: &'a str,
+        retired: bool,
     },
     /// The keyring that is handed over under this name.
     Plug(&'a str),
@@ -29,30 +39,40 @@ pub(crate) enum Form<'a> {
     },
 }
 
-/// The node of a file of the form `{"version":1,"ring":NODE}`.
+/// The version and the node of a file of the form `{"version":1,"ring":NODE}`, or with the number 2.
 #[tactic(auto, unfolding(crate::specs::Form::ring_of))]
-pub(crate) fn ring_of(file: &Value) -> Option<&Value>
-    ensures { option_map (λ ring. view ring.now) result ≡ ring_of (view file.now) }
+pub(crate) fn ring_of(file: &Value) -> Option<(Version, &Value)>
+    ensures { option_map (λ found. (found.0, view found.1.now)) result ≡ ring_of (view file.now) }
 {
     if member_count(file) != 2 {
         return None;
     }
-    if file.get("version")?.as_u64()? != 1 {
-        return None;
-    }
-    file.get("ring")
+    let version = version_of(file.get("version")?.as_u64()?)?;
+    let ring = file.get("ring")?;
+    Some((version, ring))
 }
 
-/// The form of a node. None exactly where it has none of the three.
+/// The version of this number.
+fn version_of(number: u64) -> Option<Version>
+    ensures { result ≡ version_of number }
+{
+    match number {
+        1 => Some(Version::One),
+        2 => Some(Version::Two),
+        _ => None,
+    }
+}
+
+/// The form of a node of a file of this version. None exactly where it has none of the three.
 #[tactic(auto, unfolding(crate::specs::Form::form_of))]
-pub(crate) fn form_of(node: &Value) -> Option<Form<'_>>
-    ensures { option_map form_value result ≡ form_of (view node.now) }
+pub(crate) fn form_of(version: Version, node: &Value) -> Option<Form<'_>>
+    ensures { option_map form_value result ≡ form_of version (view node.now) }
 {
     if member_count(node) != 1 {
         return None;
     }
     match node.get("raw") {
-        Some(raw) => return raw_form(raw),
+        Some(raw) => return raw_form(version, raw),
         None => {}
     }
     match node.get("plug") {
@@ -62,22 +82,45 @@ pub(crate) fn form_of(node: &Value) -> Option<Form<'_>>
     multi_form(node.get("multi")?)
 }
 
-/// A raw key: exactly the three texts, where neither the namespace nor the name is too long.
+/// A raw key: exactly the three texts, where neither the namespace nor the name is too long, and in version 2 maybe whether it is retired.
 #[tactic(auto, unfolding(crate::specs::Form::raw_form))]
-fn raw_form(raw: &Value) -> Option<Form<'_>>
-    ensures { option_map form_value result ≡ raw_form (view raw.now) }
+fn raw_form(version: Version, raw: &Value) -> Option<Form<'_>>
+    ensures { option_map form_value result ≡ raw_form version (view raw.now) }
 {
-    if member_count(raw) != 3 {
+    let said = retired_member(version, raw);
+    if member_count(raw) != 3 + count(said) {
         return None;
     }
     let namespace = short_text_at(raw, "namespace")?;
     let name = short_text_at(raw, "name")?;
     let key = text_at(raw, "key")?;
+    let retired = is_retired(said)?;
     Some(Form::Raw {
         namespace,
         name,
         key,
+        retired,
     })
+}
+
+/// The member that says whether a raw key is retired. Version 1 has none.
+fn retired_member(version: Version, raw: &Value) -> Option<&Value>
+    ensures { option_map (λ said. view said.now) result ≡ retired_member version (view raw.now) }
+{
+    match version {
+        Version::One => None,
+        Version::Two => raw.get("retired"),
+    }
+}
+
+/// Whether a raw key is retired: not, where nothing is said of it. No answer where another value is said than true or false.
+fn is_retired(said: Option<&Value>) -> Option<bool>
+    ensures { result ≡ is_retired (option_map (λ said. view said.now) said.entry) }
+{
+    match said {
+        Some(value) => value.as_bool(),
+        None => Some(false),
+    }
 }
 
 /// The text that the member of this name is, where it has at most 1,024 bytes.
@@ -148,5 +191,15 @@ fn children_of<'a>(listed: Option<&'a Value>) -> Option<&'a [Value]>
     match listed {
         Some(list) => Some(list.as_array()?.as_slice()),
         None => Some(&[]),
+    }
+}
+
+/// Whether the multi-keyring of a node has a list of children.
+pub(crate) fn lists_children(node: &Value) -> bool
+    ensures { result ≡ lists_children (view node.now) }
+{
+    match node.get("multi") {
+        Some(multi) => multi.get("children").is_some(),
+        None => false,
     }
 }

@@ -6,7 +6,7 @@ ghost use Rattle.keyring_file.specs.KeyFile.{is_blank, is_json, tree_of, Answers
 ghost use Rattle.keyring_file.specs.Found.{wraps_of};
 
 use crate::form::ring_of;
-use crate::json::value_of;
+use crate::json_values::value_of;
 use crate::key_line::key_line;
 use crate::plugs::Plug;
 use crate::walk::{Walk, raw_keyring};
@@ -15,9 +15,11 @@ use keyring_trait::Keyring;
 use multi_keyring::Node;
 use raw_aes_keyring::RawAes;
 use std::alloc::{AllocError, AllocFailed, Global};
+use std::error::Error;
+use std::fmt;
 
 /// The most levels that a tree may have.
-const LEVELS: u32 = 8;
+pub(crate) const LEVELS: u32 = 8;
 
 /// Why a keyring file gives no tree.
 #[derive(Drop)]
@@ -27,6 +29,23 @@ pub enum TreeError {
     /// Memory ran out.
     Memory,
 }
+
+impl fmt::Display for TreeError {
+    fn fmt<W: fmt::Write>(&self, f: &mut fmt::Formatter<W>) -> fmt::Result {
+        match self {
+            TreeError::File(refusal) => fmt::Display::fmt(refusal, f),
+            TreeError::Memory => f.write_str("memory ran out"),
+        }
+    }
+}
+
+impl fmt::Debug for TreeError {
+    fn fmt<W: fmt::Write>(&self, f: &mut fmt::Formatter<W>) -> fmt::Result {
+        fmt::Display::fmt(self, f)
+    }
+}
+
+impl Error for TreeError {}
 
 impl From<AllocError> for TreeError {
     ghost use Rattle.std.specs.Prelude.{◌≡◌};
@@ -52,8 +71,9 @@ impl<T: Drop> From<AllocFailed<T>> for TreeError {
 
 /// The tree of a keyring file, over the keyrings that are handed over. A file is a JSON file where its first byte that is no blank is a brace, else a key line.
 ///
-/// A key line means the tree of one raw key: `{"version":1,"ring":NODE}` means what its node means. A node is `{"raw":{"namespace":TEXT,"name":TEXT,"key":TEXT}}`,
-/// with a key of 32 bytes in base64; `{"plug":TEXT}`, the first keyring that is left of those handed over under that name; or
+/// A key line means the tree of one raw key: `{"version":1,"ring":NODE}` and `{"version":2,"ring":NODE}` mean what their node means. A node is
+/// `{"raw":{"namespace":TEXT,"name":TEXT,"key":TEXT}}`, with a key of 32 bytes in base64, where version 2 may have a fourth member, `"retired":true` of a retired
+/// key or `"retired":false`; `{"plug":TEXT}`, the first keyring that is left of those handed over under that name; or
 /// `{"multi":{"generator":NODE,"children":[NODE, ..]}}`, where each of the two may be absent and there is a generator or a child. Nodes have numbers from 1 in the
 /// order in which they are met, a generator before the children. Keyrings that no node names are dropped.
 ///
@@ -80,10 +100,10 @@ pub fn read_tree<P: Keyring>(
         return Ok(Node::Raw(line_keyring(alloc, bytes)?));
     }
     let file = value_of(alloc, bytes)?;
-    let Some(node) = ring_of(&file) else {
+    let Some((version, node)) = ring_of(&file) else {
         return Err(TreeError::File(FileRefusal::BadShape(0)));
     };
-    Walk::new(alloc, plugs).tree(alloc, node, LEVELS)
+    Walk::new(alloc, plugs).tree(alloc, version, node, LEVELS)
 }
 
 /// The keyring of a key line, or why it has none.
@@ -91,13 +111,13 @@ fn line_keyring(alloc: Global, bytes: &[u8]) -> Result<RawAes, TreeError>
     ensures { AnswersKey result (key_line bytes.now) }
 {
     match key_line(bytes) {
-        Ok(line) => raw_keyring(alloc, line.namespace, line.name, line.key),
+        Ok(line) => raw_keyring(alloc, line.namespace, line.name, line.key, false),
         Err(refusal) => Err(TreeError::File(refusal)),
     }
 }
 
 /// Whether the first byte that is no blank is a brace.
-fn is_json(bytes: &[u8]) -> bool
+pub(crate) fn is_json(bytes: &[u8]) -> bool
     ensures { result ≡ is_json bytes.now }
 {
     for byte in bytes {

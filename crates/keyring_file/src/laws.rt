@@ -1,6 +1,6 @@
 //! Laws about keyring files. A law is a function that does nothing: its contract is what is proved, for each type of keyrings that are handed over.
 
-ghost use Rattle.keyring_file.specs.Laws.{ReadsKeyLines, WrittenLinesAreRead, TreesAreSmall, RawKeysAgree};
+ghost use Rattle.keyring_file.specs.Laws.{ReadsKeyLines, WrittenLinesAreRead, TreesAreSmall, RawKeysAgree, MigrationKeepsTrees};
 
 /// A file that is no JSON file is read as one raw key exactly where it is that key's line.
 pub fn key_lines_are_read<P>()
@@ -20,4 +20,9 @@ pub fn trees_are_small<P>()
 /// In a tree that is read, raw keys of one namespace and name are one key.
 pub fn raw_keys_agree<P>()
     ensures { RawKeysAgree P }
+{}
+
+/// A file that `migrate` writes has the tree of the file that it was given, refusals included, but for the key that is retired.
+pub fn migration_keeps_trees<P>()
+    ensures { MigrationKeepsTrees P }
 {}

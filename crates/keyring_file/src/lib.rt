@@ -3,18 +3,26 @@
 //!
 //! `specs/KeyFile.antt` says what a file is read as. `specs/KeyLine.antt` reads a key line, and `specs/Spelling.antt` says the same without splitting;
 //! `specs/Form.antt` has the forms of a JSON file and its nodes, and `specs/Tree.antt` the order in which nodes are read and refused.
+//! `specs/Migrate.antt` says how a file is written anew in version 2, and `specs/Retired.antt` what its tree is.
 #![tactic(auto)]
 
 mod base64_key;
 mod form;
-mod json;
+mod json_values;
 mod key_file;
 mod key_line;
 mod laws;
+mod migration;
+mod nodes;
 mod plugs;
+mod rewrite;
 mod tree;
 mod walk;
 
 pub use key_file::{TreeError, read_tree};
-pub use laws::{key_lines_are_read, raw_keys_agree, trees_are_small, written_lines_are_read};
+pub use laws::{
+    key_lines_are_read, migration_keeps_trees, raw_keys_agree, trees_are_small,
+    written_lines_are_read,
+};
+pub use migration::migrate;
 pub use plugs::Plug;

@@ -8,7 +8,7 @@ ghost use Rattle.keyring_file.specs.Room.{HasRoom};
 ghost use Rattle.keyring_file.specs.Tree.{tree, formed, multi, optional, row};
 ghost use Rattle.keyring_file.specs.Found.{met, Gives, wraps_of, form_value};
 
-use crate::form::{Form, form_of};
+use crate::form::{Form, Version, form_of};
 use crate::key_file::TreeError;
 use crate::walk::Walk;
 use esdk_fields::FileRefusal;
@@ -18,49 +18,57 @@ use serde_json::Value;
 use std::alloc::Global;
 
 impl<P: Keyring> Walk<P> {
-    /// The tree of a node, which may have so many levels. K2 `BadShape` at its number where it has none of the three forms; then K6 `TooDeep` where no level is
+    /// The tree of a node of a file of this version, which may have so many levels. K2 `BadShape` at its number where it has none of the three forms; then K6 `TooDeep` where no level is
     /// left for it; then the refusals of its form.
     #[cycle(tree)]
     pub(crate) fn tree(
         &mut self,
         alloc: Global,
+        version: Version,
         node: &Value,
         levels: u32,
     ) -> Result<Node<P>, TreeError>
         requires { HasRoom levels (met self.old) }
-        ensures { Gives (λ node. forest (node ∷ [])) result self.new (tree (wraps_of P.meaning) levels (view node.now) (met self.old)) }
+        ensures { Gives (λ node. forest (node ∷ [])) result self.new (tree (wraps_of P.meaning) version levels (view node.now) (met self.old)) }
     {
         self.nodes += 1;
-        let Some(form) = form_of(node) else {
+        let Some(form) = form_of(version, node) else {
             return Err(TreeError::File(FileRefusal::BadShape(self.nodes)));
         };
         if levels == 0 {
             return Err(TreeError::File(FileRefusal::TooDeep));
         }
-        self.formed(alloc, form, levels - 1)
+        self.formed(alloc, version, form, levels - 1)
     }
 
     /// The tree of a node of this form, which stands at the last number. The nodes below it may have so many levels.
     #[cycle(tree)]
-    fn formed(&mut self, alloc: Global, form: Form<'_>, levels: u32) -> Result<Node<P>, TreeError>
+    fn formed(
+        &mut self,
+        alloc: Global,
+        version: Version,
+        form: Form<'_>,
+        levels: u32,
+    ) -> Result<Node<P>, TreeError>
         requires room { HasRoom levels (met self.old) }
         requires low { levels ≤ 7 }
         requires fit { IsFit (form_value form) }
         ensures { Gives (λ node. forest (node ∷ [])) result self.new
-            (formed (wraps_of P.meaning) (tree (wraps_of P.meaning) levels) self.old.nodes (form_value form.entry) (met self.old)) }
+            (formed (wraps_of P.meaning) (tree (wraps_of P.meaning) version levels) self.old.nodes (form_value form.entry) (met self.old)) }
     {
         match form {
             Form::Raw {
                 namespace,
                 name,
                 key,
-            } => Ok(Node::Raw(self.raw_leaf(alloc, namespace, name, key)?)),
+                retired,
+            } => Ok(Node::Raw(self.raw_leaf(alloc, namespace, name, key, retired)?)),
             Form::Plug(name) => Ok(Node::Handed(self.plug_leaf(alloc, name)?)),
             Form::Multi {
                 generator,
                 children,
             } => {
-                let multi = self.multi(alloc, generator, children, levels)?;
+                let multi = self.multi(alloc, version, generator, children, levels)?;
                 Ok(Node::Multi(Box::new(alloc, multi)?))
             }
         }
@@ -72,6 +80,7 @@ impl<P: Keyring> Walk<P> {
     fn multi(
         &mut self,
         alloc: Global,
+        version: Version,
         generator: Option<&Value>,
         children: &[Value],
         levels: u32,
@@ -80,10 +89,10 @@ impl<P: Keyring> Walk<P> {
         requires low { levels ≤ 7 }
         requires member { has_node (option_map (λ node. view node.now) generator) (items_view children.now) ≡ true }
         ensures { Gives (λ multi. multi) result self.new
-            (multi (tree (wraps_of P.meaning) levels) (option_map (λ node. view node.now) generator.entry) (items_view children.now) (met self.old)) }
+            (multi (tree (wraps_of P.meaning) version levels) (option_map (λ node. view node.now) generator.entry) (items_view children.now) (met self.old)) }
     {
-        let generator = self.optional(alloc, generator, levels)?;
-        let children = self.row(alloc, children, levels)?;
+        let generator = self.optional(alloc, version, generator, levels)?;
+        let children = self.row(alloc, version, children, levels)?;
         match Multi::new(generator, children) {
             Ok(multi) => Ok(multi),
             Err(_refusal) => unreachable!(),
@@ -95,16 +104,17 @@ impl<P: Keyring> Walk<P> {
     fn optional(
         &mut self,
         alloc: Global,
+        version: Version,
         node: Option<&Value>,
         levels: u32,
     ) -> Result<Option<Node<P>>, TreeError>
         requires { HasRoom levels (met self.old) }
         ensures gives { Gives (λ node. forest (option_to_list node)) result self.new
-            (optional (tree (wraps_of P.meaning) levels) (option_map (λ node. view node.now) node.entry) (met self.old)) }
+            (optional (tree (wraps_of P.meaning) version levels) (option_map (λ node. view node.now) node.entry) (met self.old)) }
         ensures there { IfOk result (λ found. is_some found ≡ is_some node.entry) }
     {
         match node {
-            Some(node) => Ok(Some(self.tree(alloc, node, levels)?)),
+            Some(node) => Ok(Some(self.tree(alloc, version, node, levels)?)),
             None => Ok(None),
         }
     }
@@ -114,15 +124,16 @@ impl<P: Keyring> Walk<P> {
     fn row(
         &mut self,
         alloc: Global,
+        version: Version,
         nodes: &[Value],
         levels: u32,
     ) -> Result<Vec<Node<P>>, TreeError>
         requires { HasRoom levels (met self.old) }
-        ensures { Gives (λ trees. forest trees.items) result self.new (row (tree (wraps_of P.meaning) levels) (items_view nodes.now) (met self.old)) }
+        ensures { Gives (λ trees. forest trees.items) result self.new (row (tree (wraps_of P.meaning) version levels) (items_view nodes.now) (met self.old)) }
     {
         let mut trees = Vec::new(alloc);
         for node in nodes {
-            let tree = self.tree(alloc, node, levels)?;
+            let tree = self.tree(alloc, version, node, levels)?;
             trees.push(tree)?;
         }
         Ok(trees)

@@ -1,10 +1,11 @@
 //! The nodes of a keyring file, met one after the other.
 
-ghost use Rattle.std.specs.Prelude.{◌≡◌, ◌≢◌, ◌≤◌, length, []};
+ghost use Rattle.std.specs.Prelude.{◌≡◌, ◌≢◌, ◌≤◌, length, [], IfOk};
 ghost use Rattle.std.specs.List.{list_any};
 ghost use Rattle.raw_aes_keyring.specs.RawKey.{reserved_namespace};
 ghost use Rattle.keyring_file.specs.Walk.{clashes, counted, kept, used};
-ghost use Rattle.keyring_file.specs.Leaves.{wrap_key, raw_leaf, plug_leaf};
+ghost use Rattle.raw_aes_keyring.specs.Made.{MakesKeyring};
+ghost use Rattle.keyring_file.specs.Leaves.{wrap_key, raw_key, raw_leaf, plug_leaf};
 ghost use Rattle.keyring_file.specs.Found.{met, Gives, GivesNothing, IsKeyring, wraps_of};
 
 use crate::base64_key::base64_key;
@@ -44,7 +45,7 @@ impl<P> Walk<P> {
 
     /// So many leaves more. K7 `TooManyLeaves` exactly where there are over 64 then.
     #[tactic(auto, unfolding(crate::specs::Walk::counted))]
-    fn count(&mut self, leaves: u32) -> Result<(), TreeError>
+    pub(crate) fn count(&mut self, leaves: u32) -> Result<(), TreeError>
         requires before { self.old.leaves ≤ 64 }
         requires more { leaves ≤ 64 }
         ensures { GivesNothing result self.new (counted leaves (met self.old)) }
@@ -81,20 +82,19 @@ impl<P> Walk<P> {
         }
     }
 
-    /// A raw key, which stands at the last number. K4 `ReservedNamespace` where its namespace is `aws-kms`; then K3 `BadKey` at that number where the text isn't
-    /// strict base64 of 32 bytes; then K5 `ClashingKeys`; then K7 `TooManyLeaves`.
-    #[tactic(auto, unfolding(crate::specs::Leaves::raw_leaf))]
-    pub(crate) fn raw_leaf(
+    /// The bytes of a raw key, which stands at the last number. K4 `ReservedNamespace` where its namespace is `aws-kms`; then K3 `BadKey` at that number where the
+    /// text isn't strict base64 of 32 bytes; then K5 `ClashingKeys`; then K7 `TooManyLeaves`.
+    #[tactic(auto, unfolding(crate::specs::Leaves::raw_key))]
+    pub(crate) fn raw_key(
         &mut self,
         alloc: Global,
         namespace: &str,
         name: &str,
         text: &str,
-    ) -> Result<RawAes, TreeError>
-        requires namespace { length namespace.now ≤ 1024 }
-        requires name { length name.now ≤ 1024 }
-        requires leaves { self.old.leaves ≤ 64 }
-        ensures { Gives (λ key. key) result self.new (raw_leaf self.old.nodes namespace.now name.now text.now (met self.old)) }
+    ) -> Result<[u8; 32], TreeError>
+        requires { self.old.leaves ≤ 64 }
+        ensures gives { Gives (λ key. key) result self.new (raw_key self.old.nodes namespace.now name.now text.now (met self.old)) }
+        ensures unreserved { IfOk result (λ key. namespace.now ≢ reserved_namespace) }
     {
         if namespace == RESERVED {
             return Err(TreeError::File(FileRefusal::ReservedNamespace));
@@ -106,9 +106,29 @@ impl<P> Walk<P> {
             namespace: Text::new(alloc, namespace)?,
             name: Text::new(alloc, name)?,
             key,
+            retired: false,
         })?;
         self.count(1)?;
-        raw_keyring(alloc, namespace, name, key)
+        Ok(key)
+    }
+
+    /// A raw key, which stands at the last number and may be retired. It is refused as its bytes are.
+    #[tactic(auto, unfolding(crate::specs::Leaves::raw_leaf))]
+    pub(crate) fn raw_leaf(
+        &mut self,
+        alloc: Global,
+        namespace: &str,
+        name: &str,
+        text: &str,
+        retired: bool,
+    ) -> Result<RawAes, TreeError>
+        requires namespace { length namespace.now ≤ 1024 }
+        requires name { length name.now ≤ 1024 }
+        requires leaves { self.old.leaves ≤ 64 }
+        ensures { Gives (λ key. key) result self.new (raw_leaf self.old.nodes namespace.now name.now text.now retired (met self.old)) }
+    {
+        let key = self.raw_key(alloc, namespace, name, text)?;
+        raw_keyring(alloc, namespace, name, key, retired)
     }
 }
 
@@ -144,21 +164,41 @@ fn clash(key: &WrapKey, other: &WrapKey) -> bool
     other.namespace == key.namespace && other.name == key.name && other.key != key.key
 }
 
-/// The keyring of a raw key.
+/// The keyring of a raw key, which may be retired. Fails only where memory runs out.
 pub(crate) fn raw_keyring(
     alloc: Global,
     namespace: &str,
     name: &str,
     key: [u8; 32],
+    retired: bool,
 ) -> Result<RawAes, TreeError>
     requires namespace { length namespace.now ≤ 1024 }
     requires name { length name.now ≤ 1024 }
     requires unreserved { namespace.now ≢ reserved_namespace }
-    ensures { IsKeyring (wrap_key namespace.now name.now key) result }
+    ensures { IsKeyring (wrap_key namespace.now name.now key retired) result }
 {
-    match RawAes::new(alloc, namespace, name, key) {
+    match raw_aes(alloc, namespace, name, key, retired) {
         Ok(keyring) => Ok(keyring),
         Err(RawError::ReservedNamespace) => unreachable!(),
         Err(RawError::Memory) => Err(TreeError::Memory),
+    }
+}
+
+/// The keyring of a raw key, which may be retired.
+fn raw_aes(
+    alloc: Global,
+    namespace: &str,
+    name: &str,
+    key: [u8; 32],
+    retired: bool,
+) -> Result<RawAes, RawError>
+    requires namespace { length namespace.now ≤ 1024 }
+    requires name { length name.now ≤ 1024 }
+    ensures { MakesKeyring (wrap_key namespace.now name.now key retired) result }
+{
+    if retired {
+        RawAes::retired(alloc, namespace, name, key)
+    } else {
+        RawAes::new(alloc, namespace, name, key)
     }
 }

@@ -28,6 +28,6 @@ abbrev pub invariant-row-loop-node : goal.invariant-row-loop-node
 invariant-row-loop-node g l =
     record {
       room : HasRoom l.levels (met l.self);
-      whole : row (tree (wraps_of g.P.Keyring.meaning) l.levels) (items_view l.nodes) (met l.fn.self)
-          ≡ behind_these (forest l.trees.items) (row (tree (wraps_of g.P.Keyring.meaning) l.levels) (items_view (drop l.node-index l.nodes)) (met l.self));
+      whole : row (tree (wraps_of g.P.Keyring.meaning) l.version l.levels) (items_view l.nodes) (met l.fn.self)
+          ≡ behind_these (forest l.trees.items) (row (tree (wraps_of g.P.Keyring.meaning) l.version l.levels) (items_view (drop l.node-index l.nodes)) (met l.self));
     }

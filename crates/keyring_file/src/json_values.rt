@@ -2,7 +2,7 @@
 
 ghost use Rattle.std.specs.Prelude.{◌≡◌, option_map};
 ghost use Rattle.serde_json.specs.View.{view};
-ghost use Rattle.keyring_file.specs.Json.{value_of, member_count, text_at};
+ghost use Rattle.keyring_file.specs.JsonValues.{value_of, member_count, text_at};
 ghost use Rattle.keyring_file.specs.Found.{ReadsValue};
 
 use crate::key_file::TreeError;
@@ -27,7 +27,7 @@ pub(crate) fn value_of(alloc: Global, bytes: &[u8]) -> Result<Value, TreeError>
 }
 
 /// How many members an object has; another value has none.
-#[tactic(auto, unfolding(crate::specs::Json::member_count), using(crate::proofs::Members::members_counted))]
+#[tactic(auto, unfolding(crate::specs::JsonValues::member_count), using(crate::proofs::Members::members_counted))]
 pub(crate) fn member_count(value: &Value) -> usize
     ensures { result ≡ member_count (view value.now) }
 {
@@ -38,7 +38,7 @@ pub(crate) fn member_count(value: &Value) -> usize
 }
 
 /// The text that the member of this name is.
-#[tactic(auto, unfolding(crate::specs::Json::text_at))]
+#[tactic(auto, unfolding(crate::specs::JsonValues::text_at))]
 pub(crate) fn text_at<'a>(value: &'a Value, name: &str) -> Option<&'a str>
     ensures { option_map (λ text. text.now) result ≡ text_at name.now (view value.now) }
 {
