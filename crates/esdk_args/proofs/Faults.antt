@@ -1,18 +1,21 @@
 -- Which words have which fault.
-use Rattle.std.proofs.Common.{◌≡◌, ◌≢◌, ℕ, List, sym, subst, refl, ◌∙◌, inl, inr}
-use Rattle.std.specs.Prelude.{Some, None, Err}
+use Rattle.std.proofs.Common.{◌≡◌, ◌≢◌, ℕ, List, sym, ap, subst, refl, ◌∙◌, inl, inr}
+use Rattle.std.specs.Prelude.{Option, Some, None, Result, Ok, Err}
 use Rattle.esdk_args.specs.declared.options.OptionName.{OptionName}
+use Rattle.esdk_args.specs.declared.options.OptionName.TheVariants.{Retire}
+use Rattle.esdk_args.specs.declared.request.Request.TheVariants as requests
 use Rattle.esdk_args.specs.declared.request.WordsFault.{WordsFault}
 use Rattle.esdk_args.specs.declared.request.WordsFault.TheVariants.{NotBuilt, BadNumber, BadPair, Memory}
-use Rattle.esdk_args.specs.Form.{FormValue, OptionsValue, list, form_of}
+use Rattle.esdk_args.specs.Form.{FormValue, MigrationValue, OptionsValue, list, migrate, form_of}
 use Rattle.esdk_args.specs.PairWords.{pairs_of}
+use Rattle.esdk_args.specs.Faults.{◌>>=◌}
 use Rattle.esdk_args.specs.Numbers.{number_given}
-use Rattle.esdk_args.specs.Words.{words_of}
-use Rattle.esdk_args.specs.Spelling.{AreForm, AreNoForm, Command, HasBadNumber, HasBadPair, first_of, second_of}
+use Rattle.esdk_args.specs.Words.{migrate_of, words_of}
+use Rattle.esdk_args.specs.Spelling.{AreForm, AreMigration, AreNoForm, Command, HasBadNumber, HasBadPair, HasBadRetire, HasFirstBadNumber, first_of, second_of}
 use Rattle.esdk_args.proofs.Given.{bad_is, bad_read, good_is, good_read}
 use Rattle.esdk_args.proofs.Pairs.{first_bad_is, first_bad_named}
 use Rattle.esdk_args.proofs.Forms.{form_read, form_with, with_command}
-use Rattle.esdk_args.proofs.Steps.{HasFault, Kind, command_words, faulty, in_first, in_pairs, in_second, kind, made, of_command, of_list, of_none, request_with, steps_fail}
+use Rattle.esdk_args.proofs.Steps.{HasFault, Kind, command_words, faulty, in_first, in_pairs, in_second, kind, made, migration_words, of_command, of_list, of_migration, of_none, request_with, steps_fail}
 
 -- the steps of a command with options
 abbrev StepsFail : Command → OptionsValue → WordsFault → Type 0
@@ -32,10 +35,10 @@ by_step : (command : Command) (words : List (List ℕ)) (options : OptionsValue)
     → StepsFail command options fault → HaveFault words fault
 by_step command words options fault form (in_first e) =
     let bad = bad_is (first_of command) options.first fault e in
-    bad_number (first_of command) bad.0 (record { command = command; options = options; form = form; first_bad = inl (refl, bad.1) })
+    bad_number (first_of command) bad.0 (inl (record { command = command; options = options; form = form; first_bad = inl (refl, bad.1) }))
 by_step command words options fault form (in_second one first e) =
     let bad = bad_is (second_of command) options.second fault e in
-    bad_number (second_of command) bad.0 (record { command = command; options = options; form = form; first_bad = inr (good_is (first_of command) options.first one first, refl, bad.1) })
+    bad_number (second_of command) bad.0 (inl (record { command = command; options = options; form = form; first_bad = inr (good_is (first_of command) options.first one first, refl, bad.1) }))
 by_step command words options fault form (in_pairs one two first second e) =
     let bad = first_bad_is options.pairs fault form.pairs e in
     bad_pair bad.0 bad.1 (record {
@@ -52,6 +55,17 @@ fault_of command words options fault form e =
     by_step command words options fault form
     (faulty (number_given (first_of command) options.first) (number_given (second_of command) options.second) (pairs_of options.pairs) (made command options.keyring) fault e)
 
+-- the fault of a migration is that of its number
+retire_fault : (words : List (List ℕ)) (migration : MigrationValue) (fault : WordsFault) → AreMigration words migration → migrate_of migration ≡ Err fault → HaveFault words fault
+retire_fault words migration fault form e = by_number (number_given Retire migration.retire) refl e
+  where
+    by_number : (r : Result (Option ℕ) WordsFault) → number_given Retire migration.retire ≡ r
+        → (r >>= λ retire. Ok (requests.Migrate (record { keyring = migration.keyring; retire = retire }))) ≡ Err fault → HaveFault words fault
+    by_number (Ok retire) is e = absurd cc
+    by_number (Err other) is e =
+        let bad = bad_is Retire migration.retire fault (is ∙ cc e) in
+        bad_number Retire bad.0 (inr (record { migration = migration; form = form; option = refl; bad = bad.1 }))
+
 -- what words with a fault are
 data AreFaulty (words : List (List ℕ)) (fault : WordsFault) : Type 0 where
   not_built : form_of words ≡ None → NotBuilt ≡ fault → AreFaulty words fault
@@ -63,6 +77,7 @@ are_faulty words fault e = by_kind (kind words)
     by_kind : Kind words → AreFaulty words fault
     by_kind (of_list are is) = absurd cc
     by_kind (of_command command options form is) = built (fault_of command words options fault form (sym is ∙ e))
+    by_kind (of_migration migration form is) = built (retire_fault words migration fault form (sym is ∙ e))
     by_kind (of_none none is) = not_built none (cc (sym is ∙ e))
 
 -- ---- no form
@@ -74,6 +89,7 @@ no_form : (words : List (List ℕ)) → form_of words ≡ None → AreNoForm wor
 no_form words none = (
   λ is. none_read words list none (form_read words list is),
   λ command options form. none_read words (form_with command options) none (form_read words (form_with command options) (with_command command words options form)),
+  λ migration form. none_read words (migrate migration) none (form_read words (migrate migration) form),
 )
 
 pub not_built_is : (words : List (List ℕ)) → words_of words ≡ Err NotBuilt → AreNoForm words
@@ -90,6 +106,7 @@ not_built_when words other = by_kind (kind words)
     by_kind : Kind words → words_of words ≡ Err NotBuilt
     by_kind (of_list are is) = absurd (other.0 are)
     by_kind (of_command command options form is) = absurd (other.1 command options form)
+    by_kind (of_migration migration form is) = absurd (other.2 migration form)
     by_kind (of_none none is) = is
 
 -- ---- a bad number
@@ -102,13 +119,22 @@ bad_number_is words name e = by_fault (are_faulty words (BadNumber name) e)
     by_fault (built (bad_number other is has)) = let same : other ≡ name = cc in subst (HasBadNumber words) same has
     by_fault (built (bad_pair n is has)) = absurd cc
 
-pub bad_number_named : (words : List (List ℕ)) (name : OptionName) → HasBadNumber words name → words_of words ≡ Err (BadNumber name)
-bad_number_named words name h = step_named h.command words h.options (BadNumber name) h.form (elim h.first_bad [
+first_named : (words : List (List ℕ)) (name : OptionName) → HasFirstBadNumber words name → words_of words ≡ Err (BadNumber name)
+first_named words name h = step_named h.command words h.options (BadNumber name) h.form (elim h.first_bad [
   | inl bad ↦ in_first (subst (λ k. number_given k h.options.first ≡ Err (BadNumber name)) bad.0 (bad_read name h.options.first bad.1))
   | inr bad ↦
       let first = good_read (first_of h.command) h.options.first bad.0 in
       in_second first.0 first.1 (subst (λ k. number_given k h.options.second ≡ Err (BadNumber name)) bad.1 (bad_read name h.options.second bad.2))
 ])
+
+retire_named : (words : List (List ℕ)) (name : OptionName) → HasBadRetire words name → words_of words ≡ Err (BadNumber name)
+retire_named words name h =
+    subst (λ k. words_of words ≡ Err (BadNumber k)) (sym h.option) (migration_words words h.migration h.form
+    ∙ ap (λ r. r >>= λ retire. Ok (requests.Migrate (record { keyring = h.migration.keyring; retire = retire }))) (bad_read Retire h.migration.retire h.bad))
+
+pub bad_number_named : (words : List (List ℕ)) (name : OptionName) → HasBadNumber words name → words_of words ≡ Err (BadNumber name)
+bad_number_named words name (inl first) = first_named words name first
+bad_number_named words name (inr retire) = retire_named words name retire
 
 -- ---- a bad pair
 

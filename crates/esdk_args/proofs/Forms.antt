@@ -1,18 +1,18 @@
 -- Which words are of which form.
-use Rattle.std.proofs.Common.{◌≡◌, ◌≢◌, ℕ, Bool, true, false, List, [], ◌∷◌, ◌++◌, drop, get_or, refl, sym, ap, subst, ◌∙◌, arith}
+use Rattle.std.proofs.Common.{◌≡◌, ◌≢◌, ℕ, Bool, true, false, List, [], ◌∷◌, ◌++◌, length, drop, get_or, refl, sym, ap, subst, ◌∙◌, arith}
 use Rattle.std.specs.Prelude.{All, ◌==◌, Option, Some, None, IfSome, codes, if◌then◌else◌}
 use Rattle.std.specs.List.{list_all}
 use Rattle.std.specs.Option.{option_map}
 use Rattle.std.specs.Str.{bytes_eq}
-use Rattle.std.proofs.lemmas.Bool.{and_parts, eqb-false, false_from_ne_true, ne_eqb, not-true}
-use Rattle.std.proofs.lemmas.List.{append_assoc}
+use Rattle.std.proofs.lemmas.Bool.{and_parts, eqb-false, eqb-true, false_from_ne_true, ne_eqb, not-true}
+use Rattle.std.proofs.lemmas.List.{append-nil, append_assoc}
 use Rattle.std.proofs.lemmas.List.Sums.{AllPass-from_list_all, list_all-from_AllPass}
 use Rattle.std.proofs.lemmas.Slice.Eq.{bytes_eq-Decides}
 use Rattle.esdk_args.specs.declared.options.OptionName.{OptionName}
-use Rattle.esdk_args.specs.declared.options.OptionName.TheVariants.{Frame, MaxKeys, MaxUnit}
+use Rattle.esdk_args.specs.declared.options.OptionName.TheVariants.{Frame, MaxKeys, MaxUnit, Retire}
 use Rattle.esdk_args.specs.Options.{option_text}
-use Rattle.esdk_args.specs.Form.{OptionsValue, FormValue, list, encrypt, decrypt, is_value, gives, option_at, options_of, list_form, form_of}
-use Rattle.esdk_args.specs.Spelling.{AreForm, Command, IsValue, command_text, decryption, encryption, first_of, option_words, second_of}
+use Rattle.esdk_args.specs.Form.{OptionsValue, MigrationValue, FormValue, list, encrypt, decrypt, migrate, is_value, gives, option_at, options_of, migration_of, list_form, form_of}
+use Rattle.esdk_args.specs.Spelling.{AreForm, AreMigration, Command, IsValue, command_text, decryption, encryption, first_of, option_words, second_of}
 
 -- ---- words and their values
 
@@ -80,6 +80,7 @@ dash : (name : OptionName) → option_text name ≡ 45 ∷ drop 1 (option_text n
 dash Frame = refl
 dash MaxKeys = refl
 dash MaxUnit = refl
+dash Retire = refl
 
 -- pair words begin with no option
 no_option : (name : OptionName) (words : List (List ℕ)) → All IsValue words → IsOther (option_text name) words
@@ -111,9 +112,9 @@ options_with command keyring behind =
     let two = option_at (option_text (second_of command)) one.1 in
     if list_all is_value two.1 then option_map (λ name. record { keyring = name; first = one.0; second = two.0; pairs = two.1 }) keyring else None
 
-picked : (b : Bool) (found : Option OptionsValue) (options : OptionsValue) → (if b then found else None) ≡ Some options → (b ≡ true) × (found ≡ Some options)
-picked true found options e = (refl, e)
-picked false found options e = absurd cc
+picked : {A : Type 0} → (b : Bool) (found : Option A) (value : A) → (if b then found else None) ≡ Some value → (b ≡ true) × (found ≡ Some value)
+picked true found value e = (refl, e)
+picked false found value e = absurd cc
 
 found_behind : (command : Command) (words behind : List (List ℕ)) (keyring : Option (List ℕ)) (options : OptionsValue) → StandsAt keyring_text words (keyring, behind)
     → options_with command keyring behind ≡ Some options → AreForm command (command_text command ∷ words) options
@@ -159,6 +160,57 @@ options_read command words options form =
     let two = at_front second options.second options.pairs form.second (no_option (second_of command) options.pairs form.pairs) in
     rw (gives_value keyring_text options.keyring form.keyring, append_assoc (option_words first options.first) (option_words second options.second) options.pairs, one, two, values_are options.pairs form.pairs) refl
 
+-- ---- the options of `migrate`
+
+abbrev retire_text : List ℕ
+retire_text = option_text Retire
+
+-- what the value of `--keyring` and the words behind it are read as
+abbrev migration_with : Option (List ℕ) → List (List ℕ) → Option MigrationValue
+migration_with keyring behind =
+    let retire = option_at retire_text behind in
+    if length retire.1 == 0 then option_map (λ name. record { keyring = name; retire = retire.0 }) keyring else None
+
+no_words : (words : List (List ℕ)) → (length words == 0) ≡ true → words ≡ []
+no_words [] e = refl
+no_words (word ∷ words) e = absurd (omega (arith, eqb-true (length (word ∷ words)) 0 e))
+
+migration_behind : (words behind : List (List ℕ)) (keyring : Option (List ℕ)) (migration : MigrationValue) → StandsAt keyring_text words (keyring, behind)
+    → migration_with keyring behind ≡ Some migration → AreMigration (codes "migrate" ∷ words) migration
+migration_behind words behind None migration at e = absurd (none (picked _ None migration e).1)
+  where
+    none : ◌≡◌ {A = Option MigrationValue} None (Some migration) → ⊥
+    none other = cc
+migration_behind words behind (Some name) migration at e =
+    let retire = option_at retire_text behind in
+    let read : MigrationValue = record { keyring = name; retire = retire.0 } in
+    let t = picked (length retire.1 == 0) (Some read) migration e in
+    let found = stands retire_text behind in
+    let alone : behind ≡ option_words retire_text retire.0 =
+    found.are ∙ ap (λ l. option_words retire_text retire.0 ++ l) (no_words retire.1 t.0) ∙ append-nil (option_words retire_text retire.0) in
+    subst (AreMigration (codes "migrate" ∷ words)) (cc t.1) (record {
+      are = ap (λ l. codes "migrate" ∷ l) (at.are ∙ ap (λ l. keyring_text ∷ name ∷ l) alone);
+      keyring = at.value;
+      retire = found.value;
+    })
+
+-- what the words behind `migrate` are read as is what stands there
+migration_found : (words : List (List ℕ)) (migration : MigrationValue) → migration_of words ≡ Some migration → AreMigration (codes "migrate" ∷ words) migration
+unfolding migration_of
+migration_found words migration e =
+    let keyring = option_at keyring_text words in
+    migration_behind words keyring.1 keyring.0 migration (stands keyring_text words) e
+
+-- the words of a migration are read as this
+migration_read : (words : List (List ℕ)) (migration : MigrationValue) → AreMigration words migration
+    → migration_of (keyring_text ∷ migration.keyring ∷ option_words retire_text migration.retire) ≡ Some migration
+unfolding migration_of
+migration_read words migration form =
+    let behind = option_words retire_text migration.retire in
+    let retire : option_at retire_text behind ≡ (migration.retire, []) =
+    ap (option_at retire_text) (sym (append-nil behind)) ∙ at_front retire_text migration.retire [] form.retire (no_option Retire [] (λ k d lt. absurd (omega (arith, lt)))) in
+    rw (gives_value keyring_text migration.keyring form.keyring, retire) refl
+
 -- ---- the form
 
 -- the form of a command's words
@@ -171,11 +223,13 @@ abbrev pub IsFormOf : List (List ℕ) → FormValue → Type 0
 IsFormOf words list = words ≡ codes "list" ∷ []
 IsFormOf words (encrypt options) = AreForm encryption words options
 IsFormOf words (decrypt options) = AreForm decryption words options
+IsFormOf words (migrate migration) = AreMigration words migration
 
 at_list : (word : List ℕ) (rest : List (List ℕ)) (form : FormValue) → word ≡ codes "list" → list_form rest ≡ Some form → IsFormOf (word ∷ rest) form
 at_list word [] list is e = ap (λ w. w ∷ []) is
 at_list word [] (encrypt options) is e = absurd cc
 at_list word [] (decrypt options) is e = absurd cc
+at_list word [] (migrate migration) is e = absurd cc
 at_list word (next ∷ rest) form is e = absurd cc
 
 pub with_command : (command : Command) (words : List (List ℕ)) (options : OptionsValue) → AreForm command words options → IsFormOf words (form_with command options)
@@ -190,19 +244,27 @@ at_command command word rest (Some options) form is f e =
     subst (IsFormOf (word ∷ rest)) same (with_command command (word ∷ rest) options
     (subst (λ w. AreForm command (w ∷ rest) options) (sym is) (options_found command rest options f)))
 
-by_word : (word : List ℕ) (rest : List (List ℕ)) (form : FormValue) (a b c : Bool) → bytes_eq word (codes "list") ≡ a → bytes_eq word (codes "encrypt") ≡ b → bytes_eq word (codes "decrypt") ≡ c
-    → (if a then list_form rest else if b then option_map encrypt (options_of Frame MaxKeys rest) else if c then option_map decrypt (options_of MaxKeys MaxUnit rest) else None) ≡ Some form
+at_migrate : (word : List ℕ) (rest : List (List ℕ)) (found : Option MigrationValue) (form : FormValue) → word ≡ codes "migrate"
+    → migration_of rest ≡ found → option_map migrate found ≡ Some form → IsFormOf (word ∷ rest) form
+at_migrate word rest None form is f e = absurd cc
+at_migrate word rest (Some migration) form is f e =
+    let same : migrate migration ≡ form = cc in
+    subst (IsFormOf (word ∷ rest)) same (subst (λ w. AreMigration (w ∷ rest) migration) (sym is) (migration_found rest migration f))
+
+by_word : (word : List ℕ) (rest : List (List ℕ)) (form : FormValue) (a b c d : Bool) → bytes_eq word (codes "list") ≡ a → bytes_eq word (codes "encrypt") ≡ b → bytes_eq word (codes "decrypt") ≡ c → bytes_eq word (codes "migrate") ≡ d
+    → (if a then list_form rest else if b then option_map encrypt (options_of Frame MaxKeys rest) else if c then option_map decrypt (options_of MaxKeys MaxUnit rest) else if d then option_map migrate (migration_of rest) else None) ≡ Some form
     → IsFormOf (word ∷ rest) form
-by_word word rest form true b c is_a is_b is_c e = at_list word rest form (same_word word (codes "list") is_a) e
-by_word word rest form false true c is_a is_b is_c e = at_command encryption word rest (options_of Frame MaxKeys rest) form (same_word word (codes "encrypt") is_b) refl e
-by_word word rest form false false true is_a is_b is_c e = at_command decryption word rest (options_of MaxKeys MaxUnit rest) form (same_word word (codes "decrypt") is_c) refl e
-by_word word rest form false false false is_a is_b is_c e = absurd cc
+by_word word rest form true b c d is_a is_b is_c is_d e = at_list word rest form (same_word word (codes "list") is_a) e
+by_word word rest form false true c d is_a is_b is_c is_d e = at_command encryption word rest (options_of Frame MaxKeys rest) form (same_word word (codes "encrypt") is_b) refl e
+by_word word rest form false false true d is_a is_b is_c is_d e = at_command decryption word rest (options_of MaxKeys MaxUnit rest) form (same_word word (codes "decrypt") is_c) refl e
+by_word word rest form false false false true is_a is_b is_c is_d e = at_migrate word rest (migration_of rest) form (same_word word (codes "migrate") is_d) refl e
+by_word word rest form false false false false is_a is_b is_c is_d e = absurd cc
 
 -- what the words are read as is their form
 pub form_found : (words : List (List ℕ)) (form : FormValue) → form_of words ≡ Some form → IsFormOf words form
 unfolding form_of
 form_found [] form e = absurd cc
-form_found (word ∷ rest) form e = by_word word rest form (bytes_eq word (codes "list")) (bytes_eq word (codes "encrypt")) (bytes_eq word (codes "decrypt")) refl refl refl e
+form_found (word ∷ rest) form e = by_word word rest form (bytes_eq word (codes "list")) (bytes_eq word (codes "encrypt")) (bytes_eq word (codes "decrypt")) (bytes_eq word (codes "migrate")) refl refl refl refl e
 
 list_read : form_of (codes "list" ∷ []) ≡ Some list
 unfolding form_of
@@ -213,6 +275,10 @@ unfolding form_of
 command_read encryption rest = refl
 command_read decryption rest = refl
 
+migrate_read : (rest : List (List ℕ)) → form_of (codes "migrate" ∷ rest) ≡ option_map migrate (migration_of rest)
+unfolding form_of
+migrate_read rest = refl
+
 options_form : (command : Command) (words : List (List ℕ)) (options : OptionsValue) → AreForm command words options → form_of words ≡ Some (form_with command options)
 options_form command words options form =
     ap form_of form.are ∙ command_read command (keyring_text ∷ options.keyring ∷ behind_keyring command options) ∙ ap (option_map (form_with command)) (options_read command words options form)
@@ -222,3 +288,4 @@ pub form_read : (words : List (List ℕ)) (form : FormValue) → IsFormOf words 
 form_read words list is = ap form_of is ∙ list_read
 form_read words (encrypt options) is = options_form encryption words options is
 form_read words (decrypt options) is = options_form decryption words options is
+form_read words (migrate migration) is = ap form_of is.are ∙ migrate_read (keyring_text ∷ migration.keyring ∷ option_words retire_text migration.retire) ∙ ap (option_map migrate) (migration_read words migration is)

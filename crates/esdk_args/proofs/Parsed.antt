@@ -6,7 +6,7 @@ use Rattle.std.specs.declared.num.ParseIntError.{ParseIntError}
 use Rattle.std.proofs.lemmas.Bool.{cases_lt}
 use Rattle.std.proofs.lemmas.Str.Parse.{parse_digits}
 use Rattle.esdk_args.specs.declared.options.OptionName.{OptionName}
-use Rattle.esdk_args.specs.declared.options.OptionName.TheVariants.{Frame, MaxKeys, MaxUnit}
+use Rattle.esdk_args.specs.declared.options.OptionName.TheVariants.{Frame, MaxKeys, MaxUnit, Retire}
 use Rattle.esdk_args.specs.declared.request.WordsFault.TheVariants.{BadNumber}
 use Rattle.esdk_args.specs.Options.{greatest}
 use Rattle.esdk_args.specs.Numbers.{decimal_value, is_numeral, number_of}
@@ -17,6 +17,7 @@ greatest_fits : (name : OptionName) → greatest name < 2 ^ 64
 greatest_fits Frame = omega arith
 greatest_fits MaxKeys = omega arith
 greatest_fits MaxUnit = omega arith
+greatest_fits Retire = omega arith
 
 -- the number is the numeral's value
 pub parsed_value : (word : List ℕ) (n : ℕ) → is_numeral word ≡ true → ParsesUnsigned {E = ParseIntError} 64 10 word (Ok n) → decimal_value word ≡ n

@@ -1,25 +1,28 @@
 -- Which words ask for which request.
-use Rattle.std.proofs.Common.{◌≡◌, ℕ, List, [], ◌∷◌, ◌++◌, sym, ap, subst, ◌∙◌}
-use Rattle.std.specs.Prelude.{All, Option, Some, Ok, codes, map}
+use Rattle.std.proofs.Common.{◌≡◌, ℕ, List, [], ◌∷◌, ◌++◌, refl, sym, ap, subst, ◌∙◌}
+use Rattle.std.specs.Prelude.{All, Option, Some, Result, Ok, Err, codes, map}
 use Rattle.std.specs.Option.{unwrap_or}
 use Rattle.std.proofs.lemmas.List.Elements.{All-map, All-weaker}
-use Rattle.esdk_args.specs.declared.options.OptionName.TheVariants.{Frame, MaxKeys, MaxUnit}
+use Rattle.esdk_args.specs.declared.options.OptionName.TheVariants.{Frame, MaxKeys, MaxUnit, Retire}
 use Rattle.esdk_args.specs.declared.pair_words.PairWord.{PairWord}
 use Rattle.esdk_args.specs.declared.request.Request.{Request}
 use Rattle.esdk_args.specs.declared.request.Request.TheVariants as requests
 use Rattle.esdk_args.specs.declared.request.EncryptWords.{EncryptWords}
 use Rattle.esdk_args.specs.declared.request.DecryptWords.{DecryptWords}
+use Rattle.esdk_args.specs.declared.request.MigrateWords.{MigrateWords}
+use Rattle.esdk_args.specs.declared.request.WordsFault.{WordsFault}
 use Rattle.esdk_args.specs.Options.{option_text}
-use Rattle.esdk_args.specs.Form.{OptionsValue, list}
+use Rattle.esdk_args.specs.Form.{OptionsValue, MigrationValue, list}
 use Rattle.esdk_args.specs.PairWords.{pairs_of}
+use Rattle.esdk_args.specs.Faults.{◌>>=◌}
 use Rattle.esdk_args.specs.Numbers.{number_given}
-use Rattle.esdk_args.specs.Words.{words_of}
-use Rattle.esdk_args.specs.Spelling.{AreForm, AsksDecrypt, AsksEncrypt, Command, IsPair, IsValue, command_text, decryption, encryption, first_of, option_words, pair_text, second_of}
+use Rattle.esdk_args.specs.Words.{migrate_of, words_of}
+use Rattle.esdk_args.specs.Spelling.{AreForm, AreMigration, AsksDecrypt, AsksEncrypt, AsksMigrate, Command, IsPair, IsValue, command_text, decryption, encryption, first_of, option_words, pair_text, second_of}
 use Rattle.esdk_args.proofs.Given.{IsGiven, frame_value, frame_words, may_give, number_words}
 use Rattle.esdk_args.proofs.OnePair.{pair_value}
 use Rattle.esdk_args.proofs.Pairs.{pairs_named, pairs_read}
 use Rattle.esdk_args.proofs.Forms.{form_read}
-use Rattle.esdk_args.proofs.Steps.{AreDone, Kind, command_words, done, kind, made, of_command, of_list, of_none, reads, request_with, steps_done}
+use Rattle.esdk_args.proofs.Steps.{AreDone, Kind, command_words, done, kind, made, migration_words, of_command, of_list, of_migration, of_none, reads, request_with, steps_done}
 
 -- the parts of a command's request
 abbrev IsMade : Command → OptionsValue → Request → Type 0
@@ -29,6 +32,28 @@ IsMade command options request =
 is_made : (command : Command) (options : OptionsValue) (request : Request) → request_with command options ≡ Ok request → IsMade command options request
 is_made command options request e =
     done (number_given (first_of command) options.first) (number_given (second_of command) options.second) (pairs_of options.pairs) (made command options.keyring) request e
+
+-- the parts of a migration's request
+record IsMigration (migration : MigrationValue) (request : Request) : Type 0 where
+  retire : Option ℕ
+  given : number_given Retire migration.retire ≡ Ok retire
+  is : requests.Migrate (record { keyring = migration.keyring; retire = retire }) ≡ request
+
+is_migration : (migration : MigrationValue) (request : Request) → migrate_of migration ≡ Ok request → IsMigration migration request
+is_migration migration request e = by_number (number_given Retire migration.retire) refl e
+  where
+    by_number : (r : Result (Option ℕ) WordsFault) → number_given Retire migration.retire ≡ r
+        → (r >>= λ retire. Ok (requests.Migrate (record { keyring = migration.keyring; retire = retire }))) ≡ Ok request → IsMigration migration request
+    by_number (Ok retire) given e = record { retire = retire; given = given; is = cc }
+    by_number (Err fault) given e = absurd cc
+
+-- no migration is another request
+abbrev IsOtherRequest : Request → Type 0
+IsOtherRequest (requests.Migrate asked) = ⊥
+IsOtherRequest request = Unit {0}
+
+no_other : (migration : MigrationValue) (request : Request) → IsOtherRequest request → migrate_of migration ≡ Ok request → ⊥
+no_other migration request other e = let m = is_migration migration request e in subst IsOtherRequest (sym m.is) other
 
 -- ---- the listing
 
@@ -42,6 +67,7 @@ list_asks words e = by_kind (kind words)
     by_kind : Kind words → words ≡ codes "list" ∷ []
     by_kind (of_list are is) = are
     by_kind (of_command command options form is) = absurd (no_listing command options (is_made command options requests.List (sym is ∙ e)))
+    by_kind (of_migration migration form is) = absurd (no_other migration requests.List tt (sym is ∙ e))
     by_kind (of_none none is) = absurd cc
 
 pub list_is_read : (words : List (List ℕ)) → words ≡ codes "list" ∷ [] → words_of words ≡ Ok requests.List
@@ -77,6 +103,7 @@ encrypt_asks words asked e = by_kind (kind words)
       where
         unlike : IsMade decryption options (requests.Encrypt asked) → ⊥
         unlike d = let other = d.is in cc
+    by_kind (of_migration migration form is) = absurd (no_other migration (requests.Encrypt asked) tt (sym is ∙ e))
     by_kind (of_none none is) = absurd cc
 
 -- the pair words of pairs
@@ -137,6 +164,7 @@ decrypt_asks words asked e = by_kind (kind words)
       where
         unlike : IsMade encryption options (requests.Decrypt asked) → ⊥
         unlike d = let other = d.is in cc
+    by_kind (of_migration migration form is) = absurd (no_other migration (requests.Decrypt asked) tt (sym is ∙ e))
     by_kind (of_none none is) = absurd cc
 
 -- words that ask for a decryption are read as it
@@ -144,3 +172,46 @@ pub decrypt_is_read : (words : List (List ℕ)) (asked : DecryptWords) → AsksD
 decrypt_is_read words asked s =
     given_words decryption words s.max_keys_words s.max_unit_words asked.keyring asked.max_keys asked.max_unit asked.pairs s.are s.keyring (may_give MaxKeys s.max_keys_words asked.max_keys s.max_keys)
     (may_give MaxUnit s.max_unit_words asked.max_unit s.max_unit) s.pairs
+
+-- ---- a migration
+
+migration_made : (words : List (List ℕ)) (migration : MigrationValue) (asked : MigrateWords) → AreMigration words migration → IsMigration migration (requests.Migrate asked) → AsksMigrate words asked
+migration_made words migration asked form d =
+    let made : MigrateWords = record { keyring = migration.keyring; retire = d.retire } in
+    let is = d.is in
+    let same : made ≡ asked = cc in
+    subst (AsksMigrate words) same (record {
+      retire_words = option_words (option_text Retire) migration.retire;
+      are = form.are;
+      keyring = form.keyring;
+      retire = number_words Retire migration.retire d.retire d.given;
+    })
+
+-- words that are read as a migration ask for it
+pub migrate_asks : (words : List (List ℕ)) (asked : MigrateWords) → words_of words ≡ Ok (requests.Migrate asked) → AsksMigrate words asked
+migrate_asks words asked e = by_kind (kind words)
+  where
+    by_kind : Kind words → AsksMigrate words asked
+    by_kind (of_list are is) = absurd cc
+    by_kind (of_command encryption options form is) = absurd (unlike (is_made encryption options (requests.Migrate asked) (sym is ∙ e)))
+      where
+        unlike : IsMade encryption options (requests.Migrate asked) → ⊥
+        unlike d = let other = d.is in cc
+    by_kind (of_command decryption options form is) = absurd (unlike (is_made decryption options (requests.Migrate asked) (sym is ∙ e)))
+      where
+        unlike : IsMade decryption options (requests.Migrate asked) → ⊥
+        unlike d = let other = d.is in cc
+    by_kind (of_migration migration form is) = migration_made words migration asked form (is_migration migration (requests.Migrate asked) (sym is ∙ e))
+    by_kind (of_none none is) = absurd cc
+
+-- words that ask for a migration are read as it
+pub migrate_is_read : (words : List (List ℕ)) (asked : MigrateWords) → AsksMigrate words asked → words_of words ≡ Ok (requests.Migrate asked)
+migrate_is_read words asked s =
+    let retire = may_give Retire s.retire_words asked.retire s.retire in
+    let migration : MigrationValue = record { keyring = asked.keyring; retire = retire.value } in
+    migration_words words migration (record {
+      are = s.are ∙ ap (λ l. codes "migrate" ∷ codes "--keyring" ∷ asked.keyring ∷ l) retire.are;
+      keyring = s.keyring;
+      retire = retire.fits;
+    })
+    ∙ ap (λ r. r >>= λ n. Ok (requests.Migrate (record { keyring = asked.keyring; retire = n }))) retire.read

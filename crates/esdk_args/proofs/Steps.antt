@@ -8,12 +8,12 @@ use Rattle.esdk_args.specs.declared.request.Request.{Request}
 use Rattle.esdk_args.specs.declared.request.Request.TheVariants as requests
 use Rattle.esdk_args.specs.declared.request.WordsFault.{WordsFault}
 use Rattle.esdk_args.specs.declared.request.WordsFault.TheVariants.{NotBuilt}
-use Rattle.esdk_args.specs.Form.{OptionsValue, FormValue, list, encrypt, decrypt, form_of}
+use Rattle.esdk_args.specs.Form.{OptionsValue, MigrationValue, FormValue, list, encrypt, decrypt, migrate, form_of}
 use Rattle.esdk_args.specs.PairWords.{pairs_of}
 use Rattle.esdk_args.specs.Faults.{◌>>=◌}
 use Rattle.esdk_args.specs.Numbers.{frame_given, number_given}
-use Rattle.esdk_args.specs.Words.{request_of, words_of}
-use Rattle.esdk_args.specs.Spelling.{AreForm, Command, decryption, encryption, first_of, second_of}
+use Rattle.esdk_args.specs.Words.{migrate_of, request_of, words_of}
+use Rattle.esdk_args.specs.Spelling.{AreForm, AreMigration, Command, decryption, encryption, first_of, second_of}
 use Rattle.esdk_args.proofs.Given.{frame_number}
 use Rattle.esdk_args.proofs.Forms.{form_found, form_read, form_with, with_command}
 
@@ -108,10 +108,15 @@ pub command_words : (command : Command) (words : List (List ℕ)) (options : Opt
 command_words command words options form =
     reads words (Some (form_with command options)) (form_read words (form_with command options) (with_command command words options form)) ∙ command_request command options
 
+-- the words of a migration ask for its request
+pub migration_words : (words : List (List ℕ)) (migration : MigrationValue) → AreMigration words migration → words_of words ≡ migrate_of migration
+migration_words words migration form = reads words (Some (migrate migration)) (form_read words (migrate migration) form)
+
 -- what words are
 pub data Kind (words : List (List ℕ)) : Type 0 where
   of_list : words ≡ codes "list" ∷ [] → words_of words ≡ Ok requests.List → Kind words
   of_command : (command : Command) (options : OptionsValue) → AreForm command words options → words_of words ≡ request_with command options → Kind words
+  of_migration : (migration : MigrationValue) → AreMigration words migration → words_of words ≡ migrate_of migration → Kind words
   of_none : form_of words ≡ None → words_of words ≡ Err NotBuilt → Kind words
 
 kind_with : (words : List (List ℕ)) (form : Option FormValue) → form_of words ≡ form → Kind words
@@ -119,6 +124,7 @@ kind_with words None is = of_none is (reads words None is)
 kind_with words (Some list) is = of_list (form_found words list is) (reads words (Some list) is)
 kind_with words (Some (encrypt options)) is = let form = form_found words (encrypt options) is in of_command encryption options form (command_words encryption words options form)
 kind_with words (Some (decrypt options)) is = let form = form_found words (decrypt options) is in of_command decryption options form (command_words decryption words options form)
+kind_with words (Some (migrate migration)) is = let form = form_found words (migrate migration) is in of_migration migration form (migration_words words migration form)
 
 -- each list of words is of one kind
 pub kind : (words : List (List ℕ)) → Kind words

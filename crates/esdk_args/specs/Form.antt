@@ -1,28 +1,35 @@
--- The form of the words: a command, then its options in this order, each as two words and at most once, and then pair words. A word that begins with `-` is
--- neither a pair word nor an option's value.
+-- The form of the words: a command, then its options in this order, each as two words and at most once, and then, where the command has them, pair words. A word
+-- that begins with `-` is neither a pair word nor an option's value.
 --     list
 --     encrypt --keyring NAME [--frame N] [--max-keys N] PAIR..
 --     decrypt --keyring NAME [--max-keys N] [--max-unit N] PAIR..
-use Rattle.std.specs.Prelude.{ℕ, Bool, not, ◌&&◌, ◌==◌, List, [], ◌∷◌, Option, Some, None, codes, slice_index, if◌then◌else◌}
+--     migrate --keyring NAME [--retire N]
+use Rattle.std.specs.Prelude.{ℕ, Bool, not, ◌&&◌, ◌==◌, List, [], ◌∷◌, length, Option, Some, None, codes, slice_index, if◌then◌else◌}
 use Rattle.std.specs.List.{list_all}
 use Rattle.std.specs.Option.{option_map}
 use Rattle.std.specs.Str.{bytes_eq}
 use Rattle.esdk_args.specs.declared.options.OptionName.{OptionName}
-use Rattle.esdk_args.specs.declared.options.OptionName.TheVariants.{Frame, MaxKeys, MaxUnit}
+use Rattle.esdk_args.specs.declared.options.OptionName.TheVariants.{Frame, MaxKeys, MaxUnit, Retire}
 use Rattle.esdk_args.specs.Options.{option_text}
 
--- What stands behind a command: the value of `--keyring`, the words of its two numbers where their options are given, and the pair words.
+-- What stands behind a command with pairs: the value of `--keyring`, the words of its two numbers where their options are given, and the pair words.
 pub record OptionsValue : Type 0 where
   pub keyring : List ℕ
   pub first : Option (List ℕ)
   pub second : Option (List ℕ)
   pub pairs : List (List ℕ)
 
+-- What stands behind `migrate`: the value of `--keyring`, and the word of its number where its option is given.
+pub record MigrationValue : Type 0 where
+  pub keyring : List ℕ
+  pub retire : Option (List ℕ)
+
 -- A command and what stands behind it.
 pub data FormValue : Type 0 where
   list : FormValue
   encrypt : OptionsValue → FormValue
   decrypt : OptionsValue → FormValue
+  migrate : MigrationValue → FormValue
 
 -- an option's value or a pair word doesn't begin with `-` (45); the empty word is one
 abbrev pub is_value : List ℕ → Bool
@@ -45,6 +52,13 @@ options_of first second words =
     let two = option_at (option_text second) one.1 in
     if list_all is_value two.1 then option_map (λ name. record { keyring = name; first = one.0; second = two.0; pairs = two.1 }) keyring.0 else None
 
+-- `--keyring` with its value, then nothing or `--retire` with its value
+unfoldable pub migration_of : List (List ℕ) → Option MigrationValue
+migration_of words =
+    let keyring = option_at (codes "--keyring") words in
+    let retire = option_at (option_text Retire) keyring.1 in
+    if length retire.1 == 0 then option_map (λ name. record { keyring = name; retire = retire.0 }) keyring.0 else None
+
 -- behind `list` stands nothing
 abbrev pub list_form : List (List ℕ) → Option FormValue
 list_form [] = Some list
@@ -57,4 +71,5 @@ form_of (command ∷ rest) =
     if bytes_eq command (codes "list") then list_form rest
     else if bytes_eq command (codes "encrypt") then option_map encrypt (options_of Frame MaxKeys rest)
     else if bytes_eq command (codes "decrypt") then option_map decrypt (options_of MaxKeys MaxUnit rest)
+    else if bytes_eq command (codes "migrate") then option_map migrate (migration_of rest)
     else None

@@ -4,9 +4,10 @@ use Rattle.esdk_args.specs.declared.options.OptionName.{OptionName}
 use Rattle.esdk_args.specs.declared.request.Request.TheVariants as requests
 use Rattle.esdk_args.specs.declared.request.EncryptWords.{EncryptWords}
 use Rattle.esdk_args.specs.declared.request.DecryptWords.{DecryptWords}
+use Rattle.esdk_args.specs.declared.request.MigrateWords.{MigrateWords}
 use Rattle.esdk_args.specs.declared.request.WordsFault.TheVariants.{NotBuilt, BadNumber, BadPair, Memory}
 use Rattle.esdk_args.specs.Words.{words_of}
-use Rattle.esdk_args.specs.Spelling.{AsksEncrypt, AsksDecrypt, AreNoForm, HasBadNumber, HasBadPair, Writes}
+use Rattle.esdk_args.specs.Spelling.{AsksEncrypt, AsksDecrypt, AsksMigrate, AreNoForm, HasBadNumber, HasBadPair, Writes}
 
 -- The one word `list` asks for a listing, and no other words do.
 abbrev pub ReadsList : Type 0
@@ -19,6 +20,10 @@ ReadsEncrypt = (words : List (List ℕ)) (asked : EncryptWords) → (words_of wo
 -- Words are read as a decryption exactly where they ask for it.
 abbrev pub ReadsDecrypt : Type 0
 ReadsDecrypt = (words : List (List ℕ)) (asked : DecryptWords) → (words_of words ≡ Ok (requests.Decrypt asked)) ↔ AsksDecrypt words asked
+
+-- Words are read as a migration exactly where they ask for it.
+abbrev pub ReadsMigrate : Type 0
+ReadsMigrate = (words : List (List ℕ)) (asked : MigrateWords) → (words_of words ≡ Ok (requests.Migrate asked)) ↔ AsksMigrate words asked
 
 -- Words are not built exactly where they are of no form.
 abbrev pub BuildsNoOthers : Type 0

@@ -2,12 +2,13 @@
 use Rattle.std.specs.Prelude.{◌≡◌, ◌≢◌, ◌≤◌, ◌⊎◌, ℕ, ◌+◌, ◌-◌, ◌^◌, min, Bool, true, false, List, [], ◌∷◌, ◌++◌, length, map, All, Option, Some, None, IsSome, IsSomeAnd, IfSome, codes}
 use Rattle.std.specs.Int.{IsInRange}
 use Rattle.esdk_args.specs.declared.options.OptionName.{OptionName}
-use Rattle.esdk_args.specs.declared.options.OptionName.TheVariants.{Frame, MaxKeys, MaxUnit}
+use Rattle.esdk_args.specs.declared.options.OptionName.TheVariants.{Frame, MaxKeys, MaxUnit, Retire}
 use Rattle.esdk_args.specs.declared.pair_words.PairWord.{PairWord}
 use Rattle.esdk_args.specs.declared.request.EncryptWords.{EncryptWords}
 use Rattle.esdk_args.specs.declared.request.DecryptWords.{DecryptWords}
+use Rattle.esdk_args.specs.declared.request.MigrateWords.{MigrateWords}
 use Rattle.esdk_args.specs.Options.{option_text, greatest}
-use Rattle.esdk_args.specs.Form.{OptionsValue}
+use Rattle.esdk_args.specs.Form.{OptionsValue, MigrationValue}
 use Rattle.esdk_args.specs.Numbers.{decimal_value}
 
 -- ---- one word
@@ -85,9 +86,16 @@ pub record AsksDecrypt (words : List (List ℕ)) (asked : DecryptWords) : Type 0
   pub max_unit : MayGive MaxUnit max_unit_words asked.max_unit
   pub pairs : All IsPair asked.pairs
 
+-- The words ask for this migration.
+pub record AsksMigrate (words : List (List ℕ)) (asked : MigrateWords) : Type 0 where
+  pub retire_words : List (List ℕ)
+  pub are : words ≡ codes "migrate" ∷ codes "--keyring" ∷ asked.keyring ∷ retire_words
+  pub keyring : IsValue asked.keyring
+  pub retire : MayGive Retire retire_words asked.retire
+
 -- ---- faults
 
--- A command with options.
+-- A command with pairs.
 pub data Command : Type 0 where
   encryption : Command
   decryption : Command
@@ -119,9 +127,16 @@ pub record AreForm (command : Command) (words : List (List ℕ)) (options : Opti
   pub second : IfSome options.second IsValue
   pub pairs : All IsValue options.pairs
 
+-- The words are `migrate` with these values of its options.
+pub record AreMigration (words : List (List ℕ)) (migration : MigrationValue) : Type 0 where
+  pub are : words ≡ codes "migrate" ∷ codes "--keyring" ∷ migration.keyring ∷ option_words (option_text Retire) migration.retire
+  pub keyring : IsValue migration.keyring
+  pub retire : IfSome migration.retire IsValue
+
 -- the words are of no form
 abbrev pub AreNoForm : List (List ℕ) → Type 0
 AreNoForm words = (words ≢ codes "list" ∷ []) × ((command : Command) (options : OptionsValue) → ¬ (AreForm command words options))
+    × ((migration : MigrationValue) → ¬ (AreMigration words migration))
 
 -- the option has no value, or one that writes a number that it takes
 abbrev pub IsGoodNumber : OptionName → Option (List ℕ) → Type 0
@@ -131,13 +146,24 @@ IsGoodNumber name value = IfSome value (λ word. (n : ℕ) × WritesFor name wor
 abbrev pub IsBadNumber : OptionName → Option (List ℕ) → Type 0
 IsBadNumber name value = IsSomeAnd value (λ word. (n : ℕ) → ¬ (WritesFor name word n))
 
--- The words are of the form, and this option is the first with a bad number.
-pub record HasBadNumber (words : List (List ℕ)) (name : OptionName) : Type 0 where
+-- The words are a command with pairs, and this option is the first with a bad number.
+pub record HasFirstBadNumber (words : List (List ℕ)) (name : OptionName) : Type 0 where
   pub command : Command
   pub options : OptionsValue
   pub form : AreForm command words options
   pub first_bad : ((name ≡ first_of command) × IsBadNumber name options.first)
       ⊎ (IsGoodNumber (first_of command) options.first × (name ≡ second_of command) × IsBadNumber name options.second)
+
+-- The words are `migrate`, and its number is bad.
+pub record HasBadRetire (words : List (List ℕ)) (name : OptionName) : Type 0 where
+  pub migration : MigrationValue
+  pub form : AreMigration words migration
+  pub option : name ≡ Retire
+  pub bad : IsBadNumber Retire migration.retire
+
+-- the words are of the form, and this option is the first with a bad number
+abbrev pub HasBadNumber : List (List ℕ) → OptionName → Type 0
+HasBadNumber words name = HasFirstBadNumber words name ⊎ HasBadRetire words name
 
 -- The n-th of these words is the first that names no pair. They are counted from 1, and n stands still at 2^32 - 1.
 pub record IsFirstBadPair (words : List (List ℕ)) (n : ℕ) : Type 0 where

@@ -3,10 +3,10 @@
 ghost use Rattle.std.specs.Prelude.{◌≡◌};
 ghost use Rattle.std.specs.List.{list_all};
 ghost use Rattle.std.specs.Option.{option_map, option_copied};
-ghost use Rattle.esdk_args.specs.Form.{form_of, options_of, option_at, gives, is_value};
-ghost use Rattle.esdk_args.specs.Found.{form_value, options_value};
+ghost use Rattle.esdk_args.specs.Form.{form_of, migration_of, options_of, option_at, gives, is_value};
+ghost use Rattle.esdk_args.specs.Found.{form_value, migration_value, options_value};
 
-use crate::options::OptionName::{Frame, MaxKeys, MaxUnit};
+use crate::options::OptionName::{Frame, MaxKeys, MaxUnit, Retire};
 use crate::options::{OptionName, option_text};
 use esdk_fields::Text;
 
@@ -16,15 +16,23 @@ pub(crate) enum Form<'a> {
     List,
     Encrypt(Options<'a>),
     Decrypt(Options<'a>),
+    Migrate(Migration<'a>),
 }
 
-/// What stands behind a command: the value of `--keyring`, the words of its two numbers where their options are given, and the pair words.
+/// What stands behind a command with pairs: the value of `--keyring`, the words of its two numbers where their options are given, and the pair words.
 #[derive(Clone, Copy)]
 pub(crate) struct Options<'a> {
     pub(crate) keyring: &'a Text,
     pub(crate) first: Option<&'a Text>,
     pub(crate) second: Option<&'a Text>,
     pub(crate) pairs: &'a [Text],
+}
+
+/// What stands behind `migrate`: the value of `--keyring`, and the word of its number where its option is given.
+#[derive(Clone, Copy)]
+pub(crate) struct Migration<'a> {
+    pub(crate) keyring: &'a Text,
+    pub(crate) retire: Option<&'a Text>,
 }
 
 /// The form of the words. None exactly where they are of none.
@@ -37,11 +45,12 @@ pub(crate) fn form_of(words: &[Text]) -> Option<Form<'_>>
         "list" if rest.is_empty() => Some(Form::List),
         "encrypt" => Some(Form::Encrypt(options_of(Frame, MaxKeys, rest)?)),
         "decrypt" => Some(Form::Decrypt(options_of(MaxKeys, MaxUnit, rest)?)),
+        "migrate" => Some(Form::Migrate(migration_of(rest)?)),
         _ => None,
     }
 }
 
-/// What stands behind a command: `--keyring` with its value, then nothing or these two options with their values, then pair words. None exactly where other
+/// What stands behind a command with pairs: `--keyring` with its value, then nothing or these two options with their values, then pair words. None exactly where other
 /// words stand there.
 #[tactic(auto, unfolding(crate::specs::Form::options_of))]
 fn options_of(first: OptionName, second: OptionName, words: &[Text]) -> Option<Options<'_>>
@@ -58,6 +67,22 @@ fn options_of(first: OptionName, second: OptionName, words: &[Text]) -> Option<O
         first,
         second,
         pairs,
+    })
+}
+
+/// What stands behind `migrate`: `--keyring` with its value, then nothing or `--retire` with its value. None exactly where other words stand there.
+#[tactic(auto, unfolding(crate::specs::Form::migration_of))]
+fn migration_of(words: &[Text]) -> Option<Migration<'_>>
+    ensures { option_map migration_value result ≡ migration_of words.now }
+{
+    let (keyring, behind) = option_at("--keyring", words);
+    let (retire, behind) = option_at(option_text(Retire), behind);
+    if !behind.is_empty() {
+        return None;
+    }
+    Some(Migration {
+        keyring: keyring?,
+        retire,
     })
 }
 

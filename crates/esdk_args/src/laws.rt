@@ -1,12 +1,13 @@
 //! Laws about words. A law is a function that does nothing: its contract is what is proved.
 
-ghost use Rattle.esdk_args.specs.Laws.{ReadsList, ReadsEncrypt, ReadsDecrypt, BuildsNoOthers, NamesBadNumbers, NamesBadPairs, NeverMemory, ReadsWrittenNumbers};
+ghost use Rattle.esdk_args.specs.Laws.{ReadsList, ReadsEncrypt, ReadsDecrypt, ReadsMigrate, BuildsNoOthers, NamesBadNumbers, NamesBadPairs, NeverMemory, ReadsWrittenNumbers};
 
 /// Which words ask for which request.
 pub fn requests_are_read()
     ensures list { ReadsList }
     ensures encrypt { ReadsEncrypt }
     ensures decrypt { ReadsDecrypt }
+    ensures migrate { ReadsMigrate }
 {}
 
 /// Which words are not built: those of no form. Words of a form ask for a request, have a bad number, or have a bad pair word.

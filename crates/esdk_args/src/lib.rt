@@ -1,10 +1,11 @@
 //! The words of the command line: what they ask for. The words are read in one narrow form: the command, then its options in a fixed order, each as two words and
-//! at most once, and then pair words.
+//! at most once, and then, where the command has them, pair words.
 //!
 //! ```text
 //! list
 //! encrypt --keyring NAME [--frame N] [--max-keys N] PAIR..
 //! decrypt --keyring NAME [--max-keys N] [--max-unit N] PAIR..
+//! migrate --keyring NAME [--retire N]
 //! ```
 //!
 //! A pair word is `KEY=VALUE`, `KEY:=VALUE` where the key is required, or `KEY:` where it is required and no pair is given.
@@ -26,5 +27,5 @@ pub use laws::{
 };
 pub use options::{OptionName, option_text};
 pub use pair_words::{PairWord, PairWords};
-pub use request::{DecryptWords, EncryptWords, Request, WordsFault};
+pub use request::{DecryptWords, EncryptWords, MigrateWords, Request, WordsFault};
 pub use words::read_words;

@@ -4,7 +4,7 @@ ghost use Rattle.std.specs.Prelude.{◌≡◌, ◌≤◌, IfOk};
 ghost use Rattle.std.specs.Char.{is_ascii_digit};
 ghost use Rattle.std.specs.List.{list_all};
 ghost use Rattle.std.specs.Option.{option_copied};
-ghost use Rattle.esdk_args.specs.declared.options.OptionName.TheVariants.{MaxKeys, MaxUnit};
+ghost use Rattle.esdk_args.specs.declared.options.OptionName.TheVariants.{MaxKeys, MaxUnit, Retire};
 ghost use Rattle.esdk_args.specs.Options.{greatest};
 ghost use Rattle.esdk_args.specs.Numbers.{is_numeral, number_of, number_given, frame_given};
 
@@ -45,6 +45,16 @@ pub(crate) fn max_unit_given(word: Option<&Text>) -> Result<Option<u64>, WordsFa
 {
     match word {
         Some(word) => Ok(Some(number_of(OptionName::MaxUnit, word.as_str())?)),
+        None => Ok(None),
+    }
+}
+
+/// The number of the node that is to be retired, where a word gives one.
+pub(crate) fn retire_given(word: Option<&Text>) -> Result<Option<u32>, WordsFault>
+    ensures { result ≡ number_given Retire (option_copied word.entry) }
+{
+    match word {
+        Some(word) => Ok(Some(number_of(OptionName::Retire, word.as_str())? as u32)),
         None => Ok(None),
     }
 }

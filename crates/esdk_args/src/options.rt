@@ -12,6 +12,8 @@ pub enum OptionName {
     MaxKeys,
     /// `--max-unit` of `decrypt`: the greatest length in bytes of a frame or a single block, 1 to 68,719,476,704.
     MaxUnit,
+    /// `--retire` of `migrate`: the number of a node of the keyring file, 1 to 1,048,576.
+    Retire,
 }
 
 /// The option as it is written among the words.
@@ -22,6 +24,7 @@ pub fn option_text(name: OptionName) -> &'static str
         OptionName::Frame => "--frame",
         OptionName::MaxKeys => "--max-keys",
         OptionName::MaxUnit => "--max-unit",
+        OptionName::Retire => "--retire",
     }
 }
 
@@ -33,5 +36,6 @@ pub(crate) fn greatest(name: OptionName) -> u64
         OptionName::Frame => 4_294_967_295,
         OptionName::MaxKeys => 65_535,
         OptionName::MaxUnit => 68_719_476_704,
+        OptionName::Retire => 1_048_576,
     }
 }

@@ -1,9 +1,11 @@
 //! What the words can ask for, and why they may ask for nothing.
 
-use crate::options::OptionName;
+use crate::options::{OptionName, option_text};
 use crate::pair_words::PairWords;
 use esdk_fields::Text;
 use std::alloc::{AllocError, AllocFailed};
+use std::error::Error;
+use std::fmt;
 
 /// What the words ask for.
 #[derive(Drop)]
@@ -14,6 +16,8 @@ pub enum Request {
     Encrypt(EncryptWords),
     /// A decryption.
     Decrypt(DecryptWords),
+    /// A migration of a keyring file to version 2.
+    Migrate(MigrateWords),
 }
 
 /// What the words say of an encryption.
@@ -42,6 +46,15 @@ pub struct DecryptWords {
     pub pairs: PairWords,
 }
 
+/// What the words say of a migration.
+#[derive(Drop)]
+pub struct MigrateWords {
+    /// The name of the keyring file.
+    pub keyring: Text,
+    /// The number of the node that is to be retired, 1 to 1,048,576; None where the words give none.
+    pub retire: Option<u32>,
+}
+
 /// Why the words ask for nothing.
 #[derive(Debug, Drop)]
 pub enum WordsFault {
@@ -55,6 +68,21 @@ pub enum WordsFault {
     /// Memory ran out.
     Memory,
 }
+
+impl fmt::Display for WordsFault {
+    fn fmt<W: fmt::Write>(&self, f: &mut fmt::Formatter<W>) -> fmt::Result {
+        match self {
+            WordsFault::NotBuilt => f.write_str("the words are those of no command"),
+            WordsFault::BadNumber(option) => {
+                write!(f, "{} has no number of its range", option_text(*option))
+            }
+            WordsFault::BadPair(place) => write!(f, "pair word {place} is no pair"),
+            WordsFault::Memory => f.write_str("memory ran out"),
+        }
+    }
+}
+
+impl Error for WordsFault {}
 
 impl From<AllocError> for WordsFault {
     ghost use Rattle.std.specs.Prelude.{◌≡◌};

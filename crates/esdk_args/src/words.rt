@@ -2,13 +2,13 @@
 
 ghost use Rattle.std.specs.Prelude.{IfOk};
 ghost use Rattle.esdk_args.specs.Faults.{Answers};
-ghost use Rattle.esdk_args.specs.Found.{options_value};
-ghost use Rattle.esdk_args.specs.Words.{words_of, encrypt_of, decrypt_of, HasFrame};
+ghost use Rattle.esdk_args.specs.Found.{migration_value, options_value};
+ghost use Rattle.esdk_args.specs.Words.{words_of, encrypt_of, decrypt_of, migrate_of, HasFrame};
 
-use crate::form::{Form, Options, form_of};
-use crate::numbers::{frame_given, max_keys_given, max_unit_given};
+use crate::form::{Form, Migration, Options, form_of};
+use crate::numbers::{frame_given, max_keys_given, max_unit_given, retire_given};
 use crate::pair_words::pairs_of;
-use crate::request::{DecryptWords, EncryptWords, Request, WordsFault};
+use crate::request::{DecryptWords, EncryptWords, MigrateWords, Request, WordsFault};
 use esdk_fields::Text;
 use std::alloc::Global;
 
@@ -18,6 +18,7 @@ use std::alloc::Global;
 /// list
 /// encrypt --keyring NAME [--frame N] [--max-keys N] PAIR..
 /// decrypt --keyring NAME [--max-keys N] [--max-unit N] PAIR..
+/// migrate --keyring NAME [--retire N]
 /// ```
 ///
 /// `NotBuilt` where the words are of none of these forms; no NAME, N and PAIR starts with `-`. Else `BadNumber` with the first option whose N isn't 1 to 20
@@ -33,6 +34,7 @@ pub fn read_words(alloc: Global, words: &[Text]) -> Result<Request, WordsFault>
         Some(Form::List) => Ok(Request::List),
         Some(Form::Encrypt(options)) => encrypt_words(alloc, options),
         Some(Form::Decrypt(options)) => decrypt_words(alloc, options),
+        Some(Form::Migrate(migration)) => migrate_words(alloc, migration),
     }
 }
 
@@ -68,4 +70,14 @@ fn decrypt_words(alloc: Global, options: Options<'_>) -> Result<Request, WordsFa
         max_unit,
         pairs,
     }))
+}
+
+/// The migration that these options ask for.
+fn migrate_words(alloc: Global, migration: Migration<'_>) -> Result<Request, WordsFault>
+    ensures read { Answers result (migrate_of (migration_value migration.entry)) }
+    ensures frame { IfOk result HasFrame }
+{
+    let retire = retire_given(migration.retire)?;
+    let keyring = Text::new(alloc, migration.keyring.as_str())?;
+    Ok(Request::Migrate(MigrateWords { keyring, retire }))
 }

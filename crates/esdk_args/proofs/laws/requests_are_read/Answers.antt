@@ -1,4 +1,4 @@
-use Rattle.esdk_args.proofs.Requests.{decrypt_asks, decrypt_is_read, encrypt_asks, encrypt_is_read, list_asks, list_is_read}
+use Rattle.esdk_args.proofs.Requests.{decrypt_asks, decrypt_is_read, encrypt_asks, encrypt_is_read, list_asks, list_is_read, migrate_asks, migrate_is_read}
 use Rattle.esdk_args.proofs.laws.requests_are_read.Goals as goal
 
 pub returns-clause-list : goal.returns-clause-list
@@ -9,3 +9,6 @@ returns-clause-encrypt c = λ words asked. (encrypt_asks words asked, encrypt_is
 
 pub returns-clause-decrypt : goal.returns-clause-decrypt
 returns-clause-decrypt c = λ words asked. (decrypt_asks words asked, decrypt_is_read words asked)
+
+pub returns-clause-migrate : goal.returns-clause-migrate
+returns-clause-migrate c = λ words asked. (migrate_asks words asked, migrate_is_read words asked)
