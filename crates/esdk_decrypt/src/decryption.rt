@@ -1,7 +1,7 @@
 //! The decryption of an input.
 ghost use Rattle.std.specs.Prelude.{◌≡◌, ◌+◌, ◌≤◌, ◌^◌, true, List, IfOk, IfErr};
 ghost use Rattle.esdk_fields.specs.Counts.{Stayed};
-ghost use Rattle.esdk_base.specs.Streams.{SourceState, sink_state, source_state};
+ghost use Rattle.esdk_base.specs.Streams.{SourceState};
 ghost use Rattle.keyring_trait.specs.Manager.{ManagerGoes, TellsOn};
 ghost use Rattle.keyring_trait.specs.Wrapping.{WrapKeyValue};
 ghost use Rattle.body_format.specs.declared.verdicts.Verdict.TheVariants.{Whole};
@@ -50,27 +50,27 @@ pub fn decrypt<M: Manager, S: Source, O: Sink>(
 ) -> Result<Context, DecryptError>
     ensures done { IfOk result (λ context. Decrypts
         (record { manager = answering_of (M.meaning manager.old) (M.meaning manager.new) (M.tells manager.old) (M.exact manager.old) (M.found manager.new) now; settings = settings; given = given.now })
-        (source_state S.left S.given S.faults input.old) (source_state S.left S.given S.faults input.new)
-        (sink_state O.written O.faults output.old) (sink_state O.written O.faults output.new) context) }
+        (S.state input.old) (S.state input.new)
+        (O.state output.old) (O.state output.new) context) }
     ensures ends { IfErr result (λ error. EndsSo
         (record { manager = answering_of (M.meaning manager.old) (M.meaning manager.new) (M.tells manager.old) (M.exact manager.old) (M.found manager.new) now; settings = settings; given = given.now })
-        (source_state S.left S.given S.faults input.old) (source_state S.left S.given S.faults input.new)
-        (sink_state O.written O.faults output.old) (sink_state O.written O.faults output.new) (output.new ≡ output.old) error) }
+        (S.state input.old) (S.state input.new)
+        (O.state output.old) (O.state output.new) (output.new ≡ output.old) error) }
     ensures reads { (keys : List WrapKeyValue) → M.tells manager.old keys → M.exact manager.old → Stayed (M.meaning manager.old).faults (M.meaning manager.new).faults
         → IfOk result (λ context. Decrypts
         (asked_by (record { keys = keys; settings = settings; given = given.now; required = (M.meaning manager.old).demands }))
-        (source_state S.left S.given S.faults input.old) (source_state S.left S.given S.faults input.new)
-        (sink_state O.written O.faults output.old) (sink_state O.written O.faults output.new) context) }
+        (S.state input.old) (S.state input.new)
+        (O.state output.old) (O.state output.new) context) }
     ensures stops { (keys : List WrapKeyValue) → M.tells manager.old keys → M.exact manager.old → Stayed (M.meaning manager.old).faults (M.meaning manager.new).faults
         → IfErr result (EndsSo
         (asked_by (record { keys = keys; settings = settings; given = given.now; required = (M.meaning manager.old).demands }))
-        (source_state S.left S.given S.faults input.old) (source_state S.left S.given S.faults input.new)
-        (sink_state O.written O.faults output.old) (sink_state O.written O.faults output.new) (output.new ≡ output.old)) }
+        (S.state input.old) (S.state input.new)
+        (O.state output.old) (O.state output.new) (output.new ≡ output.old)) }
     ensures goes { ManagerGoes (M.meaning manager.old) (M.meaning manager.new) }
     ensures tells { TellsOn (M.tells manager.old) (M.tells manager.new) }
     ensures same { (M.meaning manager.old).plain ≡ true → TellsOn (M.tells manager.new) (M.tells manager.old) }
     ensures exact { M.exact manager.old → M.exact manager.new }
-    ensures taken { S.given input.new ≤ S.given input.old + 2 ^ 62 }
+    ensures taken { (S.state input.new).given ≤ (S.state input.old).given + 2 ^ 62 }
 {
     // Where the manager isn't asked, it stays as it is: `wraps` says so of a steady one's count.
     let _wraps = manager.wraps();
@@ -92,10 +92,10 @@ fn decrypt_taken<M: Manager, O: Sink>(
     requires { ManagerGoes (M.meaning manager.old) (M.meaning manager.old) }
     ensures done { (first after : SourceState) → TakesAll first after taken → IfOk result (λ context. Decrypts
         (record { manager = answering_of (M.meaning manager.old) (M.meaning manager.new) (M.tells manager.old) (M.exact manager.old) (M.found manager.new) now; settings = settings; given = given.now })
-        first after (sink_state O.written O.faults output.old) (sink_state O.written O.faults output.new) context) }
+        first after (O.state output.old) (O.state output.new) context) }
     ensures ends { (first after : SourceState) → TakesAll first after taken → IfErr result (λ error. EndsSo
         (record { manager = answering_of (M.meaning manager.old) (M.meaning manager.new) (M.tells manager.old) (M.exact manager.old) (M.found manager.new) now; settings = settings; given = given.now })
-        first after (sink_state O.written O.faults output.old) (sink_state O.written O.faults output.new) (output.new ≡ output.old) error) }
+        first after (O.state output.old) (O.state output.new) (output.new ≡ output.old) error) }
     ensures goes { ManagerGoes (M.meaning manager.old) (M.meaning manager.new) }
     ensures tells { TellsOn (M.tells manager.old) (M.tells manager.new) }
     ensures same { (M.meaning manager.old).plain ≡ true → TellsOn (M.tells manager.new) (M.tells manager.old) }

@@ -4,6 +4,8 @@ ghost use Rattle.esdk_decrypt.specs.declared.errors.DecryptError.TheVariants.{Me
 
 use esdk_fields::{Fault, Outside};
 use std::alloc::AllocError;
+use std::error::Error;
+use std::fmt;
 
 /// Why an input isn't decrypted.
 #[derive(Drop)]
@@ -15,6 +17,24 @@ pub enum DecryptError {
     /// Memory ran out.
     Memory,
 }
+
+impl fmt::Display for DecryptError {
+    fn fmt<W: fmt::Write>(&self, f: &mut fmt::Formatter<W>) -> fmt::Result {
+        match self {
+            DecryptError::Fault(fault) => fmt::Display::fmt(fault, f),
+            DecryptError::Outside(outside) => fmt::Display::fmt(outside, f),
+            DecryptError::Memory => f.write_str("memory ran out"),
+        }
+    }
+}
+
+impl fmt::Debug for DecryptError {
+    fn fmt<W: fmt::Write>(&self, f: &mut fmt::Formatter<W>) -> fmt::Result {
+        fmt::Display::fmt(self, f)
+    }
+}
+
+impl Error for DecryptError {}
 
 impl From<AllocError> for DecryptError {
     ghost from_gives = { λ _ error. error ≡ Memory };

@@ -10,9 +10,9 @@ use esdk_fields::Blob;
 
 /// Writes the units one after another. A unit of no bytes isn't put.
 pub(crate) fn put_units<O: Sink>(units: &[Blob], output: &mut O) -> Result<(), Failed>
-    ensures whole { OnOk result (Appends (O.written output.old) (O.written output.new) (concat units.now)) }
-    ensures front { OnErr result (AppendsFront (O.written output.old) (O.written output.new) (concat units.now)) }
-    ensures cause { HasCause (O.faults output.old) (O.faults output.new) result }
+    ensures whole { OnOk result (Appends (O.state output.old).written (O.state output.new).written (concat units.now)) }
+    ensures front { OnErr result (AppendsFront (O.state output.old).written (O.state output.new).written (concat units.now)) }
+    ensures cause { HasCause (O.state output.old).faults (O.state output.new).faults result }
 {
     for unit in units {
         match put_unit(unit, output) {
@@ -25,9 +25,9 @@ pub(crate) fn put_units<O: Sink>(units: &[Blob], output: &mut O) -> Result<(), F
 
 /// Writes a unit, if it has any bytes.
 fn put_unit<O: Sink>(unit: &Blob, output: &mut O) -> Result<(), Failed>
-    ensures whole { OnOk result (Appends (O.written output.old) (O.written output.new) unit.now) }
-    ensures front { OnErr result (AppendsFront (O.written output.old) (O.written output.new) unit.now) }
-    ensures cause { HasCause (O.faults output.old) (O.faults output.new) result }
+    ensures whole { OnOk result (Appends (O.state output.old).written (O.state output.new).written unit.now) }
+    ensures front { OnErr result (AppendsFront (O.state output.old).written (O.state output.new).written unit.now) }
+    ensures cause { HasCause (O.state output.old).faults (O.state output.new).faults result }
 {
     if unit.bytes().is_empty() {
         return Ok(());

@@ -3,7 +3,6 @@
 ghost use Rattle.std.specs.Prelude.{◌≡◌, ◌≤◌, length, IfOk, IfErr};
 ghost use Rattle.std.specs.Io.KnownBytes.{Keeps};
 ghost use Rattle.esdk_fields.specs.Counts.{HasCause};
-ghost use Rattle.esdk_base.specs.Streams.{entropy_state};
 ghost use Rattle.esdk_encrypt.specs.Encrypt.{Drew, drawn_id, drawn_rest};
 
 use esdk_base::{Entropy, Failed};
@@ -58,9 +57,9 @@ impl Draws {
 /// Draws them by one fill: 32 of message id, 32 of data key, and 12 of IV for each wrap.
 pub(crate) fn draw<W: Entropy>(entropy: &mut W, wraps: u32) -> Result<Draws, Failed>
     requires { wraps ≤ 64 }
-    ensures drew { IfOk result (λ drawn. Drew wraps (entropy_state W.to_come W.faults entropy.old) (entropy_state W.to_come W.faults entropy.new) drawn) }
-    ensures kept { IfErr result (λ _. Keeps (W.to_come entropy.old) (W.to_come entropy.new)) }
-    ensures cause { HasCause (W.faults entropy.old) (W.faults entropy.new) result }
+    ensures drew { IfOk result (λ drawn. Drew wraps (W.state entropy.old) (W.state entropy.new) drawn) }
+    ensures kept { IfErr result (λ _. Keeps (W.state entropy.old).to_come (W.state entropy.new).to_come) }
+    ensures cause { HasCause (W.state entropy.old).faults (W.state entropy.new).faults result }
 {
     let count = 64 + 12 * wraps as usize;
     let mut bytes = [0; MOST_DRAWN];

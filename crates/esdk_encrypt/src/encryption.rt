@@ -4,7 +4,6 @@ ghost use Rattle.std.specs.Prelude.{◌≡◌, ◌+◌, ◌≤◌, ◌^◌, ◌+
 ghost use Rattle.std.specs.Io.KnownBytes.{Appends};
 ghost use Rattle.body_format.specs.Written.{framed_body};
 ghost use Rattle.esdk_base.specs.Sink.{AppendsFront};
-ghost use Rattle.esdk_base.specs.Streams.{entropy_state, sink_state, source_state};
 ghost use Rattle.keyring_trait.specs.Manager.{ManagerGoes, TellsOn};
 ghost use Rattle.keyring_trait.specs.Wrapping.{WrapKeyValue};
 ghost use Rattle.message_format.specs.Message.{under};
@@ -54,36 +53,36 @@ pub fn encrypt<M: Manager, S: Source, O: Sink, W: Entropy>(
     // Over any manager. The materials are the last that the manager which is left gave, at the moment of the options.
     ensures done { OnOk result (Encrypts
         (asked_of (M.meaning manager.old) (M.meaning manager.new) (M.tells manager.old) (M.exact manager.old) (M.gave manager.new request.now options.now) request.now options.frame_length options.max_keys)
-        (source_state S.left S.given S.faults input.old) (source_state S.left S.given S.faults input.new)
-        (sink_state O.written O.faults output.old) (sink_state O.written O.faults output.new)
-        (entropy_state W.to_come W.faults entropy.old) (entropy_state W.to_come W.faults entropy.new)) }
+        (S.state input.old) (S.state input.new)
+        (O.state output.old) (O.state output.new)
+        (W.state entropy.old) (W.state entropy.new)) }
     ensures ends { IfErr result (λ error. EndsSo
         (asked_of (M.meaning manager.old) (M.meaning manager.new) (M.tells manager.old) (M.exact manager.old) (M.gave manager.new request.now options.now) request.now options.frame_length options.max_keys)
-        (source_state S.left S.given S.faults input.old) (source_state S.left S.given S.faults input.new)
-        (sink_state O.written O.faults output.old) (sink_state O.written O.faults output.new)
-        (entropy_state W.to_come W.faults entropy.old) (entropy_state W.to_come W.faults entropy.new)
+        (S.state input.old) (S.state input.new)
+        (O.state output.old) (O.state output.new)
+        (W.state entropy.old) (W.state entropy.new)
         ((input.new ≡ input.old) × (output.new ≡ output.old)) (manager.new ≡ manager.old) error) }
 
     // Over a manager that is exact and plain, and tells its keys.
     ensures writes { (keys : List WrapKeyValue) → M.tells manager.old keys → M.exact manager.old → (M.meaning manager.old).plain ≡ true
         → OnOk result (Encrypts
         (asked_told keys (M.meaning manager.old) (M.meaning manager.new) request.now options.frame_length options.max_keys)
-        (source_state S.left S.given S.faults input.old) (source_state S.left S.given S.faults input.new)
-        (sink_state O.written O.faults output.old) (sink_state O.written O.faults output.new)
-        (entropy_state W.to_come W.faults entropy.old) (entropy_state W.to_come W.faults entropy.new)) }
+        (S.state input.old) (S.state input.new)
+        (O.state output.old) (O.state output.new)
+        (W.state entropy.old) (W.state entropy.new)) }
     ensures stops { (keys : List WrapKeyValue) → M.tells manager.old keys → M.exact manager.old → (M.meaning manager.old).plain ≡ true
         → IfErr result (λ error. EndsSo
         (asked_told keys (M.meaning manager.old) (M.meaning manager.new) request.now options.frame_length options.max_keys)
-        (source_state S.left S.given S.faults input.old) (source_state S.left S.given S.faults input.new)
-        (sink_state O.written O.faults output.old) (sink_state O.written O.faults output.new)
-        (entropy_state W.to_come W.faults entropy.old) (entropy_state W.to_come W.faults entropy.new)
+        (S.state input.old) (S.state input.new)
+        (O.state output.old) (O.state output.new)
+        (W.state entropy.old) (W.state entropy.new)
         ((input.new ≡ input.old) × (output.new ≡ output.old)) (manager.new ≡ manager.old) error) }
 
     ensures goes { ManagerGoes (M.meaning manager.old) (M.meaning manager.new) }
     ensures tells { TellsOn (M.tells manager.old) (M.tells manager.new) }
     ensures same { (M.meaning manager.old).plain ≡ true → TellsOn (M.tells manager.new) (M.tells manager.old) }
     ensures exact { M.exact manager.old → M.exact manager.new }
-    ensures taken { S.given input.new ≤ S.given input.old + 2 ^ 62 }
+    ensures taken { (S.state input.new).given ≤ (S.state input.old).given + 2 ^ 62 }
 {
     let wraps = manager.wraps();
     let draws = match draw(entropy, wraps) {
@@ -146,12 +145,12 @@ fn put_input<S: Source, O: Sink>(
 ) -> Result<(), EncryptError>
     requires some { 1 ≤ frame_length }
     ensures done { OnOk result (Writes (λ text. start.now ++ framed_body (under frame_length key.now message_id.now) text) frame_length
-        (source_state S.left S.given S.faults input.old) (source_state S.left S.given S.faults input.new)
-        (sink_state O.written O.faults output.old) (sink_state O.written O.faults output.new)) }
+        (S.state input.old) (S.state input.new)
+        (O.state output.old) (O.state output.new)) }
     ensures stops { IfErr result (StopsSo (λ text. start.now ++ framed_body (under frame_length key.now message_id.now) text) frame_length
-        (source_state S.left S.given S.faults input.old) (source_state S.left S.given S.faults input.new)
-        (sink_state O.written O.faults output.old) (sink_state O.written O.faults output.new)) }
-    ensures taken { S.given input.new ≤ S.given input.old + 2 ^ 62 }
+        (S.state input.old) (S.state input.new)
+        (O.state output.old) (O.state output.new)) }
+    ensures taken { (S.state input.new).given ≤ (S.state input.old).given + 2 ^ 62 }
 {
     let taken = match take_all(alloc, input) {
         Ok(taken) => taken,
@@ -198,11 +197,11 @@ fn put_message<O: Sink>(
 ) -> Result<(), EncryptError>
     requires some { 1 ≤ frame_length }
     requires short { length text.now ≤ most_text frame_length }
-    ensures whole { OnOk result (Appends (O.written output.old) (O.written output.new)
+    ensures whole { OnOk result (Appends (O.state output.old).written (O.state output.new).written
         (start.now ++ framed_body (under frame_length key.now message_id.now) text.now)) }
-    ensures front { OnErr result (AppendsFront (O.written output.old) (O.written output.new)
+    ensures front { OnErr result (AppendsFront (O.state output.old).written (O.state output.new).written
         (start.now ++ framed_body (under frame_length key.now message_id.now) text.now)) }
-    ensures cause { IfErr result (PutCause (O.faults output.old) (O.faults output.new)) }
+    ensures cause { IfErr result (PutCause (O.state output.old).faults (O.state output.new).faults) }
 {
     match put(start, output) {
         Ok(()) => {}

@@ -4,6 +4,8 @@ ghost use Rattle.esdk_encrypt.specs.declared.errors.EncryptError.TheVariants.{Me
 
 use esdk_fields::{Outside, Refusal};
 use std::alloc::{AllocError, AllocFailed};
+use std::error::Error;
+use std::fmt;
 
 /// Why an input isn't encrypted.
 #[derive(Drop)]
@@ -15,6 +17,24 @@ pub enum EncryptError {
     /// Memory ran out.
     Memory,
 }
+
+impl fmt::Display for EncryptError {
+    fn fmt<W: fmt::Write>(&self, f: &mut fmt::Formatter<W>) -> fmt::Result {
+        match self {
+            EncryptError::Refusal(refusal) => fmt::Display::fmt(refusal, f),
+            EncryptError::Outside(outside) => fmt::Display::fmt(outside, f),
+            EncryptError::Memory => f.write_str("memory ran out"),
+        }
+    }
+}
+
+impl fmt::Debug for EncryptError {
+    fn fmt<W: fmt::Write>(&self, f: &mut fmt::Formatter<W>) -> fmt::Result {
+        fmt::Display::fmt(self, f)
+    }
+}
+
+impl Error for EncryptError {}
 
 impl From<AllocError> for EncryptError {
     ghost from_gives = { λ _ error. error ≡ Memory };

@@ -23,11 +23,11 @@ pub(crate) fn put_frames<O: Sink>(
     output: &mut O,
 ) -> Result<(), EncryptError>
     requires framed { IsFramed (record { key = key.now; id = message_id.now; frame = frame_length }) text.now }
-    ensures whole { OnOk result (Appends (O.written output.old) (O.written output.new)
+    ensures whole { OnOk result (Appends (O.state output.old).written (O.state output.new).written
         (framed_body (record { key = key.now; id = message_id.now; frame = frame_length }) text.now)) }
-    ensures front { OnErr result (AppendsFront (O.written output.old) (O.written output.new)
+    ensures front { OnErr result (AppendsFront (O.state output.old).written (O.state output.new).written
         (framed_body (record { key = key.now; id = message_id.now; frame = frame_length }) text.now)) }
-    ensures cause { IfErr result (PutCause (O.faults output.old) (O.faults output.new)) }
+    ensures cause { IfErr result (PutCause (O.state output.old).faults (O.state output.new).faults) }
 {
     let size = frame_length as usize;
     let mut left = text;
@@ -54,12 +54,12 @@ fn put_regular_frame<O: Sink>(
     output: &mut O,
 ) -> Result<(), EncryptError>
     requires short { length text.now < 2 ^ 32 }
-    ensures whole { (frame : ℕ) → OnOk result (Appends (O.written output.old) (O.written output.new)
+    ensures whole { (frame : ℕ) → OnOk result (Appends (O.state output.old).written (O.state output.new).written
         (regular_frame (record { key = key.now; id = message_id.now; frame = frame }) number text.now)) }
-    ensures front { (frame : ℕ) → OnErr result (AppendsFront (O.written output.old) (O.written output.new)
+    ensures front { (frame : ℕ) → OnErr result (AppendsFront (O.state output.old).written (O.state output.new).written
         (regular_frame (record { key = key.now; id = message_id.now; frame = frame }) number text.now)) }
-    ensures cause { IfErr result (PutCause (O.faults output.old) (O.faults output.new)) }
-    ensures same { OnOk result (O.faults output.new ≡ O.faults output.old) }
+    ensures cause { IfErr result (PutCause (O.state output.old).faults (O.state output.new).faults) }
+    ensures same { OnOk result ((O.state output.new).faults ≡ (O.state output.old).faults) }
 {
     let mut frame = Blob::new(alloc);
     match write_regular_frame(alloc, key, message_id, number, text, &mut frame) {
@@ -78,11 +78,11 @@ fn put_final_frame<O: Sink>(
     output: &mut O,
 ) -> Result<(), EncryptError>
     requires short { length text.now < 2 ^ 32 }
-    ensures whole { (frame : ℕ) → OnOk result (Appends (O.written output.old) (O.written output.new)
+    ensures whole { (frame : ℕ) → OnOk result (Appends (O.state output.old).written (O.state output.new).written
         (final_frame (record { key = key.now; id = message_id.now; frame = frame }) number text.now)) }
-    ensures front { (frame : ℕ) → OnErr result (AppendsFront (O.written output.old) (O.written output.new)
+    ensures front { (frame : ℕ) → OnErr result (AppendsFront (O.state output.old).written (O.state output.new).written
         (final_frame (record { key = key.now; id = message_id.now; frame = frame }) number text.now)) }
-    ensures cause { IfErr result (PutCause (O.faults output.old) (O.faults output.new)) }
+    ensures cause { IfErr result (PutCause (O.state output.old).faults (O.state output.new).faults) }
 {
     let mut frame = Blob::new(alloc);
     match write_final_frame(alloc, key, message_id, number, text, &mut frame) {
@@ -93,10 +93,10 @@ fn put_final_frame<O: Sink>(
 
 /// Writes these bytes.
 pub(crate) fn put<O: Sink>(bytes: &Blob, output: &mut O) -> Result<(), EncryptError>
-    ensures whole { OnOk result (Appends (O.written output.old) (O.written output.new) bytes.now) }
-    ensures front { OnErr result (AppendsFront (O.written output.old) (O.written output.new) bytes.now) }
-    ensures cause { IfErr result (PutCause (O.faults output.old) (O.faults output.new)) }
-    ensures same { OnOk result (O.faults output.new ≡ O.faults output.old) }
+    ensures whole { OnOk result (Appends (O.state output.old).written (O.state output.new).written bytes.now) }
+    ensures front { OnErr result (AppendsFront (O.state output.old).written (O.state output.new).written bytes.now) }
+    ensures cause { IfErr result (PutCause (O.state output.old).faults (O.state output.new).faults) }
+    ensures same { OnOk result ((O.state output.new).faults ≡ (O.state output.old).faults) }
 {
     match output.put(bytes.bytes()) {
         Ok(()) => Ok(()),

@@ -6,6 +6,8 @@ ghost use Rattle.stream_seal.specs.declared.errors.SealError.TheVariants.{Memory
 use context_codec::PairError;
 use esdk_fields::Refusal;
 use std::alloc::AllocError;
+use std::error::Error;
+use std::fmt;
 
 /// Why a call of a sealer fails.
 #[derive(Drop)]
@@ -17,6 +19,24 @@ pub enum SealError {
     /// Memory ran out.
     Memory,
 }
+
+impl fmt::Display for SealError {
+    fn fmt<W: fmt::Write>(&self, f: &mut fmt::Formatter<W>) -> fmt::Result {
+        match self {
+            SealError::Refusal(refusal) => fmt::Display::fmt(refusal, f),
+            SealError::Stopped => f.write_str("the sealer has stopped"),
+            SealError::Memory => f.write_str("memory ran out"),
+        }
+    }
+}
+
+impl fmt::Debug for SealError {
+    fn fmt<W: fmt::Write>(&self, f: &mut fmt::Formatter<W>) -> fmt::Result {
+        fmt::Display::fmt(self, f)
+    }
+}
+
+impl Error for SealError {}
 
 impl From<AllocError> for SealError {
     ghost from_gives = { λ _ error. error ≡ Memory };

@@ -5,6 +5,6 @@ use Rattle.esdk_decrypt.proofs.units.put_units.Given as goal
 
 abbrev pub invariant-loop-unit : goal.invariant-loop-unit
 invariant-loop-unit g l = record {
-  gained : Appends (g.O.Sink.written l.fn.output) (g.O.Sink.written l.output) (concat (take l.unit-index l.units));
-  faults : g.O.Sink.faults l.output ≡ g.O.Sink.faults l.fn.output;
+  gained : Appends (g.O.Sink.state l.fn.output).written (g.O.Sink.state l.output).written (concat (take l.unit-index l.units));
+  faults : (g.O.Sink.state l.output).faults ≡ (g.O.Sink.state l.fn.output).faults;
 }

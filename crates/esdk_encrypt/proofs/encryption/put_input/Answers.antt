@@ -1,7 +1,6 @@
 use Rattle.std.proofs.Common.{List, ◌++◌, ℕ}
 use Rattle.body_format.specs.Written.{framed_body}
 use Rattle.message_format.specs.Message.{under}
-use Rattle.esdk_base.specs.Streams.{sink_state}
 use Rattle.esdk_encrypt.proofs.Writing.{put_stops}
 use Rattle.esdk_encrypt.proofs.encryption.put_input.Goals as goal
 
@@ -11,5 +10,5 @@ returns-in-Ok-fits-clause-stops g c =
     let taken = rw c.in-Ok.is at c.take_all.ensures.taken in
     let fits = rw (c.in-Ok-fits.is, c.bytes.ensures) at c.fits.ensures in
     put_stops whole c.args.frame_length _ _
-    (sink_state g.O.Sink.written g.O.Sink.faults c.args.output.now) (sink_state g.O.Sink.written g.O.Sink.faults c.put_message.new.output)
+    (g.O.Sink.state c.args.output.now) (g.O.Sink.state c.put_message.new.output)
     c.in-Ok.taken.bytes c.put_message.result taken.came fits.0 (rw c.bytes-in-Ok-fits.ensures at c.put_message.ensures.front) c.put_message.ensures.cause

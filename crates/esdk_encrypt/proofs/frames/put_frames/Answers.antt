@@ -5,7 +5,7 @@ use Rattle.esdk_encrypt.proofs.frames.put_frames.Goals as goal
 
 pub loop-left-init : goal.loop-left-init
 loop-left-init g c = record {
-  laying = laying_none (record { key = c.args.key.now; id = c.args.message_id.now; frame = c.args.frame_length }) c.args.text.now (g.O.Sink.written c.args.output.now);
+  laying = laying_none (record { key = c.args.key.now; id = c.args.message_id.now; frame = c.args.frame_length }) c.args.text.now (g.O.Sink.state c.args.output.now).written;
   faults = refl;
   size = refl;
 }
