@@ -1,0 +1,73 @@
+-- What a failure leaves on the report: one line, and the exit status.
+use Rattle.std.specs.Prelude.{◌≡◌, ◌≤◌, ◌⊎◌, ℕ, List, [], ◌∷◌, ◌++◌, codes, decimal}
+use Rattle.std.specs.Io.KnownBytes.{Appends}
+use Rattle.esdk_args.specs.Options.{option_text}
+use Rattle.esdk_fields.specs.Counts.{Rose, Stayed}
+use Rattle.esdk_base.specs.Sink.{AppendsFront}
+use Rattle.context_codec.specs.Context.{KeyValue}
+use Rattle.esdk_base.specs.Streams.{SinkState}
+use Rattle.esdk_report.specs.Lines.{fault_line, file_line, outside_line, printed_line, refusal_line}
+use Rattle.esdk_report.specs.declared.failure.Failure.{Failure}
+use Rattle.esdk_report.specs.declared.failure.Failure.TheVariants as failures
+use Rattle.esdk_report.specs.ContextLine.{context_json}
+
+-- the line of a failure, without `esdk: ` and without its line feed
+abbrev pub line_of : Failure → List ℕ
+line_of failures.NotBuilt = codes "words NotBuilt"
+line_of (failures.BadNumber name) = codes "words BadNumber " ++ option_text name
+line_of (failures.BadPair number) = codes "words BadPair " ++ decimal number
+line_of (failures.Fault fault) = fault_line fault
+line_of (failures.File refusal) = file_line refusal
+line_of (failures.Outside outside) = outside_line outside
+line_of (failures.Refusal refusal) = refusal_line refusal
+line_of failures.Memory = codes "Memory"
+
+-- the exit status of a failure
+abbrev pub code_of : Failure → ℕ
+code_of failures.NotBuilt = 2
+code_of (failures.BadNumber name) = 2
+code_of (failures.BadPair number) = 2
+code_of (failures.Fault fault) = 1
+code_of (failures.File refusal) = 3
+code_of (failures.Outside outside) = 4
+code_of (failures.Refusal refusal) = 6
+code_of failures.Memory = 5
+
+-- The report gained these bytes, or a front of them where its count of faults rose.
+pub record Gains (bytes : List ℕ) (old new : SinkState) : Type 0 where
+  pub later : old.faults ≤ new.faults
+  pub front : AppendsFront old.written new.written bytes
+  pub whole : Stayed old.faults new.faults → Appends old.written new.written bytes
+
+-- The status is this failure's, and the report gained the failure's line.
+pub record Answers (failure : Failure) (code : ℕ) (old new : SinkState) : Type 0 where
+  pub status : code ≡ code_of failure
+  pub line : Gains (printed_line (line_of failure)) old new
+
+-- So it is, but that memory may be missing for the line of a bad pair, of a fault or of a refusal.
+abbrev pub Reports : Failure → ℕ → SinkState → SinkState → Type 0
+Reports (failures.BadPair number) code old new = Answers (failures.BadPair number) code old new ⊎ Answers failures.Memory code old new
+Reports (failures.Fault fault) code old new = Answers (failures.Fault fault) code old new ⊎ Answers failures.Memory code old new
+Reports (failures.File refusal) code old new = Answers (failures.File refusal) code old new ⊎ Answers failures.Memory code old new
+Reports (failures.Refusal refusal) code old new = Answers (failures.Refusal refusal) code old new ⊎ Answers failures.Memory code old new
+Reports failure code old new = Answers failure code old new
+
+-- the line of a whole context, as it is printed once a message was decrypted
+unfoldable pub context_line : List KeyValue → List ℕ
+context_line pairs = context_json pairs ++ 10 ∷ []
+
+-- The report gained the context's line, and the status is 0.
+pub record ShowsContext (pairs : List KeyValue) (code : ℕ) (old new : SinkState) : Type 0 where
+  pub status : code ≡ 0
+  pub line : Appends old.written new.written (context_line pairs)
+  pub faults : new.faults ≡ old.faults
+
+-- The report failed: it gained a front of the context's line, and the status is 4.
+pub record LosesContext (pairs : List KeyValue) (code : ℕ) (old new : SinkState) : Type 0 where
+  pub status : code ≡ 4
+  pub front : AppendsFront old.written new.written (context_line pairs)
+  pub rose : Rose old.faults new.faults
+
+-- what telling the context comes to
+abbrev pub TellsContext : List KeyValue → ℕ → SinkState → SinkState → Type 0
+TellsContext pairs code old new = ShowsContext pairs code old new ⊎ LosesContext pairs code old new
