@@ -1,5 +1,5 @@
 -- What `decrypt` says over the tree that it gives back.
-use Rattle.std.proofs.Common.{◌≡◌, ℕ, List, Some, inl, inr, sym, ap, subst, arith}
+use Rattle.std.proofs.Common.{◌≡◌, ℕ, List, Some, inl, inr, ap, subst, arith}
 use Rattle.esdk_args.specs.declared.request.DecryptWords.{DecryptWords}
 use Rattle.esdk_fields.specs.Counts.{Stayed}
 use Rattle.esdk_base.specs.Streams.{SinkState}
@@ -15,10 +15,10 @@ use Rattle.esdk_decrypt.specs.Told.{Reader, asked_by}
 use Rattle.esdk_decrypt.proofs.RoundTrip.{text_decrypted, written_whole}
 use Rattle.esdk_decrypt.proofs.Told.{decrypts_allowed, ends_allowed}
 use Rattle.esdk_decrypt.proofs.WholeInputs.{all_decrypted, first_fault, memory_alone}
-use Rattle.esdk_run.specs.declared.failure.Failure.TheVariants as failures
+use Rattle.esdk_report.specs.declared.failure.Failure.TheVariants as failures
 use Rattle.esdk_run.specs.Decrypt.{asked_of, limits_of, reader_of}
 use Rattle.esdk_run.specs.Objects.{Objects}
-use Rattle.esdk_run.specs.Report.{ShowsContext, TellsContext}
+use Rattle.esdk_report.specs.Report.{ShowsContext, TellsContext}
 use Rattle.esdk_run.specs.Run.{DecryptRuns}
 use Rattle.esdk_run.specs.Told.{DecryptsWholeMessages, GivesBack, IfNoneFailed, IsDoneOrMemory, NamesFault, NothingFails, Reads, ReadsBack, SaysTheJudgement, SaysWhatItReads, ShowsWhole}
 use Rattle.esdk_run.specs.Trees.{Trees}

@@ -20,15 +20,15 @@ use Rattle.esdk_encrypt.specs.Told.{asked_by}
 use Rattle.esdk_encrypt.proofs.Fitting.{only_memory_ends}
 use Rattle.esdk_encrypt.proofs.Gaining.{gains_message}
 use Rattle.esdk_encrypt.proofs.Telling.{encrypts_more}
-use Rattle.esdk_run.specs.declared.failure.Failure.{Failure}
-use Rattle.esdk_run.specs.declared.failure.Failure.TheVariants as failures
+use Rattle.esdk_report.specs.declared.failure.Failure.{Failure}
+use Rattle.esdk_report.specs.declared.failure.Failure.TheVariants as failures
 use Rattle.esdk_run.specs.Encrypt.{EncryptFails, asked_of, refusal_asked, writer_of}
 use Rattle.esdk_run.specs.Objects.{Objects}
 use Rattle.esdk_run.specs.Pairs.{context_in, required_in}
-use Rattle.esdk_run.specs.Report.{Reports}
+use Rattle.esdk_report.specs.Report.{Reports}
 use Rattle.esdk_run.specs.Run.{EncryptRuns, IsDone}
 use Rattle.esdk_run.specs.Told.{ComesBack, EncryptsWhatFits, GivesTree, HoldsTree, IsDoneOrMemory, NothingFails, WritesTheMessage}
-use Rattle.esdk_run.specs.Trees.{HasTree, TreeGoes, Trees}
+use Rattle.esdk_run.specs.Trees.{HasTree, Trees}
 use Rattle.esdk_run.proofs.Files.{held_is_read, held_is_taken}
 use Rattle.esdk_run.proofs.Given.{one_context, pairs_not_refused}
 use Rattle.esdk_run.proofs.Keys.{told_says_more, tree_grants}

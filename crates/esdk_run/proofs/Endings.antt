@@ -12,7 +12,7 @@ use Rattle.message_format.specs.Judgement.{content, judged}
 use Rattle.esdk_encrypt.specs.declared.errors.EncryptError.{EncryptError}
 use Rattle.esdk_encrypt.specs.declared.errors.EncryptError.TheVariants as errors
 use Rattle.esdk_decrypt.specs.declared.errors.DecryptError.TheVariants as ends
-use Rattle.esdk_run.specs.declared.failure.Failure.{Failure}
+use Rattle.esdk_report.specs.declared.failure.Failure.{Failure}
 use Rattle.esdk_run.specs.Decrypt.{DecryptionFails, DecryptsInput, limits_of}
 use Rattle.esdk_run.specs.Encrypt.{EncryptFails, EncryptionFails, IsEncryptFailure}
 use Rattle.esdk_run.specs.Objects.{Objects}

@@ -8,8 +8,9 @@ use Rattle.esdk_base.specs.Streams.{FailsToRead, ShelfState}
 use Rattle.esdk_fields.specs.declared.refusals.FileRefusal.{FileRefusal}
 use Rattle.keyring_trait.specs.Keyring.{KeyringMeaning}
 use Rattle.whole_input.specs.File.{IsUnread}
+use Rattle.esdk_run.specs.FileReading.{FileIsRefused}
 use Rattle.esdk_run.specs.Told.{HoldsTree}
-use Rattle.esdk_run.specs.Trees.{FileIsRefused, TreeIs, Trees}
+use Rattle.esdk_run.specs.Trees.{TreeIs, Trees}
 
 one_tree : (t u : KeyringMeaning) (read : Result (List KeyringMeaning) FileRefusal) → read ≡ Ok (t ∷ []) → read ≡ Ok (u ∷ []) → t ≡ u
 one_tree t u read is_t is_u = let same : Ok (t ∷ []) ≡ Ok (u ∷ []) = sym is_t ∙ is_u in cc
@@ -25,13 +26,13 @@ held_is_there None name bytes holds missing = absurd cc
 held_is_there (Some files) name bytes holds missing = absurd cc
 
 -- no read of it fails, unless the shelf does
-no_read_fails : (trees : Trees) (old new : ShelfState) (name : List ℕ) (tree : KeyringMeaning) → HoldsTree trees old.files name tree → Stayed old.faults new.faults → FailsToRead old new name → ⊥
-no_read_fails trees old new name tree held stayed (inl rose) = absurd (omega (arith, stayed, rose))
-no_read_fails trees old new name tree held stayed (inr missing) = held_is_there old.files name held.bytes held.holds missing.0
+pub no_read_fails : (old new : ShelfState) (name bytes : List ℕ) → Holds old.files name bytes → Stayed old.faults new.faults → FailsToRead old new name → ⊥
+no_read_fails old new name bytes holds stayed (inl rose) = absurd (omega (arith, stayed, rose))
+no_read_fails old new name bytes holds stayed (inr missing) = held_is_there old.files name bytes holds missing.0
 
 -- it is read
 pub held_is_read : (trees : Trees) (old new : ShelfState) (name : List ℕ) (tree : KeyringMeaning) → HoldsTree trees old.files name tree → Stayed old.faults new.faults → IsUnread old new name → ⊥
-held_is_read trees old new name tree held stayed unread = no_read_fails trees old new name tree held stayed unread.cause
+held_is_read trees old new name tree held stayed unread = no_read_fails old new name held.bytes held.holds stayed unread.cause
 
 -- it isn't refused
 pub held_is_taken : (trees : Trees) (old new : ShelfState) (name : List ℕ) (tree : KeyringMeaning) (refusal : FileRefusal) → HoldsTree trees old.files name tree

@@ -1,7 +1,3 @@
-pub mod Feeding
-pub mod Gained
-pub mod Lines
-pub mod Shown
 pub mod Asked
 pub mod Given
 pub mod Chain
@@ -12,4 +8,5 @@ pub mod Statuses
 pub mod Reading
 pub mod TreesBack
 pub mod Encryption
+pub mod Migration
 pub mod Decryption

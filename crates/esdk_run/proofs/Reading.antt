@@ -14,11 +14,11 @@ use Rattle.esdk_decrypt.specs.declared.errors.DecryptError.TheVariants as errors
 use Rattle.esdk_decrypt.specs.Decrypt.{Asked, Decrypts, EndsSo, HasFault, Releases, ReleasesFront, fault_at_end, fault_of}
 use Rattle.esdk_decrypt.specs.Told.{Reader, asked_by, judged_by}
 use Rattle.esdk_decrypt.proofs.Readers.{answers_unlocking, judged_reader, never_fails}
-use Rattle.esdk_run.specs.declared.failure.Failure.{Failure}
-use Rattle.esdk_run.specs.declared.failure.Failure.TheVariants as failures
+use Rattle.esdk_report.specs.declared.failure.Failure.{Failure}
+use Rattle.esdk_report.specs.declared.failure.Failure.TheVariants as failures
 use Rattle.esdk_run.specs.Objects.{Objects}
 use Rattle.esdk_run.specs.Read.{EndsAsRead, GainsFront, GainsRead, ReadsFault, ReadsWhole, SaysWhatIsRead}
-use Rattle.esdk_run.specs.Report.{Reports, TellsContext}
+use Rattle.esdk_report.specs.Report.{Reports, TellsContext}
 
 -- what an error is called in the program
 abbrev pub failure_of : DecryptError → Failure

@@ -2,10 +2,10 @@
 use Rattle.std.proofs.Common.{◌≡◌, ℕ, inl, inr, refl, subst, arith}
 use Rattle.esdk_base.specs.Streams.{SinkState}
 use Rattle.esdk_fields.specs.declared.faults.Fault.{Fault}
-use Rattle.esdk_fields.specs.Report.{fault_line, printed_line}
-use Rattle.esdk_run.specs.declared.failure.Failure.{Failure}
-use Rattle.esdk_run.specs.declared.failure.Failure.TheVariants as failures
-use Rattle.esdk_run.specs.Report.{Gains, Reports}
+use Rattle.esdk_report.specs.Lines.{fault_line, printed_line}
+use Rattle.esdk_report.specs.declared.failure.Failure.{Failure}
+use Rattle.esdk_report.specs.declared.failure.Failure.TheVariants as failures
+use Rattle.esdk_report.specs.Report.{Gains, Reports}
 
 -- want of memory
 pub memory_status : (failure : Failure) (code : ℕ) (old new : SinkState) → failure ≡ failures.Memory → Reports failure code old new → code ≡ 5

@@ -9,12 +9,12 @@ use Rattle.context_codec.specs.Context.{KeyValue}
 use Rattle.keyring_trait.specs.Keyring.{KeyringMeaning}
 use Rattle.keyring_trait.specs.Wrapping.{WrapKeyValue}
 use Rattle.esdk_decrypt.specs.declared.errors.DecryptError.TheVariants as errors
-use Rattle.esdk_run.specs.declared.failure.Failure.{Failure}
-use Rattle.esdk_run.specs.declared.failure.Failure.TheVariants as failures
+use Rattle.esdk_report.specs.declared.failure.Failure.{Failure}
+use Rattle.esdk_report.specs.declared.failure.Failure.TheVariants as failures
 use Rattle.esdk_run.specs.Decrypt.{DecryptFails, asked_of}
 use Rattle.esdk_run.specs.Objects.{Objects}
 use Rattle.esdk_run.specs.Pairs.{context_in}
-use Rattle.esdk_run.specs.Report.{Reports}
+use Rattle.esdk_report.specs.Report.{Reports}
 use Rattle.esdk_run.specs.Run.{DecryptRuns}
 use Rattle.esdk_run.specs.Told.{ComesBack, GivesTree, HoldsTree, IsLeft}
 use Rattle.esdk_run.specs.Trees.{HasTree, TreeGoes, Trees}

@@ -15,8 +15,8 @@ use Rattle.esdk_encrypt.specs.declared.errors.EncryptError.{EncryptError}
 use Rattle.esdk_encrypt.specs.declared.errors.EncryptError.TheVariants as errors
 use Rattle.esdk_encrypt.specs.Encrypt.{Asked, Encrypts, EndsSo}
 use Rattle.esdk_encrypt.specs.Told.{NoneFor, Writer}
-use Rattle.esdk_run.specs.declared.failure.Failure.{Failure}
-use Rattle.esdk_run.specs.declared.failure.Failure.TheVariants as failures
+use Rattle.esdk_report.specs.declared.failure.Failure.{Failure}
+use Rattle.esdk_report.specs.declared.failure.Failure.TheVariants as failures
 use Rattle.esdk_run.specs.Objects.{Objects}
 use Rattle.esdk_run.specs.Pairs.{RefusesWordPairs, required_in}
 use Rattle.esdk_run.specs.Trees.{HasNoTree, HasTree, IsUntouched, Trees}

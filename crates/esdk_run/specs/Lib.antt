@@ -1,11 +1,8 @@
-pub mod ContextLine
 pub mod Decrypt
 pub mod Encrypt
-pub mod HeaderInput
-pub mod List
-pub mod Listing
+pub mod FileReading
+pub mod Migrate
 pub mod Objects
-pub mod Report
 pub mod Run
 pub mod Told
 pub mod Pairs

@@ -10,8 +10,8 @@ use Rattle.context_codec.specs.Context.{KeyValue, IsContext}
 use Rattle.context_codec.specs.Insert.{refusal_of}
 use Rattle.context_codec.specs.KeySet.{with_keys}
 use Rattle.esdk_args.specs.declared.pair_words.PairWord.{PairWord}
-use Rattle.esdk_run.specs.declared.failure.Failure.{Failure}
-use Rattle.esdk_run.specs.declared.failure.Failure.TheVariants as failures
+use Rattle.esdk_report.specs.declared.failure.Failure.{Failure}
+use Rattle.esdk_report.specs.declared.failure.Failure.TheVariants as failures
 
 -- the pair of a word, if it has a value
 abbrev pub pair_in : PairWord → Option KeyValue

@@ -13,10 +13,10 @@ use Rattle.message_format.specs.Reading.{unlocking}
 use Rattle.whole_input.specs.Taken.{Came, EndSeen, MostTaken}
 use Rattle.esdk_decrypt.specs.Decrypt.{HasContext, fault_at_end, fault_of}
 use Rattle.esdk_decrypt.specs.Told.{Reader, judged_by}
-use Rattle.esdk_run.specs.declared.failure.Failure.{Failure}
-use Rattle.esdk_run.specs.declared.failure.Failure.TheVariants as failures
+use Rattle.esdk_report.specs.declared.failure.Failure.{Failure}
+use Rattle.esdk_report.specs.declared.failure.Failure.TheVariants as failures
 use Rattle.esdk_run.specs.Objects.{Objects}
-use Rattle.esdk_run.specs.Report.{TellsContext}
+use Rattle.esdk_report.specs.Report.{TellsContext}
 use Rattle.esdk_run.specs.Run.{Fails}
 
 -- These bytes were taken, and the output gained what is read of them.

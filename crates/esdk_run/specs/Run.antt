@@ -2,20 +2,22 @@
 use Rattle.std.specs.Prelude.{◌≡◌, ◌≢◌, ◌⊎◌, ◌==◌, ◌||◌, ℕ, List, Bool, true, false, Option, Some, None, Result, Ok, Err}
 use Rattle.esdk_args.specs.declared.request.DecryptWords.{DecryptWords}
 use Rattle.esdk_args.specs.declared.request.EncryptWords.{EncryptWords}
+use Rattle.esdk_args.specs.declared.request.MigrateWords.{MigrateWords}
 use Rattle.esdk_args.specs.declared.request.Request.{Request}
 use Rattle.esdk_args.specs.declared.request.Request.TheVariants as requests
 use Rattle.esdk_args.specs.declared.request.WordsFault.{WordsFault}
 use Rattle.esdk_args.specs.declared.request.WordsFault.TheVariants as words
-use Rattle.esdk_base.specs.Streams.{EntropyState, SinkState, SourceState}
+use Rattle.esdk_base.specs.Streams.{EntropyState, ShelfState, SinkState, SourceState}
 use Rattle.esdk_fields.specs.declared.faults.Fault.{Fault}
 use Rattle.context_codec.specs.Context.{KeyValue}
-use Rattle.esdk_run.specs.declared.failure.Failure.{Failure}
-use Rattle.esdk_run.specs.declared.failure.Failure.TheVariants as failures
+use Rattle.esdk_report.specs.declared.failure.Failure.{Failure}
+use Rattle.esdk_report.specs.declared.failure.Failure.TheVariants as failures
 use Rattle.esdk_run.specs.Decrypt.{DecryptFails, DecryptsInput}
 use Rattle.esdk_run.specs.Encrypt.{EncryptFails, EncryptsInput}
-use Rattle.esdk_run.specs.List.{IsListCause, LeavesOutput, Lists}
+use Rattle.esdk_list.specs.List.{IsListCause, LeavesOutput, Lists}
+use Rattle.esdk_run.specs.Migrate.{MigrateFails, WritesMigrated}
 use Rattle.esdk_run.specs.Objects.{Objects}
-use Rattle.esdk_run.specs.Report.{Reports, TellsContext}
+use Rattle.esdk_report.specs.Report.{Reports, TellsContext}
 use Rattle.esdk_run.specs.Trees.{IsUntouched, Trees}
 
 -- the statuses with which a run may end
@@ -23,6 +25,12 @@ abbrev pub is_status : ℕ → Bool
 is_status code = code == 0 || code == 1 || code == 2 || code == 3 || code == 4 || code == 5 || code == 6
 
 -- ---- what a run touches, by its words
+
+-- the command reads its input
+abbrev pub reads_input : Result Request WordsFault → Bool
+reads_input (Ok (requests.Migrate words)) = false
+reads_input (Ok request) = true
+reads_input (Err fault) = false
 
 -- the command reads from the shelf
 abbrev pub reads_shelf : Result Request WordsFault → Bool
@@ -85,6 +93,12 @@ DecryptRuns trees asked before after untouched unwritten unread code report repo
     DecryptsAndTells trees asked before after code report reported
     ⊎ Fails (DecryptFails trees asked before after untouched unwritten unread) code report reported
 
+-- of `migrate`
+abbrev pub MigrateRuns : MigrateWords → ShelfState → ShelfState → SinkState → SinkState → Type 0 → ℕ → SinkState → SinkState → Type 0
+MigrateRuns asked old new before after unwritten code report reported =
+    (IsDone code report reported × WritesMigrated asked old new before after)
+    ⊎ Fails (MigrateFails asked old new before after unwritten) code report reported
+
 -- No input that begins with a header and its tag is refused for a fault, and no other is done.
 abbrev pub AgreesWith : ℕ → Option Fault → Type 0
 AgreesWith code None = code ≢ 1
@@ -101,5 +115,7 @@ RunsAs trees (Ok (requests.Encrypt asked)) before after entropy spent untouched 
     EncryptRuns trees asked before after entropy spent untouched unread undrawn code report reported
 RunsAs trees (Ok (requests.Decrypt asked)) before after entropy spent untouched unwritten unread undrawn code report reported =
     DecryptRuns trees asked before after untouched unwritten unread code report reported
+RunsAs trees (Ok (requests.Migrate asked)) before after entropy spent untouched unwritten unread undrawn code report reported =
+    (trees.kept ≡ None) × MigrateRuns asked before.shelf after.shelf before.output after.output unwritten code report reported
 RunsAs trees (Err fault) before after entropy spent untouched unwritten unread undrawn code report reported =
     IsUntouched trees untouched × RefusesWords fault code report reported

@@ -1,9 +1,11 @@
 -- What a run comes to over the tree that it gives back, where its objects tell what they hold: when it must be done, and what of the input's bytes it says.
 use Rattle.std.specs.Prelude.{◌≡◌, ◌⊎◌, ℕ, ◌^◌, ◌<◌, ◌≤◌, List, [], ◌∷◌, length, None, Option, Some, Result, Ok, Err, IfSome}
 use Rattle.std.specs.Io.KnownBytes.{Appends}
+use Rattle.serde_json.specs.Data.{Data}
 use Rattle.esdk_args.specs.declared.pair_words.PairWord.{PairWord}
 use Rattle.esdk_args.specs.declared.request.DecryptWords.{DecryptWords}
 use Rattle.esdk_args.specs.declared.request.EncryptWords.{EncryptWords}
+use Rattle.esdk_args.specs.declared.request.MigrateWords.{MigrateWords}
 use Rattle.esdk_args.specs.declared.request.Request.{Request}
 use Rattle.esdk_args.specs.declared.request.Request.TheVariants as requests
 use Rattle.esdk_args.specs.declared.request.WordsFault.{WordsFault}
@@ -11,7 +13,7 @@ use Rattle.esdk_fields.specs.Counts.{Stayed}
 use Rattle.esdk_base.specs.Shelf.{Files, Holds}
 use Rattle.esdk_base.specs.Streams.{EntropyState, ShelfState, SinkState}
 use Rattle.esdk_fields.specs.declared.faults.Fault.{Fault}
-use Rattle.esdk_fields.specs.Report.{fault_line, printed_line}
+use Rattle.esdk_report.specs.Lines.{fault_line, printed_line}
 use Rattle.context_codec.specs.Context.{KeyValue}
 use Rattle.keyring_trait.specs.Keyring.{KeyringMeaning}
 use Rattle.keyring_trait.specs.Wrapping.{WrapKeyValue}
@@ -23,10 +25,11 @@ use Rattle.esdk_decrypt.specs.Laws.{IsWholeInput, IsWholeMessage, IsWrittenFor, 
 use Rattle.esdk_decrypt.specs.Told.{judged_by}
 use Rattle.esdk_run.specs.Decrypt.{reader_of}
 use Rattle.esdk_run.specs.Encrypt.{refusal_asked, writer_of}
+use Rattle.esdk_run.specs.Migrate.{value_asked}
 use Rattle.esdk_run.specs.Objects.{Objects}
 use Rattle.esdk_run.specs.Pairs.{context_in}
 use Rattle.esdk_run.specs.Read.{SaysWhatIsRead}
-use Rattle.esdk_run.specs.Report.{Gains, ShowsContext}
+use Rattle.esdk_report.specs.Report.{Gains, ShowsContext}
 use Rattle.esdk_run.specs.Trees.{TreeGoes, TreeIs, Trees}
 
 -- ---- the tree that is given back
@@ -66,6 +69,7 @@ abbrev pub keyring_asked : Result Request WordsFault → Option (List PairWord �
 keyring_asked (Ok (requests.Encrypt asked)) = Some (asked.pairs, asked.keyring)
 keyring_asked (Ok (requests.Decrypt asked)) = Some (asked.pairs, asked.keyring)
 keyring_asked (Ok requests.List) = None
+keyring_asked (Ok (requests.Migrate asked)) = None
 keyring_asked (Err fault) = None
 
 -- No count of faults of the input, the output and the report rose, and none is at its end.
@@ -148,3 +152,10 @@ ReadsBack trees asked before after code report reported = (given : List KeyValue
     → before.input.left ≡ Some (message_of m) → length (message_of m) < 2 ^ 62
     → IfNoneFailed trees asked.keyring before.shelf after.shelf
     ((code ≡ 0 → GivesBack m.text m.context before after code report reported) × (NothingFails before after report reported → IsDoneOrMemory code))
+
+-- ---- `migrate`
+
+-- A keyring file that the shelf tells is written in version 2, unless it is refused, memory runs out or an object fails.
+abbrev pub MigratesWhatIsHeld : MigrateWords → ShelfState → ShelfState → SinkState → SinkState → ℕ → Type 0
+MigratesWhatIsHeld asked old new before after code = (bytes : List ℕ) (value : Data) → Holds old.files asked.keyring bytes → length bytes ≤ most_file → value_asked asked bytes ≡ Ok value
+    → Stayed old.faults new.faults → Stayed before.faults after.faults → IsDoneOrMemory code

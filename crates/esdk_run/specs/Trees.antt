@@ -1,10 +1,8 @@
 -- The keyring tree that a keyring file on a shelf is read as, and what a run leaves of it.
-use Rattle.std.specs.Prelude.{◌≡◌, ◌⊎◌, ◌≤◌, ℕ, List, [], ◌∷◌, length, true, ⊤, Option, option_map, Some, None, IfSome, Result, Ok, Err}
+use Rattle.std.specs.Prelude.{◌≡◌, ◌≤◌, ℕ, List, [], ◌∷◌, length, true, Option, option_map, Some, None, IfSome, Result, Ok, Err}
 use Rattle.esdk_fields.specs.Counts.{Stayed}
 use Rattle.esdk_base.specs.Streams.{ShelfState}
 use Rattle.esdk_fields.specs.declared.refusals.FileRefusal.{FileRefusal}
-use Rattle.esdk_fields.specs.declared.refusals.FileRefusal.TheVariants.{FileTooLong}
-use Rattle.esdk_fields.specs.declared.refusals.Outside.TheVariants as outsides
 use Rattle.context_codec.specs.Context.{KeyValue}
 use Rattle.esdk_args.specs.declared.pair_words.PairWord.{PairWord}
 use Rattle.keyring_trait.specs.Keyring.{KeyringMeaning}
@@ -15,9 +13,9 @@ use Rattle.multi_keyring.specs.Tree.{meanings, tree_meaning}
 use Rattle.keyring_file.specs.declared.plugs.Plug.{Plug}
 use Rattle.keyring_file.specs.Found.{wraps_of}
 use Rattle.keyring_file.specs.KeyFile.{tree_of}
-use Rattle.whole_input.specs.File.{IsFile, IsLong, IsUnread}
-use Rattle.esdk_run.specs.declared.failure.Failure.{Failure}
-use Rattle.esdk_run.specs.declared.failure.Failure.TheVariants as failures
+use Rattle.whole_input.specs.File.{IsFile}
+use Rattle.esdk_report.specs.declared.failure.Failure.{Failure}
+use Rattle.esdk_run.specs.FileReading.{FileFails}
 use Rattle.esdk_run.specs.Pairs.{GivesContext}
 
 -- how a file's bytes are read: as one tree, of which what it means to its callers stands alone in a list; or as a refusal
@@ -36,29 +34,6 @@ pub record TreeIs (read : TreeReading) (old new : ShelfState) (name : List ℕ) 
   pub bytes : List ℕ
   pub file : IsFile old new name bytes
   pub is : read bytes ≡ Ok (tree ∷ [])
-
--- The file was read without a failure, and is refused as a keyring file.
-pub record RefusesFile (read : TreeReading) (old new : ShelfState) (name : List ℕ) (refusal : FileRefusal) : Type 0 where
-  pub bytes : List ℕ
-  pub file : IsFile old new name bytes
-  pub is : read bytes ≡ Err refusal
-
--- the file gave more than 1,048,576 bytes (K10), or it is refused as a keyring file
-abbrev pub FileIsRefused : TreeReading → ShelfState → ShelfState → List ℕ → FileRefusal → Type 0
-FileIsRefused read old new name refusal = ((refusal ≡ FileTooLong) × IsLong old new name) ⊎ RefusesFile read old new name refusal
-
--- why there is no tree
-abbrev pub TreeCause : TreeReading → ShelfState → ShelfState → List ℕ → Failure → Type 0
-TreeCause read old new name (failures.File refusal) = FileIsRefused read old new name refusal
-TreeCause read old new name (failures.Outside outsides.ShelfFault) = IsUnread old new name
-TreeCause read old new name failures.Memory = ⊤
-TreeCause read old new name failure = ⊥
-
--- the bytes are read as this refusal, where it is one of keyring files
-abbrev pub ReadCause : TreeReading → List ℕ → Failure → Type 0
-ReadCause read bytes (failures.File refusal) = read bytes ≡ Err refusal
-ReadCause read bytes failures.Memory = ⊤
-ReadCause read bytes failure = ⊥
 
 -- ---- what a tree keeps
 
@@ -90,7 +65,7 @@ pub record HasTree (trees : Trees) (words : List PairWord) (name : List ℕ) (ol
 pub record HasNoTree (trees : Trees) (words : List PairWord) (name : List ℕ) (old new : ShelfState) (failure : Failure) : Type 0 where
   pub context : List KeyValue
   pub given : GivesContext words context
-  pub cause : TreeCause trees.read old new name failure
+  pub cause : FileFails trees.read old new name failure
 
 -- What a run leaves that ends before it has a tree: these things are as before, and no tree is given back.
 pub record IsUntouched (trees : Trees) (unchanged : Type 0) : Type 0 where

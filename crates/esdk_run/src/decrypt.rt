@@ -1,13 +1,11 @@
 //! The command `decrypt`.
 ghost use Rattle.std.specs.Prelude.{◌≡◌, ◌+◌, ◌<◌, ◌≤◌, ◌^◌, length, IfErr, IfOk};
-ghost use Rattle.esdk_base.specs.Streams.{sink_state, source_state};
 ghost use Rattle.esdk_decrypt.specs.Decrypt.{Decrypts, EndsSo};
 ghost use Rattle.esdk_run.specs.Decrypt.{DecryptFails, DecryptsInput, IsDecryptFailure, asked_of};
 ghost use Rattle.esdk_run.specs.Objects.{objects};
 ghost use Rattle.esdk_run.specs.Pairs.{required_in};
 ghost use Rattle.esdk_run.specs.Trees.{IsLawful, TreeGoes, trees_of};
 
-use crate::failure::Failure;
 use crate::keyring_input::read_keyring;
 use crate::outcome::{Outcome, without_tree};
 use crate::pair_input::{context_of, pairs_failure, required_of};
@@ -17,6 +15,7 @@ use context_codec::{Context, KeySet};
 use esdk_args::DecryptWords;
 use esdk_base::{Shelf, Sink, Source};
 use esdk_decrypt::{DecryptError, decrypt};
+use esdk_report::Failure;
 use header_codec::Settings;
 use keyring_file::Plug;
 use keyring_trait::Keyring;
@@ -38,14 +37,14 @@ pub fn decrypt_input<P: Keyring, S: Source, O: Sink, F: Shelf>(
 ) -> Outcome<Result<Context, Failure>, Option<Node<P>>>
     requires plugs { length plugs.items < 2 ^ 24 }
     ensures done { IfOk result.ended (DecryptsInput (trees_of P.meaning plugs.items result.tree) asked.now
-        (objects S.left S.given S.faults O.written O.faults F.files F.given F.faults input.old output.old shelf.old)
-        (objects S.left S.given S.faults O.written O.faults F.files F.given F.faults input.new output.new shelf.new)) }
+        (objects (S.state input.old) (O.state output.old) (F.state shelf.old))
+        (objects (S.state input.new) (O.state output.new) (F.state shelf.new))) }
     ensures fails { IfErr result.ended (DecryptFails (trees_of P.meaning plugs.items result.tree) asked.now
-        (objects S.left S.given S.faults O.written O.faults F.files F.given F.faults input.old output.old shelf.old)
-        (objects S.left S.given S.faults O.written O.faults F.files F.given F.faults input.new output.new shelf.new)
+        (objects (S.state input.old) (O.state output.old) (F.state shelf.old))
+        (objects (S.state input.new) (O.state output.new) (F.state shelf.new))
         ((input.new ≡ input.old) × (output.new ≡ output.old)) (output.new ≡ output.old) (shelf.new ≡ shelf.old)) }
-    ensures shelf { F.files shelf.new ≡ F.files shelf.old }
-    ensures taken { S.given input.new ≤ S.given input.old + 2 ^ 62 }
+    ensures shelf { (F.state shelf.new).files ≡ (F.state shelf.old).files }
+    ensures taken { (S.state input.new).given ≤ (S.state input.old).given + 2 ^ 62 }
 {
     let given = match context_of(alloc, asked.pairs.words()) {
         Ok(given) => given,
@@ -87,14 +86,14 @@ fn decrypt_under<K: Keyring, S: Source, O: Sink>(
 ) -> Outcome<Result<Context, DecryptError>, K>
     requires keys { required ≡ required_in asked.now.pairs }
     ensures done { IfOk result.ended (λ context. Decrypts (asked_of asked.now given.now (K.meaning tree) (K.meaning result.tree))
-        (source_state S.left S.given S.faults input.old) (source_state S.left S.given S.faults input.new)
-        (sink_state O.written O.faults output.old) (sink_state O.written O.faults output.new) context) }
+        (S.state input.old) (S.state input.new)
+        (O.state output.old) (O.state output.new) context) }
     ensures ends { IfErr result.ended (EndsSo (asked_of asked.now given.now (K.meaning tree) (K.meaning result.tree))
-        (source_state S.left S.given S.faults input.old) (source_state S.left S.given S.faults input.new)
-        (sink_state O.written O.faults output.old) (sink_state O.written O.faults output.new) (output.new ≡ output.old)) }
+        (S.state input.old) (S.state input.new)
+        (O.state output.old) (O.state output.new) (output.new ≡ output.old)) }
     ensures lawful { IsLawful (K.meaning tree) }
     ensures goes { TreeGoes (K.meaning tree) (K.meaning result.tree) }
-    ensures taken { S.given input.new ≤ S.given input.old + 2 ^ 62 }
+    ensures taken { (S.state input.new).given ≤ (S.state input.old).given + 2 ^ 62 }
 {
     // Called for its clauses alone, which say what every keyring keeps.
     let _wraps = tree.wraps();

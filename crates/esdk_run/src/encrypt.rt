@@ -1,13 +1,11 @@
 //! The command `encrypt`.
 ghost use Rattle.std.specs.Prelude.{◌≡◌, ◌+◌, ◌<◌, ◌≤◌, ◌^◌, ⊤, length, IfErr, OnOk};
-ghost use Rattle.esdk_base.specs.Streams.{entropy_state, sink_state, source_state};
 ghost use Rattle.esdk_encrypt.specs.Encrypt.{Encrypts, EndsSo};
 ghost use Rattle.esdk_run.specs.Encrypt.{EncryptFails, EncryptsInput, IsEncryptFailure, asked_of};
 ghost use Rattle.esdk_run.specs.Objects.{objects};
 ghost use Rattle.esdk_run.specs.Pairs.{required_in};
 ghost use Rattle.esdk_run.specs.Trees.{IsLawful, TreeGoes, trees_of};
 
-use crate::failure::Failure;
 use crate::keyring_input::read_keyring;
 use crate::outcome::{Outcome, without_tree};
 use crate::pair_input::{context_of, pairs_failure, required_of};
@@ -17,6 +15,7 @@ use context_codec::{Context, KeySet};
 use esdk_args::EncryptWords;
 use esdk_base::{Entropy, Shelf, Sink, Source};
 use esdk_encrypt::{EncryptError, EncryptOptions, encrypt};
+use esdk_report::Failure;
 use keyring_file::Plug;
 use keyring_trait::{EncRequest, Keyring};
 use multi_keyring::Node;
@@ -39,16 +38,16 @@ pub fn encrypt_input<P: Keyring, S: Source, O: Sink, F: Shelf, W: Entropy>(
     requires some { 1 ≤ asked.now.frame }
     requires plugs { length plugs.items < 2 ^ 24 }
     ensures done { OnOk result.ended (EncryptsInput (trees_of P.meaning plugs.items result.tree) asked.now
-        (objects S.left S.given S.faults O.written O.faults F.files F.given F.faults input.old output.old shelf.old)
-        (objects S.left S.given S.faults O.written O.faults F.files F.given F.faults input.new output.new shelf.new)
-        (entropy_state W.to_come W.faults entropy.old) (entropy_state W.to_come W.faults entropy.new)) }
+        (objects (S.state input.old) (O.state output.old) (F.state shelf.old))
+        (objects (S.state input.new) (O.state output.new) (F.state shelf.new))
+        (W.state entropy.old) (W.state entropy.new)) }
     ensures fails { IfErr result.ended (EncryptFails (trees_of P.meaning plugs.items result.tree) asked.now
-        (objects S.left S.given S.faults O.written O.faults F.files F.given F.faults input.old output.old shelf.old)
-        (objects S.left S.given S.faults O.written O.faults F.files F.given F.faults input.new output.new shelf.new)
-        (entropy_state W.to_come W.faults entropy.old) (entropy_state W.to_come W.faults entropy.new)
+        (objects (S.state input.old) (O.state output.old) (F.state shelf.old))
+        (objects (S.state input.new) (O.state output.new) (F.state shelf.new))
+        (W.state entropy.old) (W.state entropy.new)
         ((input.new ≡ input.old) × (output.new ≡ output.old)) (shelf.new ≡ shelf.old) (entropy.new ≡ entropy.old)) }
-    ensures shelf { F.files shelf.new ≡ F.files shelf.old }
-    ensures taken { S.given input.new ≤ S.given input.old + 2 ^ 62 }
+    ensures shelf { (F.state shelf.new).files ≡ (F.state shelf.old).files }
+    ensures taken { (S.state input.new).given ≤ (S.state input.old).given + 2 ^ 62 }
 {
     let context = match context_of(alloc, asked.pairs.words()) {
         Ok(context) => context,
@@ -91,17 +90,17 @@ fn encrypt_under<K: Keyring, S: Source, O: Sink, W: Entropy>(
     requires some { 1 ≤ asked.now.frame }
     requires keys { required ≡ required_in asked.now.pairs }
     ensures done { OnOk result.ended (Encrypts (asked_of asked.now context (K.meaning tree) (K.meaning result.tree))
-        (source_state S.left S.given S.faults input.old) (source_state S.left S.given S.faults input.new)
-        (sink_state O.written O.faults output.old) (sink_state O.written O.faults output.new)
-        (entropy_state W.to_come W.faults entropy.old) (entropy_state W.to_come W.faults entropy.new)) }
+        (S.state input.old) (S.state input.new)
+        (O.state output.old) (O.state output.new)
+        (W.state entropy.old) (W.state entropy.new)) }
     ensures ends { IfErr result.ended (EndsSo (asked_of asked.now context (K.meaning tree) (K.meaning result.tree))
-        (source_state S.left S.given S.faults input.old) (source_state S.left S.given S.faults input.new)
-        (sink_state O.written O.faults output.old) (sink_state O.written O.faults output.new)
-        (entropy_state W.to_come W.faults entropy.old) (entropy_state W.to_come W.faults entropy.new)
+        (S.state input.old) (S.state input.new)
+        (O.state output.old) (O.state output.new)
+        (W.state entropy.old) (W.state entropy.new)
         ((input.new ≡ input.old) × (output.new ≡ output.old)) ⊤) }
     ensures lawful { IsLawful (K.meaning tree) }
     ensures goes { TreeGoes (K.meaning tree) (K.meaning result.tree) }
-    ensures taken { S.given input.new ≤ S.given input.old + 2 ^ 62 }
+    ensures taken { (S.state input.new).given ≤ (S.state input.old).given + 2 ^ 62 }
 {
     // Called for its clauses alone, which say what every keyring keeps.
     let _wraps = tree.wraps();

@@ -1,12 +1,12 @@
 //! The keyring tree that a keyring file is read as.
 ghost use Rattle.std.specs.Prelude.{◌≡◌, ◌<◌, ◌^◌, [], ◌∷◌, length, IfErr, IfOk, Ok};
-ghost use Rattle.esdk_base.specs.Streams.{shelf_state};
 ghost use Rattle.multi_keyring.specs.Tree.{tree_meaning};
-ghost use Rattle.esdk_run.specs.Trees.{ReadCause, TreeCause, TreeIs, reading};
+ghost use Rattle.esdk_run.specs.FileReading.{FileFails, ReadCause};
+ghost use Rattle.esdk_run.specs.Trees.{TreeIs, reading};
 
-use crate::failure::Failure;
 use esdk_base::Shelf;
 use esdk_fields::{FileRefusal, Outside};
+use esdk_report::Failure;
 use keyring_file::{Plug, TreeError, read_tree};
 use keyring_trait::Keyring;
 use multi_keyring::Node;
@@ -24,11 +24,9 @@ pub fn read_keyring<P: Keyring, F: Shelf>(
     plugs: Vec<Plug<P>>,
 ) -> Result<Node<P>, Failure>
     requires plugs { length plugs.items < 2 ^ 24 }
-    ensures tree { IfOk result (λ tree. TreeIs (reading P.meaning plugs.items)
-        (shelf_state F.files F.given F.faults shelf.old) (shelf_state F.files F.given F.faults shelf.new) name.now (tree_meaning P.meaning tree)) }
-    ensures cause { IfErr result (TreeCause (reading P.meaning plugs.items)
-        (shelf_state F.files F.given F.faults shelf.old) (shelf_state F.files F.given F.faults shelf.new) name.now) }
-    ensures stays { F.files shelf.new ≡ F.files shelf.old }
+    ensures tree { IfOk result (λ tree. TreeIs (reading P.meaning plugs.items) (F.state shelf.old) (F.state shelf.new) name.now (tree_meaning P.meaning tree)) }
+    ensures cause { IfErr result (FileFails (reading P.meaning plugs.items) (F.state shelf.old) (F.state shelf.new) name.now) }
+    ensures stays { (F.state shelf.new).files ≡ (F.state shelf.old).files }
 {
     match take_file(alloc, shelf, name) {
         Ok(bytes) => tree_in(alloc, bytes.bytes(), plugs),

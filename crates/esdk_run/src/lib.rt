@@ -3,23 +3,14 @@
 #![tactic(auto)]
 
 mod commands;
-mod context_line;
 mod decrypt;
 mod encrypt;
-mod failure;
-mod header_input;
 mod keyring_input;
-mod list;
-mod listing;
+mod migrate;
 mod outcome;
 mod pair_input;
-mod report;
-mod status;
 mod top_call;
 mod words;
 
-pub use failure::Failure;
 pub use outcome::Ended;
-pub use report::report_failure;
-pub use status::Status;
 pub use top_call::run;

@@ -1,8 +1,7 @@
 //! What a command and a run come to, with the tree that they give back.
 ghost use Rattle.std.specs.Prelude.{◌≡◌, Err, None};
 
-use crate::failure::Failure;
-use crate::status::Status;
+use esdk_report::{Failure, Status};
 use multi_keyring::Node;
 
 /// What a tree of keyrings was used for came to, and the tree as that left it.

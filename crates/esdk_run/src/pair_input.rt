@@ -2,9 +2,9 @@
 ghost use Rattle.std.specs.Prelude.{◌≡◌, Ok, IfErr, IfOk, OnOk, option_to_list};
 ghost use Rattle.esdk_run.specs.Pairs.{GivesContext, IsPairsFailure, RefusesPairs, context_in, inserted, pair_in, required_in};
 
-use crate::failure::Failure;
 use context_codec::{Context, KeySet, PairError};
 use esdk_args::PairWord;
+use esdk_report::Failure;
 use std::alloc::{AllocError, Global};
 
 /// The context of the pairs of these words, which are inserted in the order of the words.

@@ -2,13 +2,14 @@
 ghost use Rattle.std.specs.Prelude.{◌≡◌, ◌+◌, ◌<◌, ◌≤◌, ◌^◌, false, true, length, IfSome, Ok};
 ghost use Rattle.esdk_args.specs.declared.request.DecryptWords.{DecryptWords};
 ghost use Rattle.esdk_args.specs.declared.request.EncryptWords.{EncryptWords};
+ghost use Rattle.esdk_args.specs.declared.request.MigrateWords.{MigrateWords};
 ghost use Rattle.esdk_args.specs.declared.request.Request.TheVariants as requests;
 ghost use Rattle.esdk_args.specs.Words.{words_of};
-ghost use Rattle.esdk_base.specs.Streams.{OnTold, entropy_state, shelf_state, sink_state};
-ghost use Rattle.esdk_run.specs.List.{input_fault};
+ghost use Rattle.esdk_base.specs.Streams.{OnTold};
+ghost use Rattle.esdk_list.specs.List.{input_fault};
 ghost use Rattle.esdk_run.specs.Objects.{objects};
-ghost use Rattle.esdk_run.specs.Run.{AgreesWith, RunsAs, draws, is_status, reads_shelf};
-ghost use Rattle.esdk_run.specs.Told.{ComesBack, DecryptsWholeMessages, EncryptsWhatFits, ReadsBack, SaysTheJudgement, SaysWhatItReads, WritesTheMessage, keyring_asked};
+ghost use Rattle.esdk_run.specs.Run.{AgreesWith, RunsAs, draws, is_status, reads_input, reads_shelf};
+ghost use Rattle.esdk_run.specs.Told.{ComesBack, DecryptsWholeMessages, EncryptsWhatFits, MigratesWhatIsHeld, ReadsBack, SaysTheJudgement, SaysWhatItReads, WritesTheMessage, keyring_asked};
 ghost use Rattle.esdk_run.specs.Trees.{trees_of};
 
 use crate::commands::carry_out;
@@ -26,7 +27,8 @@ use std::alloc::Global;
 /// `list` reads a header and its tag from the input and writes the header's listing on the output.
 /// `encrypt` writes the message of its whole input under the tree of a keyring file, over the context of
 /// its words. `decrypt` writes what the judgement of its input releases under such a tree, with the pairs
-/// of its words given, and the whole context on the report. The plugs are the keyrings that a keyring
+/// of its words given, and the whole context on the report. `migrate` writes a keyring file in version 2, with
+/// the key retired that its words name. The plugs are the keyrings that a keyring
 /// file may name. Where a run fails, the report gets one line, and nothing
 /// more is read or written; a report that fails then changes nothing. The status is 0 where all was done,
 /// 1 for a fault of the input, 2 for words that aren't of the form of a command or have a bad number or a
@@ -49,60 +51,65 @@ pub fn run<P: Keyring, S: Source, O: Sink, R: Sink, F: Shelf, W: Entropy, C: Clo
 
     // What the run comes to, by what its words ask for.
     ensures runs { RunsAs (trees_of P.meaning plugs.items result.tree) (words_of words.now)
-        (objects S.left S.given S.faults O.written O.faults F.files F.given F.faults input.old output.old shelf.old)
-        (objects S.left S.given S.faults O.written O.faults F.files F.given F.faults input.new output.new shelf.new)
-        (entropy_state W.to_come W.faults entropy.old) (entropy_state W.to_come W.faults entropy.new)
+        (objects (S.state input.old) (O.state output.old) (F.state shelf.old))
+        (objects (S.state input.new) (O.state output.new) (F.state shelf.new))
+        (W.state entropy.old) (W.state entropy.new)
         ((input.new ≡ input.old) × (output.new ≡ output.old)) (output.new ≡ output.old) (shelf.new ≡ shelf.old) (entropy.new ≡ entropy.old)
-        result.status.code (sink_state R.written R.faults report.old) (sink_state R.written R.faults report.new) }
+        result.status.code (R.state report.old) (R.state report.new) }
 
     // No input that begins with a header and its tag is refused by `list` for a fault, and no other is done.
-    ensures judged { words_of words.now ≡ Ok requests.List → OnTold (S.left input.old) (λ bytes. AgreesWith result.status.code (input_fault bytes)) }
+    ensures judged { words_of words.now ≡ Ok requests.List → OnTold (S.state input.old).left (λ bytes. AgreesWith result.status.code (input_fault bytes)) }
 
-    // The shelf keeps its files, and is left alone by commands that read no file; so is the entropy by those that draw nothing.
-    ensures files { F.files shelf.new ≡ F.files shelf.old }
+    // The shelf keeps its files, and is left alone by commands that read no file; so is the input by those that don't read it, and the entropy by those that draw nothing.
+    ensures files { (F.state shelf.new).files ≡ (F.state shelf.old).files }
     ensures shelf { reads_shelf (words_of words.now) ≡ false → shelf.new ≡ shelf.old }
+    ensures input { reads_input (words_of words.now) ≡ false → input.new ≡ input.old }
     ensures entropy { draws (words_of words.now) ≡ false → entropy.new ≡ entropy.old }
 
     // No command reads the clock.
     ensures clock { clock.new ≡ clock.old }
 
     // At most 2^62 bytes are taken.
-    ensures taken { S.given input.new ≤ S.given input.old + 2 ^ 62 }
+    ensures taken { (S.state input.new).given ≤ (S.state input.old).given + 2 ^ 62 }
 
     // A tree is given back only where the keyring file was read as one; and where the shelf tells that it holds one and doesn't fail, it is, but at status 5.
     ensures tree { IfSome (keyring_asked (words_of words.now)) (λ asked. ComesBack (trees_of P.meaning plugs.items result.tree) asked.0 asked.1
-        (shelf_state F.files F.given F.faults shelf.old) (shelf_state F.files F.given F.faults shelf.new) result.status.code) }
+        (F.state shelf.old) (F.state shelf.new) result.status.code) }
 
     // `encrypt`: the output gains the message of the input, and an input that fits into a message is done, unless memory runs out or an object fails.
     ensures message { (asked : EncryptWords) → words_of words.now ≡ Ok (requests.Encrypt asked) → WritesTheMessage (trees_of P.meaning plugs.items result.tree) asked
-        (objects S.left S.given S.faults O.written O.faults F.files F.given F.faults input.old output.old shelf.old)
-        (objects S.left S.given S.faults O.written O.faults F.files F.given F.faults input.new output.new shelf.new)
-        (entropy_state W.to_come W.faults entropy.old) result.status.code }
+        (objects (S.state input.old) (O.state output.old) (F.state shelf.old))
+        (objects (S.state input.new) (O.state output.new) (F.state shelf.new))
+        (W.state entropy.old) result.status.code }
     ensures fits { (asked : EncryptWords) → words_of words.now ≡ Ok (requests.Encrypt asked) → EncryptsWhatFits (trees_of P.meaning plugs.items result.tree) asked
-        (objects S.left S.given S.faults O.written O.faults F.files F.given F.faults input.old output.old shelf.old)
-        (objects S.left S.given S.faults O.written O.faults F.files F.given F.faults input.new output.new shelf.new)
-        (entropy_state W.to_come W.faults entropy.old) (entropy_state W.to_come W.faults entropy.new) result.status.code
-        (sink_state R.written R.faults report.old) (sink_state R.written R.faults report.new) }
+        (objects (S.state input.old) (O.state output.old) (F.state shelf.old))
+        (objects (S.state input.new) (O.state output.new) (F.state shelf.new))
+        (W.state entropy.old) (W.state entropy.new) result.status.code
+        (R.state report.old) (R.state report.new) }
 
     // `decrypt`: of the bytes taken, what the keys of the tree read of them decides, whatever the objects tell.
     ensures reads { (asked : DecryptWords) → words_of words.now ≡ Ok (requests.Decrypt asked) → SaysWhatItReads (trees_of P.meaning plugs.items result.tree) asked
-        (objects S.left S.given S.faults O.written O.faults F.files F.given F.faults input.old output.old shelf.old)
-        (objects S.left S.given S.faults O.written O.faults F.files F.given F.faults input.new output.new shelf.new) result.status.code
-        (sink_state R.written R.faults report.old) (sink_state R.written R.faults report.new) }
+        (objects (S.state input.old) (O.state output.old) (F.state shelf.old))
+        (objects (S.state input.new) (O.state output.new) (F.state shelf.new)) result.status.code
+        (R.state report.old) (R.state report.new) }
 
     // `decrypt`: the judgement of all bytes of the input is said; a whole message is done, and a message that was written is given back, unless memory runs out or an object fails.
     ensures judgement { (asked : DecryptWords) → words_of words.now ≡ Ok (requests.Decrypt asked) → SaysTheJudgement (trees_of P.meaning plugs.items result.tree) asked
-        (objects S.left S.given S.faults O.written O.faults F.files F.given F.faults input.old output.old shelf.old)
-        (objects S.left S.given S.faults O.written O.faults F.files F.given F.faults input.new output.new shelf.new) result.status.code
-        (sink_state R.written R.faults report.old) (sink_state R.written R.faults report.new) }
+        (objects (S.state input.old) (O.state output.old) (F.state shelf.old))
+        (objects (S.state input.new) (O.state output.new) (F.state shelf.new)) result.status.code
+        (R.state report.old) (R.state report.new) }
     ensures whole { (asked : DecryptWords) → words_of words.now ≡ Ok (requests.Decrypt asked) → DecryptsWholeMessages (trees_of P.meaning plugs.items result.tree) asked
-        (objects S.left S.given S.faults O.written O.faults F.files F.given F.faults input.old output.old shelf.old)
-        (objects S.left S.given S.faults O.written O.faults F.files F.given F.faults input.new output.new shelf.new) result.status.code
-        (sink_state R.written R.faults report.old) (sink_state R.written R.faults report.new) }
+        (objects (S.state input.old) (O.state output.old) (F.state shelf.old))
+        (objects (S.state input.new) (O.state output.new) (F.state shelf.new)) result.status.code
+        (R.state report.old) (R.state report.new) }
     ensures round_trip { (asked : DecryptWords) → words_of words.now ≡ Ok (requests.Decrypt asked) → ReadsBack (trees_of P.meaning plugs.items result.tree) asked
-        (objects S.left S.given S.faults O.written O.faults F.files F.given F.faults input.old output.old shelf.old)
-        (objects S.left S.given S.faults O.written O.faults F.files F.given F.faults input.new output.new shelf.new) result.status.code
-        (sink_state R.written R.faults report.old) (sink_state R.written R.faults report.new) }
+        (objects (S.state input.old) (O.state output.old) (F.state shelf.old))
+        (objects (S.state input.new) (O.state output.new) (F.state shelf.new)) result.status.code
+        (R.state report.old) (R.state report.new) }
+
+    // `migrate`: a keyring file that the shelf tells is written in version 2, unless it is refused, memory runs out or an object fails.
+    ensures migration { (asked : MigrateWords) → words_of words.now ≡ Ok (requests.Migrate asked) → MigratesWhatIsHeld asked
+        (F.state shelf.old) (F.state shelf.new) (O.state output.old) (O.state output.new) result.status.code }
 {
     let _clock = clock;
     carry_out(alloc, words, input, output, report, shelf, entropy, plugs)

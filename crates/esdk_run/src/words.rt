@@ -2,8 +2,8 @@
 ghost use Rattle.std.specs.Prelude.{◌≡◌};
 ghost use Rattle.esdk_run.specs.Run.{words_failure};
 
-use crate::failure::Failure;
 use esdk_args::WordsFault;
+use esdk_report::Failure;
 
 /// What refused words are called in the program.
 pub fn words_failure(fault: WordsFault) -> Failure

@@ -10,7 +10,8 @@ ghost use Rattle.std.specs.Prelude.{◌≡◌, length, IfOk};
 
 use esdk_base::{FileShelf, RngEntropy, Sink, StdSink, StdSource, SystemClock};
 use esdk_fields::Text;
-use esdk_run::{Failure, Status, report_failure, run};
+use esdk_report::{Failure, Status, report_failure};
+use esdk_run::run;
 use keydir_keyring::KeydirKeyring;
 use keyring_file::Plug;
 use raw_aes_keyring::RawError;

@@ -1,5 +1,5 @@
 use Rattle.std.proofs.Common.{inr}
-use Rattle.esdk_run.specs.declared.failure.Failure.TheVariants.{Memory}
+use Rattle.esdk_report.specs.declared.failure.Failure.TheVariants.{Memory}
 use Rattle.esdk_run.specs.Trees.{trees_of}
 use Rattle.esdk_run.proofs.Endings.{line_lost}
 use Rattle.esdk_run.proofs.commands.run_decrypt.Goals as goal

@@ -1,5 +1,5 @@
 use Rattle.std.proofs.Common.{◌≡◌, ◌∙◌, List, ℕ, [], refl, ap, arith}
-use Rattle.esdk_base.specs.Streams.{SinkState, SourceState, sink_state, source_state}
+use Rattle.esdk_base.specs.Streams.{SinkState, SourceState}
 use Rattle.cmm_default.specs.DefaultCmm.{default_meaning}
 use Rattle.esdk_run.specs.Decrypt.{limits_of}
 use Rattle.esdk_run.specs.Pairs.{required_in}
@@ -8,10 +8,10 @@ use Rattle.esdk_run.proofs.decrypt.decrypt_under.Goals as goal
 
 pub returns-clause-done : goal.returns-clause-done
 returns-clause-done g c =
-    let input : SourceState = source_state g.S.Source.left g.S.Source.given g.S.Source.faults c.args.input.now in
-    let taken : SourceState = source_state g.S.Source.left g.S.Source.given g.S.Source.faults c.decrypt-ended.new.input in
-    let output : SinkState = sink_state g.O.Sink.written g.O.Sink.faults c.args.output.now in
-    let put : SinkState = sink_state g.O.Sink.written g.O.Sink.faults c.decrypt-ended.new.output in
+    let input : SourceState = g.S.Source.state c.args.input.now in
+    let taken : SourceState = g.S.Source.state c.decrypt-ended.new.input in
+    let output : SinkState = g.O.Sink.state c.args.output.now in
+    let put : SinkState = g.O.Sink.state c.decrypt-ended.new.output in
     let is = c.new-manager.ensures ∙ ap (λ k. (k, c.args.required)) c.new.ensures ∙ ap (λ (keys : List (List ℕ)). (c.args.tree, keys)) c.requires.keys in
     decrypts_more _ _ (limits_of c.args.asked.now) c.args.given.now input taken output put c.decrypt-ended.result
     (chain_allows (λ _ _ _. Unit {0}) 0 g.K.Keyring.meaning (λ v. Unit {0} × ((default_meaning (g.K.Keyring.meaning v.0)).demands ≡ [])) c.new-manager.result c.decrypt-ended.new.manager
@@ -20,10 +20,10 @@ returns-clause-done g c =
 
 pub returns-clause-ends : goal.returns-clause-ends
 returns-clause-ends g c =
-    let input : SourceState = source_state g.S.Source.left g.S.Source.given g.S.Source.faults c.args.input.now in
-    let taken : SourceState = source_state g.S.Source.left g.S.Source.given g.S.Source.faults c.decrypt-ended.new.input in
-    let output : SinkState = sink_state g.O.Sink.written g.O.Sink.faults c.args.output.now in
-    let put : SinkState = sink_state g.O.Sink.written g.O.Sink.faults c.decrypt-ended.new.output in
+    let input : SourceState = g.S.Source.state c.args.input.now in
+    let taken : SourceState = g.S.Source.state c.decrypt-ended.new.input in
+    let output : SinkState = g.O.Sink.state c.args.output.now in
+    let put : SinkState = g.O.Sink.state c.decrypt-ended.new.output in
     let is = c.new-manager.ensures ∙ ap (λ k. (k, c.args.required)) c.new.ensures ∙ ap (λ (keys : List (List ℕ)). (c.args.tree, keys)) c.requires.keys in
     stops_more _ _ (limits_of c.args.asked.now) c.args.given.now input taken output put (c.decrypt-ended.new.output ≡ c.args.output.now) c.decrypt-ended.result
     (chain_allows (λ _ _ _. Unit {0}) 0 g.K.Keyring.meaning (λ v. Unit {0} × ((default_meaning (g.K.Keyring.meaning v.0)).demands ≡ [])) c.new-manager.result c.decrypt-ended.new.manager

@@ -1,6 +1,6 @@
 use Rattle.std.proofs.Common.{◌≡◌, ◌∙◌, List, ℕ, [], refl, ap, arith}
 use Rattle.std.proofs.lemmas.Result.{on_ok_weaker}
-use Rattle.esdk_base.specs.Streams.{EntropyState, SinkState, SourceState, entropy_state, sink_state, source_state}
+use Rattle.esdk_base.specs.Streams.{EntropyState, SinkState, SourceState}
 use Rattle.cmm_default.specs.DefaultCmm.{default_meaning}
 use Rattle.esdk_encrypt.proofs.Telling.{encrypts_more}
 use Rattle.esdk_run.specs.Encrypt.{asked_of}
@@ -9,12 +9,12 @@ use Rattle.esdk_run.proofs.encrypt.encrypt_under.Goals as goal
 
 pub returns-clause-done : goal.returns-clause-done
 returns-clause-done g c =
-    let input : SourceState = source_state g.S.Source.left g.S.Source.given g.S.Source.faults c.args.input.now in
-    let taken : SourceState = source_state g.S.Source.left g.S.Source.given g.S.Source.faults c.encrypt-ended.new.input in
-    let output : SinkState = sink_state g.O.Sink.written g.O.Sink.faults c.args.output.now in
-    let put : SinkState = sink_state g.O.Sink.written g.O.Sink.faults c.encrypt-ended.new.output in
-    let entropy : EntropyState = entropy_state g.W.Entropy.to_come g.W.Entropy.faults c.args.entropy.now in
-    let spent : EntropyState = entropy_state g.W.Entropy.to_come g.W.Entropy.faults c.encrypt-ended.new.entropy in
+    let input : SourceState = g.S.Source.state c.args.input.now in
+    let taken : SourceState = g.S.Source.state c.encrypt-ended.new.input in
+    let output : SinkState = g.O.Sink.state c.args.output.now in
+    let put : SinkState = g.O.Sink.state c.encrypt-ended.new.output in
+    let entropy : EntropyState = g.W.Entropy.state c.args.entropy.now in
+    let spent : EntropyState = g.W.Entropy.state c.encrypt-ended.new.entropy in
     let is = c.new-manager.ensures ∙ ap (λ k. (k, c.args.required)) c.new.ensures ∙ ap (λ (keys : List (List ℕ)). (c.args.tree, keys)) c.requires.keys in
     on_ok_weaker c.encrypt-ended.result
     (encrypts_more _ (asked_of c.args.asked.now c.args.context (g.K.Keyring.meaning c.args.tree) (g.K.Keyring.meaning c.into_ring.result)) input taken output put entropy spent
@@ -24,12 +24,12 @@ returns-clause-done g c =
 
 pub returns-clause-ends : goal.returns-clause-ends
 returns-clause-ends g c =
-    let input : SourceState = source_state g.S.Source.left g.S.Source.given g.S.Source.faults c.args.input.now in
-    let taken : SourceState = source_state g.S.Source.left g.S.Source.given g.S.Source.faults c.encrypt-ended.new.input in
-    let output : SinkState = sink_state g.O.Sink.written g.O.Sink.faults c.args.output.now in
-    let put : SinkState = sink_state g.O.Sink.written g.O.Sink.faults c.encrypt-ended.new.output in
-    let entropy : EntropyState = entropy_state g.W.Entropy.to_come g.W.Entropy.faults c.args.entropy.now in
-    let spent : EntropyState = entropy_state g.W.Entropy.to_come g.W.Entropy.faults c.encrypt-ended.new.entropy in
+    let input : SourceState = g.S.Source.state c.args.input.now in
+    let taken : SourceState = g.S.Source.state c.encrypt-ended.new.input in
+    let output : SinkState = g.O.Sink.state c.args.output.now in
+    let put : SinkState = g.O.Sink.state c.encrypt-ended.new.output in
+    let entropy : EntropyState = g.W.Entropy.state c.args.entropy.now in
+    let spent : EntropyState = g.W.Entropy.state c.encrypt-ended.new.entropy in
     let is = c.new-manager.ensures ∙ ap (λ k. (k, c.args.required)) c.new.ensures ∙ ap (λ (keys : List (List ℕ)). (c.args.tree, keys)) c.requires.keys in
     errs_more _ (asked_of c.args.asked.now c.args.context (g.K.Keyring.meaning c.args.tree) (g.K.Keyring.meaning c.into_ring.result)) input taken output put entropy spent
     ((c.encrypt-ended.new.input ≡ c.args.input.now) × (c.encrypt-ended.new.output ≡ c.args.output.now)) (c.encrypt-ended.new.manager ≡ c.new-manager.result) c.encrypt-ended.result

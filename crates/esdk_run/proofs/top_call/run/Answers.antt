@@ -1,8 +1,8 @@
 use Rattle.std.proofs.Common.{ap}
-use Rattle.esdk_base.specs.Streams.{sink_state}
-use Rattle.esdk_run.proofs.Asked.{comes_back, decrypt_asked, encrypt_asked}
+use Rattle.esdk_run.proofs.Asked.{comes_back, decrypt_asked, encrypt_asked, migrate_asked}
 use Rattle.esdk_run.proofs.Decryption.{decrypts_whole_messages, reads_back, says_the_judgement, says_what_it_reads}
 use Rattle.esdk_run.proofs.Encryption.{encrypts_what_fits, writes_the_message}
+use Rattle.esdk_run.proofs.Migration.{migrates_what_is_held}
 use Rattle.esdk_run.proofs.top_call.run.Goals as goal
 
 pub returns-clause-message : goal.returns-clause-message
@@ -30,5 +30,9 @@ returns-clause-tree g c = comes_back _ _ _ _ _ _ _ _ _ _ _ _ _ c.carry_out.ensur
 
 pub returns-clause-reads : goal.returns-clause-reads
 returns-clause-reads g c = λ asked is.
-    says_what_it_reads _ asked _ _ _ _ _ _ _ _ (λ same. ap (sink_state g.O.Sink.written g.O.Sink.faults) same)
+    says_what_it_reads _ asked _ _ _ _ _ _ _ _ (λ same. ap g.O.Sink.state same)
     (decrypt_asked _ _ asked _ _ _ _ _ _ _ _ _ _ _ is c.carry_out.ensures.runs)
+
+pub returns-clause-migration : goal.returns-clause-migration
+returns-clause-migration g c = λ asked is.
+    migrates_what_is_held asked _ _ _ _ _ _ _ _ (migrate_asked _ _ asked _ _ _ _ _ _ _ _ _ _ _ is c.carry_out.ensures.runs)

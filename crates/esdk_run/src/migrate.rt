@@ -1,0 +1,62 @@
+//! The command `migrate`.
+ghost use Rattle.std.specs.Prelude.{◌≡◌, IfErr, IfOk, OnOk};
+ghost use Rattle.esdk_run.specs.FileReading.{FileFails, ReadCause};
+ghost use Rattle.esdk_run.specs.Migrate.{IsMigrated, IsTextOf, MigrateFails, WritesMigrated, value_asked};
+
+use esdk_args::MigrateWords;
+use esdk_base::{Shelf, Sink};
+use esdk_fields::{Blob, FileRefusal, Outside};
+use esdk_report::Failure;
+use keyring_file::{TreeError, migrate};
+use std::alloc::Global;
+use whole_input::{FileError, take_file};
+
+/// Writes the keyring file in version 2, with the key retired whose number the words give. The shelf stays as it is.
+///
+/// The file is taken first (`ShelfFault` where a read failed or the file isn't there, `FileTooLong` where it has more than 1,048,576 bytes); then its bytes
+/// are judged; then all of its text is written at once (`SinkFault`).
+pub fn migrate_file<O: Sink, F: Shelf>(
+    alloc: Global,
+    asked: &MigrateWords,
+    output: &mut O,
+    shelf: &mut F,
+) -> Result<(), Failure>
+    ensures done { OnOk result (WritesMigrated asked.now (F.state shelf.old) (F.state shelf.new) (O.state output.old) (O.state output.new)) }
+    ensures fails { IfErr result (MigrateFails asked.now (F.state shelf.old) (F.state shelf.new) (O.state output.old) (O.state output.new) (output.new ≡ output.old)) }
+    ensures stays { (F.state shelf.new).files ≡ (F.state shelf.old).files }
+{
+    let text = match file_text(alloc, asked, shelf) {
+        Ok(text) => text,
+        Err(failure) => return Err(failure),
+    };
+    match output.put(text.bytes()) {
+        Ok(()) => Ok(()),
+        Err(_) => Err(Failure::Outside(Outside::SinkFault)),
+    }
+}
+
+/// The text of the keyring file in version 2.
+fn file_text<F: Shelf>(alloc: Global, asked: &MigrateWords, shelf: &mut F) -> Result<Blob, Failure>
+    ensures text { IfOk result (IsMigrated asked.now (F.state shelf.old) (F.state shelf.new)) }
+    ensures cause { IfErr result (FileFails (value_asked asked.now) (F.state shelf.old) (F.state shelf.new) asked.now.keyring) }
+    ensures stays { (F.state shelf.new).files ≡ (F.state shelf.old).files }
+{
+    match take_file(alloc, shelf, asked.keyring.as_str()) {
+        Ok(bytes) => text_of(alloc, asked, bytes.bytes()),
+        Err(FileError::Shelf) => Err(Failure::Outside(Outside::ShelfFault)),
+        Err(FileError::TooLong) => Err(Failure::File(FileRefusal::FileTooLong)),
+        Err(FileError::Memory) => Err(Failure::Memory),
+    }
+}
+
+/// The text in version 2 of a keyring file that has these bytes.
+fn text_of(alloc: Global, asked: &MigrateWords, bytes: &[u8]) -> Result<Blob, Failure>
+    ensures text { IfOk result (IsTextOf asked.now bytes.now) }
+    ensures cause { IfErr result (ReadCause (value_asked asked.now) bytes.now) }
+{
+    match migrate(alloc, bytes, asked.retire) {
+        Ok(text) => Ok(text),
+        Err(TreeError::File(refusal)) => Err(Failure::File(refusal)),
+        Err(TreeError::Memory) => Err(Failure::Memory),
+    }
+}
