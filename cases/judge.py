@@ -12,6 +12,7 @@ import sys
 from dataclasses import dataclass
 
 import keyrings
+import migration
 from forms import MOST_PIECE, Reader, shown, shown_report
 from keyrings import KeyringFault, json_text
 from messages import (
@@ -35,7 +36,9 @@ DONE, FAULT, WORDS, FILE, OUTSIDE, REFUSED = 0, 1, 2, 3, 4, 6
 OPTIONS = {
     "encrypt": {"--keyring": None, "--frame": 2**32 - 1, "--max-keys": 2**16 - 1},
     "decrypt": {"--keyring": None, "--max-keys": 2**16 - 1, "--max-unit": 2**36 - 32},
+    "migrate": {"--keyring": None, "--retire": 2**20},
 }
+WITHOUT_PAIRS = ("migrate",)
 
 
 class Ended(Exception):
@@ -68,7 +71,8 @@ def read_words(words):
     for name in OPTIONS[words[0]]:
         if rest and rest[0] == name:
             options[name], rest = option_value(rest), rest[2:]
-    if "--keyring" not in options or any(word.startswith("-") for word in rest):
+    is_paired = rest and words[0] in WITHOUT_PAIRS
+    if "--keyring" not in options or is_paired or any(word.startswith("-") for word in rest):
         raise Ended(WORDS, "words NotBuilt")
     numbers = {
         name: read_number(name, options[name], most)
@@ -167,6 +171,9 @@ class Run:
         if asked.command == "list":
             self.list()
             return DONE
+        if asked.command == "migrate":
+            self.migrate(asked)
+            return DONE
         context = context_of(asked.pairs)
         required = required_of(asked.pairs)
         self.tree = self.read_keyring(asked.keyring)
@@ -195,17 +202,31 @@ class Run:
         except Failed:
             raise Ended(OUTSIDE, "X1 SourceFault") from None
 
-    def read_keyring(self, name):
+    def read_file(self, name):
         try:
             bytes_ = self.shelf.read_whole(name, MOST_FILE)
         except Failed:
             raise Ended(OUTSIDE, "X3 ShelfFault") from None
         if len(bytes_) > MOST_FILE:
             raise Ended(FILE, "K10 FileTooLong")
+        return bytes_
+
+    def read_keyring(self, name):
+        bytes_ = self.read_file(name)
         try:
             return keyrings.read_tree(bytes_, self.plugs)
         except keyrings.Refusal as refusal:
             raise Ended(FILE, str(refusal)) from None
+
+    # migrate
+
+    def migrate(self, asked):
+        bytes_ = self.read_file(asked.keyring)
+        try:
+            text = migration.migrate(bytes_, asked.numbers.get("--retire"))
+        except keyrings.Refusal as refusal:
+            raise Ended(FILE, str(refusal)) from None
+        self.put(text)
 
     # list
 
@@ -229,7 +250,7 @@ class Run:
 
     def encrypt(self, numbers, context, required):
         frame = numbers.get("--frame", 4096)
-        count = len(self.tree.leaves())
+        count = len(keyrings.active(self.tree))
         try:
             random = self.entropy.fill(64 + 12 * count)
         except Failed:

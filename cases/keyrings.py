@@ -28,18 +28,19 @@ class KeyringFault(Exception):
 
 
 class Raw:
-    """A raw AES key."""
+    """A raw AES key. A retired one opens and doesn't wrap."""
 
-    def __init__(self, namespace, name, key):
+    def __init__(self, namespace, name, key, is_retired=False):
         self.namespace = namespace
         self.name = name
         self.key = key
+        self.is_retired = is_retired
 
     def leaves(self):
         return [self]
 
     def refuses(self, has_key):
-        return None
+        return "Q5 NoGenerator" if self.is_retired and not has_key else None
 
     def wrap(self, iv, data_key, whole):
         return wrapped(self.namespace, self.name, self.key, iv, data_key, whole)
@@ -61,6 +62,8 @@ class Raw:
 
 class Plug:
     """A raw AES key whose bytes stand in a file, which is read at each call."""
+
+    is_retired = False
 
     def __init__(self, name, namespace, key_name, shelf):
         self.name = name
@@ -111,8 +114,13 @@ class Multi:
         return own or next((refusal for refusal in of_children if refusal), None)
 
 
+def active(tree):
+    """The leaves that wrap, in order."""
+    return [leaf for leaf in tree.leaves() if not leaf.is_retired]
+
+
 def wrap_all(tree, ivs, data_key, whole):
-    return [leaf.wrap(iv, data_key, whole) for leaf, iv in zip(tree.leaves(), ivs)]
+    return [leaf.wrap(iv, data_key, whole) for leaf, iv in zip(active(tree), ivs)]
 
 
 def open_first(tree, entries, whole):
@@ -210,8 +218,8 @@ def has_members(value, required, allowed=()):
     return set(required) <= set(value) <= set(required) | set(allowed)
 
 
-def is_one(value):
-    return type(value) is int and value == 1
+def is_version(value):
+    return type(value) is int and value in (1, 2)
 
 
 def decoded_key(text):
@@ -229,20 +237,22 @@ class JsonFile:
 
     def __init__(self, plugs):
         self.plugs = list(plugs)
+        self.version = None
         self.met = 0
         self.leaves = 0
         self.keys = {}
 
     def tree(self, bytes_):
         value = json_value(bytes_)
-        if not has_members(value, ["version", "ring"]) or not is_one(value["version"]):
+        if not has_members(value, ["version", "ring"]) or not is_version(value["version"]):
             raise Refusal("K2 BadShape 0")
+        self.version = value["version"]
         return self.node(value["ring"], 1)
 
     def node(self, value, level):
         self.met += 1
         place = self.met
-        kind = kind_of(value)
+        kind = kind_of(value, self.version)
         if kind is None:
             raise Refusal(f"K2 BadShape {place}")
         if level > MOST_LEVELS:
@@ -261,13 +271,17 @@ class JsonFile:
         if self.keys.setdefault(names, key) != key:
             raise Refusal(f"K5 ClashingKeys {json_text(names[0])} {json_text(names[1])}")
         self.add_leaf()
-        return Raw(names[0].encode(), names[1].encode(), key)
+        return Raw(names[0].encode(), names[1].encode(), key, members.get("retired", False))
 
     def plug(self, name):
+        plug = self.plug_left(name)
+        self.add_leaf()
+        return plug
+
+    def plug_left(self, name):
         for plug in self.plugs:
             if plug.name == name:
                 self.plugs.remove(plug)
-                self.add_leaf()
                 return plug
         raise Refusal(f"K8 NoSuchPlug {json_text(name)}")
 
@@ -282,9 +296,9 @@ class JsonFile:
         return Multi(generator, children)
 
 
-def kind_of(value):
+def kind_of(value, version):
     """Which of the three forms a node has; None where it has none of them."""
-    if has_members(value, ["raw"]) and is_raw(value["raw"]):
+    if has_members(value, ["raw"]) and is_raw(value["raw"], version):
         return "raw"
     if has_members(value, ["plug"]) and isinstance(value["plug"], str):
         return "plug"
@@ -293,10 +307,12 @@ def kind_of(value):
     return None
 
 
-def is_raw(members):
-    if not has_members(members, ["namespace", "name", "key"]):
+def is_raw(members, version):
+    allowed = ["retired"] if version == 2 else []
+    if not has_members(members, ["namespace", "name", "key"], allowed):
         return False
-    return all(is_name(members[name]) for name in ("namespace", "name")) and isinstance(members["key"], str)
+    is_named = all(is_name(members[name]) for name in ("namespace", "name"))
+    return is_named and isinstance(members["key"], str) and isinstance(members.get("retired", False), bool)
 
 
 def is_multi(members):

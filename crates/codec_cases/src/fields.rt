@@ -4,9 +4,10 @@ use crate::line::Line;
 use crate::words::Words;
 use crate::wrong::Wrong;
 use esdk_fields::{
-    Blob, Cursor, FileRefusal, Refusal, file_text, printed, put_sized, put_u16, put_u32, put_u64,
-    sized_of, u8_of, u16_of, u32_of, u64_of,
+    Blob, Cursor, FileRefusal, Refusal, put_sized, put_u16, put_u32, put_u64, sized_of, u8_of,
+    u16_of, u32_of, u64_of,
 };
+use esdk_report::{file_text, printed};
 use std::cmp::Ordering;
 
 /// `put N16 N32 N64 BYTES`: two numbers of two and four bytes, one of eight, and bytes behind their length.

@@ -3,7 +3,8 @@
 use crate::wrong::Wrong;
 use context_codec::Context;
 use edk_codec::DataKeyEntry;
-use esdk_fields::{Blob, Fault, FieldError, Refusal, fault_text, refusal_text};
+use esdk_fields::{Blob, Fault, FieldError, Refusal};
+use esdk_report::{fault_text, refusal_text};
 use sha2::{Digest, Sha512};
 use std::alloc::{AllocError, Global};
 

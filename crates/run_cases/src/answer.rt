@@ -1,40 +1,44 @@
 //! What the top call left of a case, as one line.
-ghost use Rattle.std.specs.Prelude.{◌<◌, ◌^◌, length};
 
 use crate::case::Case;
 use crate::fault::Fault;
 use crate::named::Named;
-use crate::objects::{Keydir, Objects, objects_of, plugs_of};
-use esdk_base::MemShelf;
-use esdk_fields::Text;
+use crate::objects::{Objects, objects_of, plug_of};
+use esdk_memory::MemShelf;
 use esdk_run::run;
 use keyring_file::Plug;
+use keyring_trait::Keyring;
 use sha2::{Digest, Sha512};
 use std::alloc::{AllocError, Global};
 
 /// How many bytes are printed as they are.
 const MOST_SHOWN: usize = 64;
 
+/// How many plugs a case may have.
+const MOST_PLUGS: usize = 1_000;
+
 /// Runs the case, and answers its line.
 pub fn answer(alloc: Global, case: &Case) -> Result<String, Fault> {
-    let plugs = plugs_of(alloc, &case.plugs)?;
     let mut objects = objects_of(alloc, case)?;
-    let (status, has_tree) = run_over(alloc, &case.words, &mut objects, plugs);
+    let (status, has_tree) = run_over(alloc, case, &mut objects)?;
     Ok(line(alloc, case, &objects, status, has_tree)?)
 }
 
-/// Runs the top call, and answers the status, and whether a tree was given back.
-fn run_over(
-    alloc: Global,
-    words: &[Text],
-    objects: &mut Objects,
-    plugs: Vec<Plug<Keydir>>,
-) -> (u8, bool)
-    requires { length plugs.items < 2 ^ 24 }
-{
+/// Runs the top call over the objects and the plugs, which are handed in as a caller does whose keyrings differ in type. Answers the status, and whether a
+/// tree was given back.
+fn run_over(alloc: Global, case: &Case, objects: &mut Objects) -> Result<(u8, bool), Fault> {
+    let mut plugs = Vec::new(alloc);
+    for plan in &case.plugs {
+        let Plug { name, keyring } = plug_of(alloc, plan)?;
+        let keyring: Box<dyn Keyring> = Box::new(alloc, keyring)?;
+        plugs.push(Plug { name, keyring })?;
+    }
+    if plugs.len() > MOST_PLUGS {
+        return Err(Fault("too many plugs"));
+    }
     let ended = run(
         alloc,
-        words,
+        &case.words,
         &mut objects.input,
         &mut objects.output,
         &mut objects.report,
@@ -43,7 +47,7 @@ fn run_over(
         &mut objects.clock,
         plugs,
     );
-    (ended.status.code, ended.tree.is_some())
+    Ok((ended.status.code, ended.tree.is_some()))
 }
 
 fn line(

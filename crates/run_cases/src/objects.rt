@@ -1,11 +1,10 @@
 //! The objects in memory that a case is run over.
-ghost use Rattle.std.specs.Prelude.{◌<◌, ◌^◌, length, IfOk};
 
 use crate::case::{Case, KEY_FILE, Plan, PlugPlan};
 use crate::fault::Fault;
 use crate::named::Named;
-use esdk_base::{ListClock, ListEntropy, MemShelf, MemSink, MemSource};
 use esdk_fields::{Blob, Text};
+use esdk_memory::{ListClock, ListEntropy, MemShelf, MemSink, MemSource};
 use keydir_keyring::KeydirKeyring;
 use keyring_file::Plug;
 use raw_aes_keyring::RawError;
@@ -16,9 +15,6 @@ const PIECE: usize = 65_536;
 
 /// How many bytes an object takes, where that isn't said.
 const ROOM: usize = 1_048_576;
-
-/// How many plugs a case may have.
-const MOST_PLUGS: usize = 1_000;
 
 /// How many bytes a plug's namespace or key name may have.
 const MOST_NAME: usize = 1_024;
@@ -91,21 +87,8 @@ fn put_file(alloc: Global, shelf: &mut MemShelf, file: &Named) -> Result<(), All
     Ok(())
 }
 
-/// The plugs as they are planned.
-pub fn plugs_of(alloc: Global, plans: &[PlugPlan]) -> Result<Vec<Plug<Keydir>>, Fault>
-    ensures { IfOk result (λ plugs. length plugs.items < 2 ^ 24) }
-{
-    let mut plugs = Vec::new(alloc);
-    for plan in plans {
-        plugs.push(plug_of(alloc, plan)?)?;
-    }
-    if plugs.len() > MOST_PLUGS {
-        return Err(Fault("too many plugs"));
-    }
-    Ok(plugs)
-}
-
-fn plug_of(alloc: Global, plan: &PlugPlan) -> Result<Plug<Keydir>, Fault> {
+/// The plug as it is planned.
+pub fn plug_of(alloc: Global, plan: &PlugPlan) -> Result<Plug<Keydir>, Fault> {
     let name = Text::new(alloc, plan.name.as_str())?;
     let namespace = plan.namespace.as_str();
     let key_name = plan.key_name.as_str();

@@ -1,9 +1,8 @@
 //! The forms in memory of what lies outside.
 
-use esdk_base::{
-    Clock, Entropy, ListClock, ListEntropy, MemShelf, MemSink, MemSource, Shelf, Sink, Source,
-};
+use esdk_base::{Clock, Entropy, Shelf, Sink, Source};
 use esdk_fields::Blob;
+use esdk_memory::{ListClock, ListEntropy, MemShelf, MemSink, MemSource};
 use std::alloc::{AllocError, Global};
 
 /// Bytes that own themselves.

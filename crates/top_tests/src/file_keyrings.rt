@@ -1,7 +1,8 @@
 //! A keyring over a file, whose file is read anew at each call.
 
 use crate::known_wraps::{known_cipher, opened, other_cipher, other_key, wrapping_key, wraps};
-use esdk_base::{FileShelf, MemShelf, Shelf};
+use esdk_base::{FileShelf, Shelf};
+use esdk_memory::MemShelf;
 use keydir_keyring::KeydirKeyring;
 use keyring_trait::Keyring;
 use raw_aes_keyring::RawError;

@@ -1,9 +1,11 @@
 //! Raw AES keyrings and trees of keyrings, called by themselves.
 
-use crate::known_wraps::{known_cipher, known_ring, opened, wraps};
+use crate::known_wraps::{
+    known_cipher, known_ring, opened, other_cipher, other_key, wrapping_key, wraps,
+};
 use context_codec::Context;
 use edk_codec::DataKeyEntry;
-use keyring_trait::{Keyring, Wrapped};
+use keyring_trait::{DataKey, Keyring, RingError, RingRefusal, Wrapped};
 use multi_keyring::{Multi, MultiError, Node};
 use raw_aes_keyring::{RawAes, RawError};
 use std::alloc::Global;
@@ -267,4 +269,75 @@ fn tree_of_two_wraps(alloc: Global) -> bool {
 #[test]
 fn a_tree_over_a_boxed_keyring_wraps_and_opens(rt: HostRuntime) {
     assert!(rt; tree_of_two_wraps(rt.alloc()));
+}
+
+/// The keyring of the retired key of these bytes. None where memory runs out.
+fn retired(alloc: Global, key: [u8; 32]) -> Option<RawAes> {
+    match RawAes::retired(alloc, "ns", "k", key) {
+        Ok(ring) => Some(ring),
+        Err(_) => None,
+    }
+}
+
+/// Whether a keyring of no wraps gives back the data key that it is handed, with no entry.
+fn gives_back<K: Keyring>(alloc: Global, keyring: &mut K) -> bool {
+    if keyring.wraps() != 0 {
+        return false;
+    }
+    let handed = DataKey::new([0x33; 32]);
+    match keyring.on_encrypt(alloc, &Context::new(alloc), &[], Some(&handed)) {
+        Ok(wrapped) => *wrapped.key().bytes() == [0x33; 32] && wrapped.entries().is_empty(),
+        Err(_) => false,
+    }
+}
+
+/// Whether a keyring of no wraps refuses to make a data key.
+fn makes_none<K: Keyring>(alloc: Global, keyring: &mut K) -> bool {
+    if keyring.wraps() != 0 {
+        return false;
+    }
+    match keyring.on_encrypt(alloc, &Context::new(alloc), &[0x22; 32], None) {
+        Err(RingError::Refused(RingRefusal::NoGenerator)) => true,
+        _ => false,
+    }
+}
+
+/// Whether the retired key makes no entry, and opens the known wrap.
+fn retired_key_opens_alone(alloc: Global) -> bool {
+    match retired(alloc, wrapping_key()) {
+        Some(mut ring) => {
+            gives_back(alloc, &mut ring)
+                && makes_none(alloc, &mut ring)
+                && opened(alloc, &mut ring, &known_cipher()) == Some(true)
+        }
+        None => false,
+    }
+}
+
+#[test]
+fn a_retired_key_opens_and_does_not_wrap(rt: HostRuntime) {
+    assert!(rt; retired_key_opens_alone(rt.alloc()));
+}
+
+/// A multi-keyring of the known key, which generates the data key, and the other key, which is retired.
+fn tree_with_retired(alloc: Global) -> Option<Tree> {
+    let children = row_of(alloc, Node::Raw(retired(alloc, other_key())?))?;
+    tree_of(alloc, multi_of(Node::Raw(known_ring(alloc)?), children)?)
+}
+
+/// Whether that tree wraps under the known key alone, and opens what either key wrapped.
+fn tree_with_retired_wraps_once(alloc: Global) -> bool {
+    match tree_with_retired(alloc) {
+        Some(mut tree) => {
+            wraps(alloc, &mut tree, &known_cipher())
+                && opened(alloc, &mut tree, &known_cipher()) == Some(true)
+                && opened(alloc, &mut tree, &other_cipher()) == Some(true)
+        }
+        None => false,
+    }
+}
+
+#[test]
+fn a_tree_wraps_under_its_active_keys_and_opens_with_all(rt: HostRuntime) {
+    assert!(rt; tree_with_retired_wraps_once(rt.alloc()));
 }

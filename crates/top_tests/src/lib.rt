@@ -26,6 +26,8 @@ mod managers;
 #[cfg(test)]
 mod parts;
 #[cfg(test)]
+mod recalling;
+#[cfg(test)]
 mod scratch_path;
 #[cfg(test)]
 mod sealing;
