@@ -1,0 +1,14 @@
+pub mod AnyCut
+pub mod Ends
+pub mod Stopping
+pub mod Standing
+pub mod Filling
+pub mod Bodies
+pub mod Reaching
+pub mod UnitAnswers
+pub mod WholeUnits
+pub mod Behind
+pub mod Stepping
+pub mod Steps
+pub mod Headers
+pub mod HeaderSteps

@@ -1,0 +1,123 @@
+use Rattle.std.proofs.Common.{◌≡◌, ℕ, false, true, Some, Err, List, ◌++◌, take, refl, sym, ap, subst, ◌∙◌}
+use Rattle.context_codec.specs.Context.{KeyValue}
+use Rattle.header_codec.specs.Header.{HeaderValue}
+use Rattle.header_codec.specs.Session.{Session}
+use Rattle.header_codec.specs.Stands.{Stands as Reads}
+use Rattle.keyring_trait.specs.declared.served.Served.{Served}
+use Rattle.keyring_trait.specs.Materials.{DecMaterialsValue}
+use Rattle.stream_open.specs.declared.errors.OpenError.{OpenError}
+use Rattle.stream_open.specs.declared.session.Opener.{Opener}
+use Rattle.stream_open.specs.Answered.{Answered, Unanswered}
+use Rattle.stream_open.specs.Asking.{Asking, asking_of, request_of}
+use Rattle.stream_open.specs.Stands.{Steps}
+use Rattle.stream_open.proofs.Headers.{Shown, shown, not_shown, used_within}
+use Rattle.stream_open.proofs.HeaderSteps.{locked_at, steps_unread, steps_waiting, steps_unanswered, steps_not_unlocked, steps_opened, steps_failed}
+use Rattle.stream_open.proofs.session.Opener.step_header.Goals as goal
+
+pub returns-in-Err-clause-steps : goal.returns-in-Err-clause-steps
+returns-in-Err-clause-steps g c = λ v stands.
+    let manager : Asking =
+    asking_of (g.M.Manager.meaning c.args.manager.now) (g.M.Manager.meaning c.args.manager.now) (g.M.Manager.tells c.args.manager.now) (g.M.Manager.exact c.args.manager.now)
+    (g.M.Manager.found c.args.manager.now) (g.M.Manager.bears c.args.manager.now) (g.M.Manager.bears c.args.manager.now) c.args.now in
+    let going : v.stopped ≡ false = sym stands.stopped ∙ c.requires.going in
+    let lock = locked_at c.args.self.now v c.requires.locked stands in
+    let piece : List ℕ = c.args.piece.now in
+    let before : Session = record { settings = v.settings; taken = v.taken; stopped = false } in
+    let next : Opener = record c.args.self.now { reader = c.step.new.self; stopped = true } in
+    subst (λ (error : OpenError). Steps manager v piece (Err error) next) (sym c.unread.ensures)
+    (steps_unread manager c.args.self.now next v piece c.in-Err.error (c.in-Err.ensures.answer before (lock.reads going)) stands going lock (λ lines h. h) refl refl refl refl c.requires.locked)
+
+pub returns-in_default-clause-steps : goal.returns-in_default-clause-steps
+returns-in_default-clause-steps g c = λ v stands.
+    let manager : Asking =
+    asking_of (g.M.Manager.meaning c.args.manager.now) (g.M.Manager.meaning c.args.manager.now) (g.M.Manager.tells c.args.manager.now) (g.M.Manager.exact c.args.manager.now)
+    (g.M.Manager.found c.args.manager.now) (g.M.Manager.bears c.args.manager.now) (g.M.Manager.bears c.args.manager.now) c.args.now in
+    let going : v.stopped ≡ false = sym stands.stopped ∙ c.requires.going in
+    let lock = locked_at c.args.self.now v c.requires.locked stands in
+    let piece : List ℕ = c.args.piece.now in
+    let before : Session = record { settings = v.settings; taken = v.taken; stopped = false } in
+    let used : ℕ = c.in-Ok.step.used in
+    let answer = c.in-Ok.ensures.answer before (lock.reads going) in
+    let after : Session = record { settings = v.settings; taken = v.taken ++ take used piece; stopped = false } in
+    let reads : Reads c.step.new.self after = c.in-Ok.ensures.stands before (lock.reads going) in
+    let front = c.in_default.ensures after reads in
+    let none = not_shown v.taken piece v.settings c.in-Ok.step answer front in
+    steps_waiting manager c.args.self.now (record c.args.self.now { reader = c.step.new.self; stopped = false }) v piece used stands going lock (λ lines h. h) none.all none.whole front reads
+    refl refl refl refl c.requires.locked
+
+pub returns-in_default-clause-within : goal.returns-in_default-clause-within
+returns-in_default-clause-within g c = λ v stands.
+    let going : v.stopped ≡ false = sym stands.stopped ∙ c.requires.going in
+    let lock = locked_at c.args.self.now v c.requires.locked stands in
+    used_within v.taken c.args.piece.now v.settings c.in-Ok.step (c.in-Ok.ensures.answer (record { settings = v.settings; taken = v.taken; stopped = false }) (lock.reads going))
+
+pub returns-in_err-materials-clause-steps : goal.returns-in_err-materials-clause-steps
+returns-in_err-materials-clause-steps g c = λ v stands.
+    let manager : Asking =
+    asking_of (g.M.Manager.meaning c.args.manager.now) (g.M.Manager.meaning c.materials_for.new.manager) (g.M.Manager.tells c.args.manager.now) (g.M.Manager.exact c.args.manager.now)
+    (g.M.Manager.found c.materials_for.new.manager) (g.M.Manager.bears c.args.manager.now) (g.M.Manager.bears c.materials_for.new.manager) c.args.now in
+    let going : v.stopped ≡ false = sym stands.stopped ∙ c.requires.going in
+    let lock = locked_at c.args.self.now v c.requires.locked stands in
+    let piece : List ℕ = c.args.piece.now in
+    let before : Session = record { settings = v.settings; taken = v.taken; stopped = false } in
+    let used : ℕ = c.in-Ok.step.used in
+    let answer = c.in-Ok.ensures.answer before (lock.reads going) in
+    let after : Session = record { settings = v.settings; taken = v.taken ++ take used piece; stopped = false } in
+    let reads : Reads c.step.new.self after = c.in-Ok.ensures.stands before (lock.reads going) in
+    let h : HeaderValue = c.in-Some.header.now in
+    let header_is : Shown v piece used h = shown v piece used h (c.in-Some.ensures after reads) in
+    let error : OpenError = c.in_err-materials.field-0.0 in
+    let next : Opener = record c.args.self.now { reader = c.step.new.self; stopped = true } in
+    let cause : Unanswered manager (request_of v.given h) error = subst (λ (given : List KeyValue). Unanswered manager (request_of given h) error) stands.given c.in_err-materials.ensures.cause in
+    steps_failed manager next v piece c.from_residual.result error c.from_residual.ensures.1
+    (steps_unanswered manager c.args.self.now next v piece used h error stands going lock header_is cause refl refl refl refl c.requires.locked)
+
+pub returns-in_err-unlocked_by-clause-steps : goal.returns-in_err-unlocked_by-clause-steps
+returns-in_err-unlocked_by-clause-steps g c = λ v stands.
+    let manager : Asking =
+    asking_of (g.M.Manager.meaning c.args.manager.now) (g.M.Manager.meaning c.materials_for.new.manager) (g.M.Manager.tells c.args.manager.now) (g.M.Manager.exact c.args.manager.now)
+    (g.M.Manager.found c.materials_for.new.manager) (g.M.Manager.bears c.args.manager.now) (g.M.Manager.bears c.materials_for.new.manager) c.args.now in
+    let going : v.stopped ≡ false = sym stands.stopped ∙ c.requires.going in
+    let lock = locked_at c.args.self.now v c.requires.locked stands in
+    let piece : List ℕ = c.args.piece.now in
+    let before : Session = record { settings = v.settings; taken = v.taken; stopped = false } in
+    let used : ℕ = c.in-Ok.step.used in
+    let answer = c.in-Ok.ensures.answer before (lock.reads going) in
+    let after : Session = record { settings = v.settings; taken = v.taken ++ take used piece; stopped = false } in
+    let reads : Reads c.step.new.self after = c.in-Ok.ensures.stands before (lock.reads going) in
+    let h : HeaderValue = c.in-Some.header.now in
+    let header_is : Shown v piece used h = shown v piece used h (c.in-Some.ensures after reads) in
+    let m : DecMaterialsValue = c.in_ok-materials.materials in
+    let answered : Answered manager (request_of v.given h) m = subst (λ (given : List KeyValue). Answered manager (request_of given h) m) stands.given c.in_ok-materials.ensures.found in
+    let error : OpenError = c.in_err-unlocked_by.field-0.0 in
+    let next : Opener = record c.args.self.now { reader = c.step.new.self; served = Some c.served.result; stopped = true } in
+    steps_failed manager next v piece c.from_residual-in_err-unlocked_by.result error c.from_residual-in_err-unlocked_by.ensures.1
+    (steps_not_unlocked manager c.args.self.now next v piece used h m error stands going lock header_is answered c.in_err-unlocked_by.ensures.cause refl refl (ap (λ (s : Served). Some s) c.served.ensures) refl
+    c.requires.locked)
+
+pub returns-clause-steps : goal.returns-clause-steps
+returns-clause-steps g c = λ v stands.
+    let manager : Asking =
+    asking_of (g.M.Manager.meaning c.args.manager.now) (g.M.Manager.meaning c.materials_for.new.manager) (g.M.Manager.tells c.args.manager.now) (g.M.Manager.exact c.args.manager.now)
+    (g.M.Manager.found c.materials_for.new.manager) (g.M.Manager.bears c.args.manager.now) (g.M.Manager.bears c.materials_for.new.manager) c.args.now in
+    let going : v.stopped ≡ false = sym stands.stopped ∙ c.requires.going in
+    let lock = locked_at c.args.self.now v c.requires.locked stands in
+    let piece : List ℕ = c.args.piece.now in
+    let before : Session = record { settings = v.settings; taken = v.taken; stopped = false } in
+    let used : ℕ = c.in-Ok.step.used in
+    let answer = c.in-Ok.ensures.answer before (lock.reads going) in
+    let after : Session = record { settings = v.settings; taken = v.taken ++ take used piece; stopped = false } in
+    let reads : Reads c.step.new.self after = c.in-Ok.ensures.stands before (lock.reads going) in
+    let h : HeaderValue = c.in-Some.header.now in
+    let header_is : Shown v piece used h = shown v piece used h (c.in-Some.ensures after reads) in
+    let m : DecMaterialsValue = c.in_ok-materials.materials in
+    let answered : Answered manager (request_of v.given h) m = subst (λ (given : List KeyValue). Answered manager (request_of given h) m) stands.given c.in_ok-materials.ensures.found in
+    let next : Opener = record c.args.self.now { reader = c.step.new.self; served = Some c.served.result; unlocked = Some c.in_ok-unlocked_by.field-0; stopped = false } in
+    steps_opened manager c.args.self.now next v piece used h m c.in_ok-unlocked_by.field-0 stands going lock header_is (used_within v.taken piece v.settings c.in-Ok.step answer) answered
+    c.in_ok-unlocked_by.ensures.unlocked refl refl (ap (λ (s : Served). Some s) c.served.ensures) refl refl
+
+pub returns-clause-within : goal.returns-clause-within
+returns-clause-within g c = λ v stands.
+    let going : v.stopped ≡ false = sym stands.stopped ∙ c.requires.going in
+    let lock = locked_at c.args.self.now v c.requires.locked stands in
+    used_within v.taken c.args.piece.now v.settings c.in-Ok.step (c.in-Ok.ensures.answer (record { settings = v.settings; taken = v.taken; stopped = false }) (lock.reads going))

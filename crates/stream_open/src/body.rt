@@ -1,0 +1,161 @@
+//! The body of a message that comes in pieces.
+
+ghost use Rattle.std.specs.Prelude.{◌≡◌, ◌+◌, ◌<◌, ◌≤◌, ℕ, [], ◌++◌, length, take, true, false, None, Some, IfOk, IfErr, OnErr};
+ghost use Rattle.esdk_fields.specs.Reading.{Read, Refused};
+ghost use Rattle.esdk_fields.specs.declared.faults.Fault.TheVariants.{UnitTag};
+ghost use Rattle.frame_codec.specs.UnitHead.{final_mark, longest_block, IfRegular};
+ghost use Rattle.suite_table.specs.Keys.{derived};
+ghost use Rattle.stream_open.specs.Body.{AnswersBody, GoesOn, HoldsFrames, IsInUnit, SameBody, StepsBody};
+ghost use Rattle.stream_open.specs.UnitBuffer.{opened_of};
+ghost use Rattle.stream_open.specs.declared.errors.OpenError.TheVariants as errors;
+ghost use Rattle.stream_open.specs.Session.{framed};
+
+use crate::errors::OpenError;
+use crate::unit_buffer::UnitBuffer;
+use aes_core::Key256;
+use esdk_fields::{Content, Fault};
+use frame_codec::{Head, UnitHead, UnitKind, judge_head};
+use header_codec::Header;
+use keyring_trait::DataKey;
+use std::alloc::{AllocError, Global};
+use suite_table::{Suite, derived};
+
+/// How many bytes a final frame has beside its content; a regular one has fewer.
+const BESIDE_CONTENT: usize = 40;
+
+/// How many bytes a tag has.
+const TAG: usize = 16;
+
+/// The body of a message whose header is unlocked. It holds one unit.
+#[derive(Drop)]
+pub(crate) struct Body {
+    pub(crate) key: Key256,
+    pub(crate) message_id: [u8; 32],
+    pub(crate) content: Content,
+    pub(crate) max_unit: Option<u64>,
+    pub(crate) number: u32,
+    pub(crate) ended: bool,
+    pub(crate) unit: UnitBuffer,
+}
+
+/// How many bytes are reserved for one unit: a frame and 40 bytes. A single block's buffer grows with the bytes that come.
+fn reserved_for(content: Content) -> usize
+    ensures { framed content ≡ true → HoldsFrames content result }
+{
+    match content {
+        Content::Single => 0,
+        Content::Framed(size) => size as usize + BESIDE_CONTENT,
+    }
+}
+
+impl Body {
+    /// The body behind this header, under this data key; no byte of it came yet. Fails only where memory runs out.
+    pub(crate) fn new(
+        alloc: Global,
+        header: &Header,
+        max_unit: Option<u64>,
+        key: &DataKey,
+    ) -> Result<Body, AllocError>
+        ensures key { IfOk result (λ body. body.key ≡ derived key.now header.now.message_id) }
+        ensures id { IfOk result (λ body. body.message_id ≡ header.now.message_id) }
+        ensures content { IfOk result (λ body. body.content ≡ header.now.content) }
+        ensures max_unit { IfOk result (λ body. body.max_unit ≡ max_unit) }
+        ensures begun { IfOk result (λ body. (body.number ≡ 1) × (body.ended ≡ false) × (body.unit.held ≡ []) × (body.unit.out ≡ [])) }
+        ensures reserved { IfOk result (λ body. framed body.content ≡ true → HoldsFrames body.content body.unit.reserved) }
+    {
+        let unit = UnitBuffer::new(alloc, reserved_for(header.content()))?;
+        let id = header.message_id();
+        let mut message_id = [0; 32];
+        message_id.copy_from_slice(id);
+        Ok(Body {
+            key: Key256::new(&derived(Suite::Committing, key.bytes(), id)),
+            message_id,
+            content: header.content(),
+            max_unit,
+            number: 1,
+            ended: false,
+            unit,
+        })
+    }
+
+    /// Takes bytes up to the end of the open unit, or of the piece, and answers how many. At the unit's end its content is given; else nothing is.
+    ///
+    /// `Fault` with M18, M19, M21 or M9 at the last byte of the field that has it, with M20 at the last byte of a unit whose tag is wrong, and with M22 where a byte comes
+    /// behind the last unit. `Memory` only where a single block grows; never another error.
+    pub(crate) fn step(&mut self, piece: &[u8]) -> Result<usize, OpenError>
+        ensures answer { IsInUnit self.old → AnswersBody self.old piece.now result }
+        ensures same { SameBody self.old self.new }
+        ensures steps { IsInUnit self.old → IfOk result (λ n. StepsBody self.old piece.now n self.new) }
+        ensures kept { OnErr result (self.new.ended ≡ self.old.ended) }
+        ensures nothing { OnErr result (self.new.unit.out ≡ []) }
+        ensures within { IfOk result (λ n. n ≤ length piece.now) }
+    {
+        self.unit.go_on();
+        if !self.ended {
+            return self.step_unit(piece);
+        }
+        if piece.is_empty() {
+            Ok(0)
+        } else {
+            Err(OpenError::Fault(Fault::TrailingBytes))
+        }
+    }
+
+    /// Takes bytes up to the end of the open unit, or of the piece, while the body isn't ended.
+    fn step_unit(&mut self, piece: &[u8]) -> Result<usize, OpenError>
+        requires going { self.old.ended ≡ false }
+        requires out { self.old.unit.out ≡ [] }
+        ensures answer { IsInUnit self.old → AnswersBody self.old piece.now result }
+        ensures same { SameBody self.old self.new }
+        ensures steps { IsInUnit self.old → IfOk result (λ n. StepsBody self.old piece.now n self.new) }
+        ensures kept { OnErr result (self.new.ended ≡ self.old.ended) }
+        ensures nothing { OnErr result (self.new.unit.out ≡ []) }
+        ensures within { IfOk result (λ n. n ≤ length piece.now) }
+    {
+        let mut used = 0;
+        'fields: loop {
+            let held = self.unit.held();
+            match judge_head(held, self.content, self.number, self.max_unit) {
+                Head::Refused(fault) => return Err(OpenError::Fault(fault)),
+                Head::NeedMore(end) => {
+                    used += self.unit.fill(end, &piece[used..])?;
+                    if self.unit.held().len() < end {
+                        return Ok(used);
+                    }
+                }
+                Head::Unit(head) => {
+                    let end = head.size + head.length as usize + TAG;
+                    used += self.unit.fill(end, &piece[used..])?;
+                    if self.unit.held().len() != end {
+                        return Ok(used);
+                    }
+                    self.open(&head)?;
+                    return Ok(used);
+                }
+            }
+        }
+    }
+
+    /// Opens the unit behind this head, which is whole, and goes on to the next number, or ends. `Fault` with M20 where its tag is wrong.
+    fn open(&mut self, head: &UnitHead) -> Result<(), OpenError>
+        requires whole { length self.old.unit.held ≡ head.now.size + head.now.length + 16 }
+        requires short { head.now.length ≤ longest_block }
+        requires numbered { IfRegular head.now.kind (head.now.number < final_mark) }
+        requires going { self.old.ended ≡ false }
+        ensures opens { IfOk result (λ _. opened_of self.old.key self.old.message_id head.now self.old.unit.held ≡ Some self.new.unit.out) }
+        ensures on { IfOk result (λ _. GoesOn head.now self.new) }
+        ensures fault { IfErr result (λ e. (e ≡ errors.Fault (UnitTag head.now.number)) × (opened_of self.old.key self.old.message_id head.now self.old.unit.held ≡ None)) }
+        ensures nothing { OnErr result (self.new.unit.out ≡ []) }
+        ensures kept { OnErr result (self.new.ended ≡ self.old.ended) }
+        ensures same { SameBody self.old self.new }
+    {
+        if !self.unit.open(&self.key, &self.message_id, head) {
+            return Err(OpenError::Fault(Fault::UnitTag(head.number)));
+        }
+        match head.kind {
+            UnitKind::Regular => self.number = head.number + 1,
+            UnitKind::Final | UnitKind::Single => self.ended = true,
+        }
+        Ok(())
+    }
+}

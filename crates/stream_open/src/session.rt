@@ -1,0 +1,214 @@
+//! A message that is opened piece by piece.
+
+ghost use Rattle.std.specs.Prelude.{◌≡◌, ◌≤◌, true, false, List, length, [], None, IfErr, IfOk};
+ghost use Rattle.std.specs.Option.{option_copied};
+ghost use Rattle.keyring_trait.specs.Manager.{ManagerGoes, TellsOn};
+ghost use Rattle.keyring_trait.specs.declared.journal.JournalLine.{JournalLine};
+ghost use Rattle.stream_open.specs.Asking.{asking_of};
+ghost use Rattle.stream_open.specs.Session.{OpeningValue, opened, judged_now, finish_answer, finished, whole_context, only_authenticated, is_end};
+ghost use Rattle.stream_open.specs.Stands.{Stands, Steps, quiet, unread_as};
+
+use crate::asking::materials_for;
+use crate::errors::OpenError;
+use crate::unlocked::{Unlocked, unlocked_by};
+use context_codec::Context;
+use esdk_fields::{Fault, FieldError};
+use header_codec::{Header, HeaderReader, Settings};
+use keyring_trait::{Manager, Served};
+use std::alloc::Global;
+
+/// Opens a message piece by piece: the header, which a materials manager unlocks, and one frame after another, or the single block. Each content is handed out by the step
+/// that takes the last byte of its unit, after its tag was checked. Once the header of a framed message is unlocked, no step takes memory.
+/// AWS Encryption SDK Specification, "Decrypt".
+#[derive(Drop)]
+pub struct Opener {
+    settings: Settings,
+    given: Context,
+    reader: HeaderReader,
+    served: Option<Served>,
+    unlocked: Option<Unlocked>,
+    stopped: bool,
+}
+
+impl Opener {
+    /// An opener that has taken nothing. It keeps these limits, and the manager is told these pairs beside those that the header stores.
+    pub fn new(alloc: Global, settings: Settings, given: Context) -> Opener
+        ensures { Stands result (opened settings given) }
+    {
+        Opener {
+            settings,
+            given,
+            reader: HeaderReader::new(alloc, settings),
+            served: None,
+            unlocked: None,
+            stopped: false,
+        }
+    }
+
+    /// The content that the last step released. It is empty where that step released none, before the first step, after `finish` and after an error.
+    pub fn out(&self) -> &[u8]
+        ensures { (v : OpeningValue) → Stands self.now v → result.now ≡ v.out }
+    {
+        match &self.unlocked {
+            None => &[],
+            Some(unlocked) => unlocked.body.unit.out(),
+        }
+    }
+
+    /// Takes bytes up to the end of the piece, of the header's tag or of a unit, whichever is first, and answers how many; at least one where the piece isn't empty. At the
+    /// end of the header's tag the manager is asked for the data key, at the moment `now`, in seconds. At the end of a unit `out` is its content.
+    ///
+    /// - `Fault`: the bytes taken, followed by the piece, have this fault, and no unit is released before it. M1 to M9 in the header, M11 to M15 where the manager
+    ///   doesn't unlock it, M16 or M17 where its key or the header's tag isn't right, M9 and M18 to M22 in the body.
+    /// - `KeyringFault`: a keyring failed when the manager was asked.
+    /// - `Memory`: memory ran out; never within the frames of a message that is unlocked.
+    /// - `Stopped`: exactly where an earlier call answered an error.
+    ///
+    /// Any error leaves `out` empty and stops the opener.
+    pub fn step<M: Manager>(
+        &mut self,
+        alloc: Global,
+        manager: &mut M,
+        now: u64,
+        piece: &[u8],
+    ) -> Result<usize, OpenError>
+        ensures steps { (v : OpeningValue) → Stands self.old v → Steps
+            (asking_of (M.meaning manager.old) (M.meaning manager.new) (M.tells manager.old) (M.exact manager.old) (M.found manager.new) (M.bears manager.old) (M.bears manager.new) now)
+            v piece.now result self.new }
+        ensures within { (v : OpeningValue) → Stands self.old v → IfOk result (λ used. used ≤ length piece.now) }
+        ensures goes { ManagerGoes (M.meaning manager.old) (M.meaning manager.new) }
+        ensures tells { TellsOn (M.tells manager.old) (M.tells manager.new) }
+        ensures same { (M.meaning manager.old).plain ≡ true → TellsOn (M.tells manager.new) (M.tells manager.old) }
+        ensures exact { M.exact manager.old → M.exact manager.new }
+        ensures limits { (lines : List JournalLine) → M.within manager.new lines → M.within manager.old lines }
+    {
+        // Where the manager isn't asked, it stays as it is: `wraps` says so of a steady one's count.
+        let _wraps = manager.wraps();
+        if self.stopped {
+            self.give_nothing();
+            return Err(OpenError::Stopped);
+        }
+        if let Some(unlocked) = &mut self.unlocked {
+            let answer = unlocked.step(piece);
+            self.stopped = answer.is_err();
+            return answer;
+        }
+        self.step_header(alloc, manager, now, piece)
+    }
+
+    /// Nothing is given any more.
+    fn give_nothing(&mut self)
+        ensures unlocked { self.new.unlocked ≡ quiet self.old.unlocked }
+        ensures settings { self.new.settings ≡ self.old.settings }
+        ensures given { self.new.given ≡ self.old.given }
+        ensures reader { self.new.reader ≡ self.old.reader }
+        ensures served { self.new.served ≡ self.old.served }
+        ensures stopped { self.new.stopped ≡ self.old.stopped }
+    {
+        if let Some(unlocked) = &mut self.unlocked {
+            unlocked.body.unit.go_on();
+        }
+    }
+
+    /// A step while the header isn't unlocked.
+    fn step_header<M: Manager>(
+        &mut self,
+        alloc: Global,
+        manager: &mut M,
+        now: u64,
+        piece: &[u8],
+    ) -> Result<usize, OpenError>
+        requires manager { ManagerGoes (M.meaning manager.old) (M.meaning manager.old) }
+        requires going { self.old.stopped ≡ false }
+        requires locked { self.old.unlocked ≡ None }
+        ensures steps { (v : OpeningValue) → Stands self.old v → Steps
+            (asking_of (M.meaning manager.old) (M.meaning manager.new) (M.tells manager.old) (M.exact manager.old) (M.found manager.new) (M.bears manager.old) (M.bears manager.new) now)
+            v piece.now result self.new }
+        ensures within { (v : OpeningValue) → Stands self.old v → IfOk result (λ used. used ≤ length piece.now) }
+        ensures goes { ManagerGoes (M.meaning manager.old) (M.meaning manager.new) }
+        ensures tells { TellsOn (M.tells manager.old) (M.tells manager.new) }
+        ensures same { (M.meaning manager.old).plain ≡ true → TellsOn (M.tells manager.new) (M.tells manager.old) }
+        ensures exact { M.exact manager.old → M.exact manager.new }
+        ensures limits { (lines : List JournalLine) → M.within manager.new lines → M.within manager.old lines }
+    {
+        self.stopped = true;
+        let step = match self.reader.step(alloc, piece) {
+            Ok(step) => step,
+            Err(error) => return Err(unread(error)),
+        };
+        let Some(header) = self.reader.header() else {
+            self.stopped = false;
+            return Ok(step.used);
+        };
+        let materials = materials_for(alloc, manager, now, &self.given, header)?;
+        self.served = Some(materials.served());
+        self.unlocked = Some(unlocked_by(alloc, header, self.settings.max_unit, materials)?);
+        self.stopped = false;
+        Ok(step.used)
+    }
+
+    /// Says that no byte follows. Ok exactly where the message is whole; M10 `Truncated` exactly where more bytes are wanted, and then the opener is stopped; `Stopped`
+    /// exactly where an earlier call answered an error. In all cases `out` is empty.
+    pub fn finish(&mut self) -> Result<(), OpenError>
+        ensures answer { (v : OpeningValue) → Stands self.old v → result ≡ finish_answer v }
+        ensures stands { (v : OpeningValue) → Stands self.old v → Stands self.new (finished v) }
+    {
+        self.give_nothing();
+        if self.stopped {
+            return Err(OpenError::Stopped);
+        }
+        if !self.is_whole() {
+            self.stopped = true;
+            return Err(OpenError::Fault(Fault::Truncated));
+        }
+        Ok(())
+    }
+
+    /// The whole context, once the header was unlocked: the pairs that it stores, and those that are only authenticated.
+    pub fn context(&self) -> Option<&Context>
+        ensures { (v : OpeningValue) → Stands self.now v → option_copied result ≡ whole_context v }
+    {
+        match &self.unlocked {
+            None => None,
+            Some(unlocked) => Some(&unlocked.whole),
+        }
+    }
+
+    /// The pairs of the context that are only authenticated, once the header was unlocked.
+    pub fn only(&self) -> Option<&Context>
+        ensures { (v : OpeningValue) → Stands self.now v → option_copied result ≡ only_authenticated v }
+    {
+        match &self.unlocked {
+            None => None,
+            Some(unlocked) => Some(&unlocked.only),
+        }
+    }
+
+    /// How the manager's materials were served, once it answered them; also where the header wasn't unlocked with them.
+    pub fn served(&self) -> Option<Served>
+        ensures { (v : OpeningValue) → Stands self.now v → result ≡ v.served }
+    {
+        self.served
+    }
+
+    /// Whether the bytes taken are a whole message.
+    pub fn is_whole(&self) -> bool
+        ensures { (v : OpeningValue) → Stands self.now v → result ≡ is_end (judged_now v).verdict }
+    {
+        match &self.unlocked {
+            None => false,
+            Some(unlocked) => unlocked.body.ended,
+        }
+    }
+}
+
+/// Why a header isn't read.
+fn unread(error: FieldError) -> OpenError
+    ensures { result ≡ unread_as error }
+{
+    match error {
+        FieldError::Fault(fault) => OpenError::Fault(fault),
+        FieldError::Stopped => OpenError::Stopped,
+        FieldError::Memory => OpenError::Memory,
+    }
+}
