@@ -6,8 +6,8 @@ use crate::wrong::Wrong;
 use aes_core::Key256;
 use gcm_core::{open_in_place, seal_in_place};
 use ghash_core::Ghash;
-use hkdf_core::{hkdf512, hmac512};
-use suite_table::{Suite, commitment, derived, suite_of};
+use hkdf_core::{hkdf256, hkdf512, hmac256, hmac512};
+use suite_table::{commitment, derived, suite_of};
 
 /// The most bytes of a text or of associated data.
 const MOST: usize = 1_048_576;
@@ -89,13 +89,34 @@ pub fn open(
     put(out, &text)
 }
 
-/// The keyed hash of a text.
-pub fn hmac(out: &mut String, key: &[u8], text: &[u8]) -> Result<(), Wrong> {
+/// The keyed hash of a text, over SHA-256.
+pub fn hmac_sha256(out: &mut String, key: &[u8], text: &[u8]) -> Result<(), Wrong> {
+    put(out, &hmac256(key, text))
+}
+
+/// The keyed hash of a text, over SHA-512.
+pub fn hmac_sha512(out: &mut String, key: &[u8], text: &[u8]) -> Result<(), Wrong> {
     put(out, &hmac512(key, text))
 }
 
-/// As many bytes as `held` has, derived from a key and written over it.
-pub fn hkdf(
+/// As many bytes as `held` has, derived from a key over SHA-256 and written over it.
+pub fn hkdf_sha256(
+    out: &mut String,
+    key: &[u8],
+    salt: &[u8],
+    info: &[u8],
+    held: &[u8],
+) -> Result<(), Wrong> {
+    if held.len() > 8_160 {
+        return Err(Wrong("too many bytes"));
+    }
+    let mut made = held.to_vec(*out.allocator())?;
+    hkdf256(key, salt, info, made.as_mut_slice());
+    put(out, &made)
+}
+
+/// As many bytes as `held` has, derived from a key over SHA-512 and written over it.
+pub fn hkdf_sha512(
     out: &mut String,
     key: &[u8],
     salt: &[u8],
@@ -110,10 +131,15 @@ pub fn hkdf(
     put(out, &made)
 }
 
-/// The key that is derived from a data key and a message id.
-pub fn derived_key(out: &mut String, key: &[u8], id: &[u8]) -> Result<(), Wrong> {
-    let id: &[u8; 32] = sized(id)?;
-    put(out, &derived(Suite::Committing, sized(key)?, id))
+/// The key that a suite derives from a data key and a message id.
+pub fn derived_key(out: &mut String, suite: &[u8], key: &[u8], id: &[u8]) -> Result<(), Wrong> {
+    let Some(suite) = suite_of(u16::from_be_bytes(*sized(suite)?)) else {
+        return Err(Wrong("not a suite"));
+    };
+    if id.len() != suite.id_length() {
+        return Err(Wrong("not so many bytes"));
+    }
+    put(out, &derived(suite, sized(key)?, id))
 }
 
 /// The commitment to a data key.

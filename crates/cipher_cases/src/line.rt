@@ -39,7 +39,13 @@ fn put_answer_of(out: &mut String, verb: &str, arguments: &[Vec<u8>]) -> Result<
     match arguments {
         [id] if verb == "suite" => calls::suite(out, id),
         [first, second] => put_answer_of_two(out, verb, first, second),
-        [key, salt, info, held] if verb == "hkdf" => calls::hkdf(out, key, salt, info, held),
+        [suite, key, id] if verb == "derived" => calls::derived_key(out, suite, key, id),
+        [key, salt, info, held] if verb == "hkdf" => {
+            calls::hkdf_sha512(out, key, salt, info, held)
+        }
+        [key, salt, info, held] if verb == "hkdf256" => {
+            calls::hkdf_sha256(out, key, salt, info, held)
+        }
         [key, iv, first, second, text] if verb == "seal" => {
             calls::seal(out, key, iv, first, second, text)
         }
@@ -56,8 +62,8 @@ fn put_answer_of_two(out: &mut String, verb: &str, key: &[u8], text: &[u8]) -> R
         "ecb" => calls::ecb(out, key, text),
         "ghash" => calls::ghash(out, key, text),
         "ghash4" => calls::ghash_by_fours(out, key, text),
-        "hmac" => calls::hmac(out, key, text),
-        "derived" => calls::derived_key(out, key, text),
+        "hmac" => calls::hmac_sha512(out, key, text),
+        "hmac256" => calls::hmac_sha256(out, key, text),
         "commitment" => calls::key_commitment(out, key, text),
         _ => Err(Wrong("not a call")),
     }

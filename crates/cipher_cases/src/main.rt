@@ -11,9 +11,11 @@
 //! | `ghash4 H BLOCKS` | the same, taken by fours as long as there are four |
 //! | `seal KEY IV FIRST SECOND TEXT` | the ciphertext and the tag |
 //! | `open KEY IV FIRST SECOND CIPHER TAG` | `opened` or `refused`, and what stands in the text then |
-//! | `hmac KEY TEXT` | the keyed hash |
-//! | `hkdf IKM SALT INFO HELD` | as many bytes as `HELD` has, derived and written over it |
-//! | `derived KEY ID` | the key that is derived from a data key and a message id |
+//! | `hmac KEY TEXT` | the keyed hash, over SHA-512 |
+//! | `hmac256 KEY TEXT` | the same over SHA-256 |
+//! | `hkdf IKM SALT INFO HELD` | as many bytes as `HELD` has, derived over SHA-512 and written over it |
+//! | `hkdf256 IKM SALT INFO HELD` | the same over SHA-256 |
+//! | `derived SUITE KEY ID` | the key that the suite of this id derives from a data key and a message id |
 //! | `commitment KEY ID` | the commitment to a data key |
 //! | `suite ID` | `known` or `unknown` |
 //!

@@ -8,11 +8,13 @@ use Rattle.std.proofs.lemmas.Bool.{cases_lt}
 use Rattle.std.proofs.lemmas.Grind.{div_ceil_times}
 use Rattle.std.proofs.lemmas.List.{append-nil, drop_all, length-take-le, take_all, take_at}
 use Rattle.std.proofs.lemmas.List.Elements.{All-nil, All-append, All-take}
+use Rattle.sha2.specs.Sha256.{sha256}
 use Rattle.sha2.specs.Sha512.{sha512}
+use Rattle.sha2.proofs.Facts256.{length-sha256}
 use Rattle.sha2.proofs.Facts512.{length-sha512}
 use Rattle.cipher_spec.specs.Hmac.{hmac, key_block, keyed_digest}
-use Rattle.cipher_spec.specs.Hkdf.{expand, extract, hkdf, hkdf512, output_block, output_blocks}
-use Rattle.cipher_spec.proofs.HmacLemmas.{IsByte, bytes-hmac, bytes-sha512, hmac-zeros, length-hmac}
+use Rattle.cipher_spec.specs.Hkdf.{expand, extract, hkdf, hkdf256, hkdf512, output_block, output_blocks}
+use Rattle.cipher_spec.proofs.HmacLemmas.{IsByte, bytes-hmac, bytes-sha256, bytes-sha512, hmac-zeros, length-hmac}
 
 -- T(i + 1), made from the key's block and T(i)
 pub output_block_next : (digest : List ℕ → List ℕ) (block : ℕ) (prk info k : List ℕ) (i : ℕ) → k ≡ key_block digest block prk
@@ -51,11 +53,20 @@ length-expand digest size long some block prk info count =
     let whole = length-output_blocks digest size long block prk info (div_ceil count size) in
     length-take-le count _ (omega (arith, enough, whole))
 
+pub length-hkdf256 : (ikm salt info : List ℕ) (count : ℕ) → length (hkdf256 ikm salt info count) ≡ count
+unfolding hkdf hkdf256
+length-hkdf256 ikm salt info count = length-expand sha256 32 length-sha256 (omega arith) 64 _ info count
+
 pub length-hkdf512 : (ikm salt info : List ℕ) (count : ℕ) → length (hkdf512 ikm salt info count) ≡ count
 unfolding hkdf hkdf512
 length-hkdf512 ikm salt info count = length-expand sha512 64 length-sha512 (omega arith) 128 _ info count
 
 -- what is derived is made of bytes
+pub bytes-hkdf256 : (ikm salt info : List ℕ) (count : ℕ) → All IsByte (hkdf256 ikm salt info count)
+unfolding hkdf hkdf256 expand
+bytes-hkdf256 ikm salt info count =
+    All-take IsByte count _ (bytes-output_blocks sha256 bytes-sha256 64 _ info (div_ceil count 32))
+
 pub bytes-hkdf512 : (ikm salt info : List ℕ) (count : ℕ) → All IsByte (hkdf512 ikm salt info count)
 unfolding hkdf hkdf512 expand
 bytes-hkdf512 ikm salt info count =
@@ -100,6 +111,11 @@ written_more old out done last at size long room full before now =
     ]
 
 -- the empty salt is a salt of zeros, as many as a digest has bytes
+pub hkdf256-no_salt : (ikm info : List ℕ) (count : ℕ) → hkdf256 ikm [] info count ≡ hkdf256 ikm (replicate 32 0) info count
+unfolding hkdf hkdf256 extract
+hkdf256-no_salt ikm info count =
+    ap (λ prk. expand sha256 64 32 prk info count) (hmac-zeros sha256 64 32 (omega arith) ikm)
+
 pub hkdf512-no_salt : (ikm info : List ℕ) (count : ℕ) → hkdf512 ikm [] info count ≡ hkdf512 ikm (replicate 64 0) info count
 unfolding hkdf hkdf512 extract
 hkdf512-no_salt ikm info count =

@@ -1,14 +1,18 @@
 -- The length and the bytes of an HMAC, over any digest whose length and bytes are known.
 use Rattle.std.proofs.Common.{false, nat_lt, ◌≤◌, ◌≡◌, ◌<◌, ◌/◌, ◌^◌, ◌-◌, ℕ, zero, suc, List, [], ◌++◌, length, replicate, ap, sym, ◌∙◌, arith, lit<}
 use Rattle.std.specs.Prelude.{All, slice_index}
-use Rattle.std.specs.Int.{bytes_high_first, byte_at, to_be_bytes, w64}
+use Rattle.std.specs.Int.{bytes_high_first, byte_at, to_be_bytes, w32, w64}
 use Rattle.std.proofs.Math.Nat.{mod-lt}
 use Rattle.std.proofs.lemmas.List.{length-replicate, replicate-append-replicate}
 use Rattle.std.proofs.lemmas.List.Elements.{All-nil, All-cons, All-append}
 use Rattle.std.proofs.lemmas.Bool.Decides.{nat_tests}
-use Rattle.sha2.specs.Sha512.{digest_bytes, sha512}
+use Rattle.sha2.specs.Sha256 as S256
+use Rattle.sha2.specs.Sha512 as S512
+use Rattle.sha2.specs.Sha256.{sha256}
+use Rattle.sha2.specs.Sha512.{sha512}
+use Rattle.sha2.proofs.Facts256.{length-sha256}
 use Rattle.sha2.proofs.Facts512.{length-sha512}
-use Rattle.cipher_spec.specs.Hmac.{hmac, hmac512, key_block, keyed_digest, zero_padded}
+use Rattle.cipher_spec.specs.Hmac.{hmac, hmac256, hmac512, key_block, keyed_digest, zero_padded}
 
 -- a byte is below 256
 abbrev pub IsByte : ℕ → Type 0
@@ -23,17 +27,29 @@ bytes-bytes_high_first zero n = All-nil IsByte
 bytes-bytes_high_first (suc k) n =
     All-cons IsByte (byte_at k n) (bytes_high_first k n) (byte_at-lt k n) (bytes-bytes_high_first k n)
 
-bytes-digest_bytes : (h : List ℕ) (n : ℕ) → All IsByte (digest_bytes h n)
-unfolding digest_bytes
-bytes-digest_bytes h zero = All-nil IsByte
-bytes-digest_bytes h (suc n) =
-    All-append IsByte (digest_bytes h n) (to_be_bytes w64 (slice_index h n))
-    (bytes-digest_bytes h n) (bytes-bytes_high_first 8 (slice_index h n))
+bytes-words256 : (h : List ℕ) (n : ℕ) → All IsByte (S256.digest_bytes h n)
+unfolding S256.digest_bytes
+bytes-words256 h zero = All-nil IsByte
+bytes-words256 h (suc n) =
+    All-append IsByte (S256.digest_bytes h n) (to_be_bytes w32 (slice_index h n))
+    (bytes-words256 h n) (bytes-bytes_high_first 4 (slice_index h n))
 
--- a digest of SHA-512 is made of bytes
+bytes-words512 : (h : List ℕ) (n : ℕ) → All IsByte (S512.digest_bytes h n)
+unfolding S512.digest_bytes
+bytes-words512 h zero = All-nil IsByte
+bytes-words512 h (suc n) =
+    All-append IsByte (S512.digest_bytes h n) (to_be_bytes w64 (slice_index h n))
+    (bytes-words512 h n) (bytes-bytes_high_first 8 (slice_index h n))
+
+-- a digest of SHA-256 is made of bytes
+pub bytes-sha256 : (m : List ℕ) → All IsByte (sha256 m)
+unfolding S256.sha256
+bytes-sha256 m = bytes-words256 _ 8
+
+-- and one of SHA-512
 pub bytes-sha512 : (m : List ℕ) → All IsByte (sha512 m)
-unfolding sha512
-bytes-sha512 m = bytes-digest_bytes _ 8
+unfolding S512.sha512
+bytes-sha512 m = bytes-words512 _ 8
 
 -- an HMAC is as long as a digest
 pub length-keyed_digest : (digest : List ℕ → List ℕ) (size : ℕ) → ((m : List ℕ) → length (digest m) ≡ size)
@@ -51,6 +67,14 @@ pub bytes-hmac : (digest : List ℕ → List ℕ) → ((m : List ℕ) → All Is
     → (block : ℕ) (key text : List ℕ) → All IsByte (hmac digest block key text)
 unfolding hmac keyed_digest
 bytes-hmac digest bytes block key text = bytes _
+
+pub length-hmac256 : (key text : List ℕ) → length (hmac256 key text) ≡ 32
+unfolding hmac256
+length-hmac256 key text = length-hmac sha256 32 length-sha256 64 key text
+
+pub bytes-hmac256 : (key text : List ℕ) → All IsByte (hmac256 key text)
+unfolding hmac256
+bytes-hmac256 key text = bytes-hmac sha256 bytes-sha256 64 key text
 
 pub length-hmac512 : (key text : List ℕ) → length (hmac512 key text) ≡ 64
 unfolding hmac512

@@ -19,9 +19,9 @@ pub enum ContextFault {
 /// A fault of a message. Its number is the one on the printed line.
 #[derive(Drop)]
 pub enum Fault {
-    /// M1: the version byte isn't 2; that byte.
+    /// M1: the version byte is neither 1 nor 2; that byte.
     BadVersion(u8),
-    /// M2: the algorithm suite isn't one that is read; its id.
+    /// M2: the algorithm suite isn't the one that is read in that version; its id.
     UnsupportedSuite(u16),
     /// M3: the bytes of the encryption context spell none; what is wrong with them.
     BadContext(ContextFault),
@@ -68,6 +68,14 @@ pub enum Fault {
     BlockTooLong(u64),
     /// M22: bytes follow the end of the message.
     TrailingBytes,
+    /// M23: the algorithm suite doesn't commit to its data key, and the caller doesn't allow that; its id.
+    Uncommitted(u16),
+    /// M24: the type of a message of version 1 isn't 0x80; that byte.
+    BadType(u8),
+    /// M25: the reserved bytes of a message of version 1 aren't zeros; their number.
+    BadReserved(u32),
+    /// M26: the length of the initialization vectors of a message of version 1 isn't 12; that byte.
+    BadIvLength(u8),
 }
 
 impl Fault {
@@ -107,6 +115,10 @@ impl Fault {
             Fault::UnitTag(sequence) => Ok(Fault::UnitTag(*sequence)),
             Fault::BlockTooLong(length) => Ok(Fault::BlockTooLong(*length)),
             Fault::TrailingBytes => Ok(Fault::TrailingBytes),
+            Fault::Uncommitted(suite) => Ok(Fault::Uncommitted(*suite)),
+            Fault::BadType(kind) => Ok(Fault::BadType(*kind)),
+            Fault::BadReserved(reserved) => Ok(Fault::BadReserved(*reserved)),
+            Fault::BadIvLength(length) => Ok(Fault::BadIvLength(*length)),
         }
     }
 }

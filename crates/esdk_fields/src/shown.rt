@@ -32,6 +32,10 @@ impl Fault {
             Fault::UnitTag(_) => "M20 UnitTag",
             Fault::BlockTooLong(_) => "M21 BlockTooLong",
             Fault::TrailingBytes => "M22 TrailingBytes",
+            Fault::Uncommitted(_) => "M23 Uncommitted",
+            Fault::BadType(_) => "M24 BadType",
+            Fault::BadReserved(_) => "M25 BadReserved",
+            Fault::BadIvLength(_) => "M26 BadIvLength",
         }
     }
 }

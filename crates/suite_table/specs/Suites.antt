@@ -1,8 +1,28 @@
--- The algorithm suites. Standard: AWS Encryption SDK Specification, "Supported algorithm suites".
+-- The algorithm suites, and what a suite says of the format of its messages. Standard: AWS Encryption SDK Specification, "Supported algorithm suites".
 use Rattle.std.specs.Prelude.{ℕ, Option, Some, None, if◌then◌else◌, ◌==◌}
 use Rattle.suite_table.specs.declared.suite.Suite.{Suite}
-use Rattle.suite_table.specs.declared.suite.Suite.TheVariants.{Committing}
+use Rattle.suite_table.specs.declared.suite.Suite.TheVariants.{Committing, Uncommitted}
 
--- the suite that has this id: AES-256-GCM, HKDF over SHA-512, key commitment, no signature
+-- "Algorithm Suite ID"
+abbrev pub suite_id : Suite → ℕ
+suite_id Committing = 0x0478
+suite_id Uncommitted = 0x0178
+
+-- the suite that has this id
 abbrev pub suite_with : ℕ → Option Suite
-suite_with id = if id == 0x0478 then Some Committing else None
+suite_with id = if id == 0x0478 then Some Committing else if id == 0x0178 then Some Uncommitted else None
+
+-- "Message Format Version"
+abbrev pub format_version : Suite → ℕ
+format_version Committing = 2
+format_version Uncommitted = 1
+
+-- how many bytes a message id has: "Message ID" of that version
+abbrev pub id_length : Suite → ℕ
+id_length Committing = 32
+id_length Uncommitted = 16
+
+-- how many bytes the header has that commit to the data key: "Algorithm Suite Data Length"
+abbrev pub data_length : Suite → ℕ
+data_length Committing = 32
+data_length Uncommitted = 0

@@ -7,5 +7,7 @@ mod laws;
 mod suite;
 
 pub use keys::{commitment, derived};
-pub use laws::{commitment_bytes, commitment_length, derived_bytes, derived_length};
+pub use laws::{
+    commitment_bytes, commitment_length, derived_bytes, derived_length, suites_are_found_by_id,
+};
 pub use suite::{Suite, suite_of};

@@ -2,7 +2,7 @@
 use Rattle.std.proofs.Common.{refl}
 use Rattle.std.proofs.lemmas.List.{drop-replicate}
 use Rattle.cipher_spec.specs.Hmac.{zero_padded}
-use Rattle.hkdf_core.proofs.hmac.zero_padded.Goals as goal
+use Rattle.hkdf_core.proofs.blocks.zero_padded.Goals as goal
 
 pub returns : goal.returns
 unfolding zero_padded

@@ -8,7 +8,7 @@ use Rattle.sha2.proofs.Facts512.{length-sha512}
 use Rattle.cipher_spec.specs.Hkdf.{expand, output_block, output_blocks}
 use Rattle.cipher_spec.proofs.HmacLemmas.{length-keyed_digest}
 use Rattle.cipher_spec.proofs.HkdfLemmas.{length-output_blocks, output_block_next, output_blocks_next, written_more}
-use Rattle.hkdf_core.proofs.hkdf.expand.Goals as goal
+use Rattle.hkdf_core.proofs.hkdf_sha512.expand.Goals as goal
 
 pub each-init : goal.each-init
 unfolding output_block output_blocks

@@ -1,11 +1,12 @@
 //! HKDF, the derivation of keys of RFC 5869, with SHA-512.
 
-ghost use Rattle.std.specs.Prelude.{◌≡◌, ◌++◌, ◌∷◌, [], ◌+◌, ◌-◌, ◌<◌, ◌≤◌, length, take, drop};
+ghost use Rattle.std.specs.Prelude.{◌≡◌, ◌++◌, ◌∷◌, [], ◌≤◌, length};
 ghost use Rattle.sha2.specs.Sha512.{sha512};
 ghost use Rattle.cipher_spec.specs.Hmac.{keyed_digest};
 ghost use Rattle.cipher_spec.specs.Hkdf.{expand, extract, hkdf512};
 
-use crate::hmac::{BLOCK, hmac512, inner_hasher, key_block, outer_digest};
+use crate::blocks::put;
+use crate::hmac_sha512::{BLOCK, hmac512, inner_hasher, key_block, outer_digest};
 use sha2::Digest;
 
 /// How many bytes a digest of SHA-512 has, the RFC's `HashLen`.
@@ -57,13 +58,4 @@ fn output_block(block: &[u8; BLOCK], last: &[u8], info: &[u8], number: u8) -> [u
     inner.update(info);
     inner.update([number]);
     outer_digest(block, inner)
-}
-
-/// Writes the block over `out` from `at` on, as far as `out` goes.
-fn put(out: &mut [u8], at: usize, block: &[u8])
-    requires { at < length out.old }
-    ensures { out.new ≡ take at out.old ++ take (length out.old - at) block.now ++ drop (at + length block.now) out.old }
-{
-    let count = block.len().min(out.len() - at);
-    out[at..at + count].copy_from_slice(&block[..count]);
 }

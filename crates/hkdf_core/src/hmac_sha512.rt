@@ -1,20 +1,15 @@
 //! HMAC, the keyed hash of RFC 2104, with SHA-512.
 
-ghost use Rattle.std.specs.Prelude.{◌≡◌, ◌++◌, ◌≤◌, ℕ, List, length};
+ghost use Rattle.std.specs.Prelude.{◌≡◌, ◌++◌, ℕ, List};
 ghost use Rattle.sha2.specs.Sha512.{sha512};
 ghost use Rattle.sha2.specs.Hashers.{Holds512};
-ghost use Rattle.cipher_spec.specs.Hmac.{hmac512, key_block, pad_added, zero_padded};
+ghost use Rattle.cipher_spec.specs.Hmac.{hmac512, key_block, pad_added};
 
+use crate::blocks::{INNER_PAD, OUTER_PAD, pad_added, zero_padded};
 use sha2::{Digest, Sha512};
 
 /// How many bytes a block of SHA-512 has.
 pub(crate) const BLOCK: usize = 128;
-
-/// The byte that is added to each byte of the key for the inner hash (RFC 2104, section 2).
-const INNER_PAD: u8 = 0x36;
-
-/// The byte that is added to each byte of the key for the outer hash (RFC 2104, section 2).
-const OUTER_PAD: u8 = 0x5C;
 
 /// The HMAC of a text under a key (RFC 2104, section 2). Both may have any length.
 #[tactic(auto, unfolding(cipher_spec::specs::Hmac::hmac512, cipher_spec::specs::Hmac::hmac, cipher_spec::specs::Hmac::keyed_digest))]
@@ -55,27 +50,4 @@ pub(crate) fn outer_digest(block: &[u8; BLOCK], inner: Sha512) -> [u8; 64]
     hasher.update(pad_added(OUTER_PAD, block));
     hasher.update(inner.finalize());
     hasher.finalize()
-}
-
-/// The key with zeros after it, up to the length of a block (RFC 2104, section 2, step 1).
-fn zero_padded<const N: usize>(key: &[u8]) -> [u8; N]
-    requires { length key.now ≤ N }
-    ensures { result ≡ zero_padded N key.now }
-{
-    let mut block = [0; N];
-    block[..key.len()].copy_from_slice(key);
-    block
-}
-
-/// The block with each byte added, by exclusive or, to the byte `pad` (RFC 2104, section 2, steps 2
-/// and 5).
-#[tactic(auto, unfolding(cipher_spec::specs::Hmac::pad_added))]
-fn pad_added<const N: usize>(pad: u8, block: &[u8; N]) -> [u8; N]
-    ensures { result ≡ pad_added pad block.now }
-{
-    let mut added = *block;
-    for byte in added.iter_mut() {
-        *byte ^= pad;
-    }
-    added
 }

@@ -2,7 +2,7 @@
 use Rattle.std.proofs.Common.{◌<◌, bit_xor, length, arith}
 use Rattle.std.proofs.lemmas.List.{get_or_default, length-append, length-drop, length-map, length-take}
 use Rattle.std.proofs.lemmas.List.Edits.{map_over_more}
-use Rattle.hkdf_core.proofs.hmac.pad_added.Goals as goal
+use Rattle.hkdf_core.proofs.blocks.pad_added.Goals as goal
 
 pub loop-byte-preserved : goal.loop-byte-preserved
 loop-byte-preserved g c =
