@@ -16,7 +16,7 @@ BeginsWith-append settings b more h end begins =
       parts = begins.parts;
       read = value_stays (header settings) b more begins.parts end (IsSequential-header settings) begins.read;
       stored = begins.stored;
-      is = begins.is ∙ ap (λ (r : List ℕ). value (record { suite = 0x0478; message_id = begins.parts.id; stored = h.stored; entries = begins.parts.entries; content = begins.parts.content; commitment = begins.parts.commitment; raw = r; tag = begins.parts.tag })) raw;
+      is = begins.is ∙ ap (λ (r : List ℕ). value (record { suite = begins.parts.opening.suite; message_id = begins.parts.opening.id; stored = h.stored; entries = begins.parts.entries; content = begins.parts.content; commitment = begins.parts.commitment; raw = r; iv = begins.parts.iv; tag = begins.parts.tag })) raw;
     }
   where
     value : HeaderValue → HeaderValue

@@ -1,3 +1,4 @@
+pub mod CommittingHeaders
 pub mod Contents
 pub mod Followed
 pub mod Fronts
@@ -5,8 +6,10 @@ pub mod Offences
 pub mod Offending
 pub mod Order
 pub mod ReadBack
+pub mod Progressing
 pub mod Readings
 pub mod Refused
+pub mod Resuming
 pub mod Rows
 pub mod Sessions
 pub mod Spelled

@@ -1,28 +1,32 @@
 -- Fields that have an offence are refused with it.
-use Rattle.std.proofs.Common.{◌≡◌, ◌≢◌, ℕ, zero, suc, ◌+◌, ◌*◌, ◌^◌, ◌<◌, ◌≤◌, Bool, true, false, not, List, [], ◌∷◌, ◌++◌, length, Option, Some, refl, sym, ap, subst, ◌∙◌, append_assoc, arith}
+use Rattle.std.proofs.Common.{◌≡◌, ◌≢◌, ℕ, zero, suc, ◌+◌, ◌*◌, ◌^◌, ◌<◌, ◌≤◌, Bool, true, false, not, eqb, ◌&&◌, List, [], ◌∷◌, ◌++◌, length, Option, Some, refl, sym, ap, subst, ◌∙◌, append_assoc, arith}
 use Rattle.std.specs.Prelude.{◌==◌, nat_lt, IsSomeAnd, option_map}
 use Rattle.std.specs.Int.{w8, w16}
 use Rattle.std.specs.List.{flat_map, AllByRecursion}
-use Rattle.std.proofs.lemmas.Bool.{ne_eqb, lt-ltb}
+use Rattle.std.proofs.lemmas.Bool.{ne_eqb, lt-ltb, or_from}
 use Rattle.std.proofs.lemmas.List.{length-append}
 use Rattle.std.proofs.lemmas.List.Concat.{flat_map-cons}
 use Rattle.esdk_fields.specs.declared.faults.ContextFault.{ContextFault}
 use Rattle.esdk_fields.specs.declared.faults.Fault.{Fault}
-use Rattle.esdk_fields.specs.declared.faults.Fault.TheVariants.{BadVersion, UnsupportedSuite, BadContext, NoDataKeys, TooManyDataKeys, HeaderTooLong}
+use Rattle.esdk_fields.specs.declared.faults.Fault.TheVariants.{BadVersion, UnsupportedSuite, BadContext, NoDataKeys, TooManyDataKeys, HeaderTooLong, BadType}
+use Rattle.esdk_fields.specs.declared.faults.Fault.TheVariants as faults
 use Rattle.esdk_fields.specs.Numbers.{to_big_endian}
 use Rattle.esdk_fields.specs.Reading.{Refused, Reader, ◌>>=◌, ◌>>◌, done, bytes, number, refuse_if, judge, repeat}
 use Rattle.esdk_fields.specs.Sized.{sized}
 use Rattle.esdk_fields.proofs.Again.{length-to_big_endian16}
+use Rattle.suite_table.specs.declared.suite.Suite.{Suite}
+use Rattle.suite_table.specs.declared.suite.Suite.TheVariants.{Committing, Uncommitted}
+use Rattle.suite_table.specs.Suites.{suite_id, format_version}
 use Rattle.context_codec.specs.Split.{context_fault}
 use Rattle.edk_codec.specs.Entry.{Entry, IsEntry, edk_text}
 use Rattle.header_codec.specs.declared.settings.Settings.{Settings}
-use Rattle.header_codec.specs.Header.{latest_end, opening_text}
-use Rattle.header_codec.specs.Table.{is_over, opening, context_field, part, entry, data_keys, header}
+use Rattle.header_codec.specs.Header.{Opening, latest_end, type_text, version_text, opening_text}
+use Rattle.header_codec.specs.Table.{is_version, suite_of_version, is_forbidden, is_over, type_field, suite_field, identity, opening, context_field, part, entry, data_keys, header}
 use Rattle.header_codec.specs.Offence.{opened_text, IsOpened}
-use Rattle.header_codec.proofs.Steps.{after_version, after_suite, after_context_length, after_part_length, after_provider, after_info, after_count, after_opening, after_context, after_keys}
-use Rattle.header_codec.proofs.Readings.{place, Refuses, Refuses-bind, Refuses-first, Refuses-after, guard_passes, guard_refuses, judge_refuses}
+use Rattle.header_codec.proofs.Steps.{after_version, after_type, after_suite_id, after_suite, after_type_field, after_context_length, after_part_length, after_provider, after_info, after_count, after_opening, after_context, after_keys}
+use Rattle.header_codec.proofs.Readings.{place, Refuses, Refuses-bind, Refuses-first, Refuses-after, guard_passes, guard_refuses, judge_refuses, refuse_refuses}
 use Rattle.header_codec.proofs.Contents.{limit_over}
-use Rattle.header_codec.proofs.ReadBack.{Reads-bytes, Reads-number8, Reads-number16, Reads-opening, Reads-context, Reads-part, Reads-entry}
+use Rattle.header_codec.proofs.ReadBack.{Reads-bytes, Reads-number8, Reads-number16, Reads-type, Reads-opening, Reads-context, Reads-part, Reads-entry}
 
 pub Refuses-guard : {A : Type 0} (b : Bool) (own : Fault) (k : Reader A) (at : ℕ) (text : List ℕ) (fault : Fault) → b ≡ false → Refuses k at text fault → Refuses (refuse_if b own >> k) at text fault
 Refuses-guard b own k at text fault e refuses = record { again = λ rest. guard_passes b own k (place at (text ++ rest)) e ∙ refuses.again rest }
@@ -37,20 +41,71 @@ not_of_true false e = absurd cc
 
 -- ---- version, suite and context
 
-pub version_refused : (at version : ℕ) → version < 2 ^ 8 → version ≢ 2 → Refuses opening at (to_big_endian w8 version) (BadVersion version)
+pub version_refused : (uncommitted : Bool) (at version : ℕ) → version < 2 ^ 8 → version ≢ 1 → version ≢ 2 → Refuses (opening uncommitted) at (to_big_endian w8 version) (BadVersion version)
 unfolding opening
-version_refused at version lt other =
-    Refuses-after (number w8) after_version at (to_big_endian w8 version) version (BadVersion version) (Reads-number8 at version lt)
-    (λ rest. guard_refuses (not (version == 2)) (BadVersion version) (number w16 >>= after_suite) (place (at + length (to_big_endian w8 version)) rest) (not_of_false (version == 2) (ne_eqb version 2 other)))
+version_refused uncommitted at version lt not_one not_two =
+    Refuses-after (number w8) (after_version uncommitted) at (to_big_endian w8 version) version (BadVersion version) (Reads-number8 at version lt)
+    (λ rest. guard_refuses (not (is_version version)) (BadVersion version) (identity uncommitted (suite_of_version version)) (place (at + length (to_big_endian w8 version)) rest)
+    (not_of_false (is_version version) (or_from (eqb version 1) (eqb version 2) (ne_eqb version 1 not_one) (ne_eqb version 2 not_two))))
 
-pub suite_refused : (at suite : ℕ) → suite < 2 ^ 16 → suite ≢ 0x0478 → Refuses opening at (to_big_endian w8 2 ++ to_big_endian w16 suite) (UnsupportedSuite suite)
+-- a suite's version is read, and what follows it is refused
+behind_version : (uncommitted : Bool) (suite : Suite) (at : ℕ) (text : List ℕ) (fault : Fault) → Refuses (identity uncommitted suite) (at + length (to_big_endian w8 (format_version suite))) text fault
+    → Refuses (opening uncommitted) at (to_big_endian w8 (format_version suite) ++ text) fault
 unfolding opening
-suite_refused at suite lt other =
+behind_version uncommitted Committing at text fault refuses =
     let v = to_big_endian w8 2 in
-    Refuses-bind (number w8) after_version at v (to_big_endian w16 suite) 2 (UnsupportedSuite suite) (Reads-number8 at 2 (omega arith))
-    (Refuses-guard (not (2 == 2)) (BadVersion 2) (number w16 >>= after_suite) (at + length v) (to_big_endian w16 suite) (UnsupportedSuite suite) refl
-    (Refuses-after (number w16) after_suite (at + length v) (to_big_endian w16 suite) suite (UnsupportedSuite suite) (Reads-number16 (at + length v) suite lt)
-    (λ rest. guard_refuses (not (suite == 0x0478)) (UnsupportedSuite suite) (bytes 32) (place (at + length v + length (to_big_endian w16 suite)) rest) (not_of_false (suite == 0x0478) (ne_eqb suite 0x0478 other)))))
+    Refuses-bind (number w8) (after_version uncommitted) at v text 2 fault (Reads-number8 at 2 (omega arith))
+    (Refuses-guard (not (is_version 2)) (BadVersion 2) (identity uncommitted Committing) (at + length v) text fault refl refuses)
+behind_version uncommitted Uncommitted at text fault refuses =
+    let v = to_big_endian w8 1 in
+    Refuses-bind (number w8) (after_version uncommitted) at v text 1 fault (Reads-number8 at 1 (omega arith))
+    (Refuses-guard (not (is_version 1)) (BadVersion 1) (identity uncommitted Uncommitted) (at + length v) text fault refl refuses)
+
+pub type_refused : (uncommitted : Bool) (at kind : ℕ) → kind < 2 ^ 8 → kind ≢ 0x80 → Refuses (opening uncommitted) at (to_big_endian w8 (format_version Uncommitted) ++ to_big_endian w8 kind) (BadType kind)
+unfolding identity type_field
+type_refused uncommitted at kind lt other =
+    let v = to_big_endian w8 1 in
+    let k = to_big_endian w8 kind in
+    behind_version uncommitted Uncommitted at k (BadType kind)
+    (Refuses-first (number w8 >>= after_type) (λ _. after_type_field uncommitted Uncommitted) (at + length v) k (BadType kind)
+    (Refuses-after (number w8) after_type (at + length v) k kind (BadType kind) (Reads-number8 (at + length v) kind lt)
+    (λ rest. refuse_refuses (not (kind == 0x80)) (BadType kind) (place (at + length v + length k) rest) (not_of_false (kind == 0x80) (ne_eqb kind 0x80 other)))))
+
+-- version and type are read, and the suite id is refused
+behind_type : (uncommitted : Bool) (suite : Suite) (at : ℕ) (text : List ℕ) (fault : Fault) → ((q : ℕ) → Refuses (suite_field uncommitted suite) q text fault) → Refuses (opening uncommitted) at (version_text suite ++ text) fault
+unfolding identity version_text
+behind_type uncommitted suite at text fault refuses =
+    let v = to_big_endian w8 (format_version suite) in
+    let t = type_text suite in
+    subst (λ (x : List ℕ). Refuses (opening uncommitted) at x fault) (sym (append_assoc v t text))
+    (behind_version uncommitted suite at (t ++ text) fault
+    (Refuses-bind (type_field suite) (λ _. after_type_field uncommitted suite) (at + length v) t text tt fault (Reads-type suite (at + length v))
+    (Refuses-first (suite_field uncommitted suite) (λ _. after_suite suite) (at + length v + length t) text fault (refuses (at + length v + length t)))))
+
+not_own : (uncommitted : Bool) (suite : Suite) (id : ℕ) → id ≢ suite_id suite → is_forbidden uncommitted suite id ≡ false
+not_own uncommitted Committing id other = refl
+not_own uncommitted Uncommitted id other = first (eqb id 0x0178) (not uncommitted) (ne_eqb id 0x0178 other)
+  where
+    first : (a b : Bool) → a ≡ false → (a && b) ≡ false
+    first true b e = absurd cc
+    first false b e = refl
+
+pub suite_refused : (uncommitted : Bool) (suite : Suite) (at id : ℕ) → id < 2 ^ 16 → id ≢ suite_id suite → Refuses (opening uncommitted) at (version_text suite ++ to_big_endian w16 id) (UnsupportedSuite id)
+unfolding suite_field
+suite_refused uncommitted suite at id lt other =
+    behind_type uncommitted suite at (to_big_endian w16 id) (UnsupportedSuite id)
+    (λ q. Refuses-after (number w16) (after_suite_id uncommitted suite) q (to_big_endian w16 id) id (UnsupportedSuite id) (Reads-number16 q id lt)
+    (λ rest.
+    let p = place (q + length (to_big_endian w16 id)) rest in
+    guard_passes (is_forbidden uncommitted suite id) (faults.Uncommitted id) (refuse_if (not (id == suite_id suite)) (UnsupportedSuite id)) p (not_own uncommitted suite id other)
+    ∙ refuse_refuses (not (id == suite_id suite)) (UnsupportedSuite id) p (not_of_false (id == suite_id suite) (ne_eqb id (suite_id suite) other))))
+
+pub forbidden_refused : (uncommitted : Bool) (at : ℕ) → uncommitted ≡ false → Refuses (opening uncommitted) at (version_text Uncommitted ++ to_big_endian w16 (suite_id Uncommitted)) (faults.Uncommitted (suite_id Uncommitted))
+unfolding suite_field
+forbidden_refused true at free = absurd cc
+forbidden_refused false at free =
+    behind_type false Uncommitted at (to_big_endian w16 0x0178) (faults.Uncommitted 0x0178)
+    (λ q. Refuses-after (number w16) (after_suite_id false Uncommitted) q (to_big_endian w16 0x0178) 0x0178 (faults.Uncommitted 0x0178) (Reads-number16 q 0x0178 (omega arith)) (λ rest. refl))
 
 pub context_refused : (at : ℕ) (context : List ℕ) (why : ContextFault) → length context ≤ 65535 → context_fault context ≡ Some why → Refuses context_field at (sized context) (BadContext why)
 unfolding context_field sized
@@ -61,17 +116,17 @@ context_refused at context why short bad =
     (λ rest. judge_refuses (option_map BadContext (context_fault context)) (BadContext why) (done context) (place (at + length n + length context) rest) (ap (option_map BadContext) bad)))
 
 -- behind the opening and the context
-pub behind_context : (settings : Settings) (id context text : List ℕ) (fault : Fault) → IsOpened id context
-    → Refuses (data_keys settings.max_keys >>= after_keys settings id context) (length (opened_text id context)) text fault → Refuses (header settings) 0 (opened_text id context ++ text) fault
+pub behind_context : (settings : Settings) (o : Opening) (context text : List ℕ) (fault : Fault) → IsOpened settings o context
+    → Refuses (data_keys settings.max_keys >>= after_keys settings o context) (length (opened_text o context)) text fault → Refuses (header settings) 0 (opened_text o context ++ text) fault
 unfolding header opened_text
-behind_context settings id context text fault opened refuses =
-    let a = opening_text id in
+behind_context settings o context text fault opened refuses =
+    let a = opening_text o in
     let c = sized context in
     let at : length (a ++ c) ≡ 0 + length a + length c = omega (arith, length-append a c) in
-    let there : Refuses (after_context settings id context) (0 + length a + length c) text fault = subst (λ (n : ℕ). Refuses (after_context settings id context) n text fault) at refuses in
-    subst (λ (t : List ℕ). Refuses (opening >>= after_opening settings) 0 t fault) (sym (append_assoc a c text))
-    (Refuses-bind opening (after_opening settings) 0 a (c ++ text) id fault (Reads-opening 0 id opened.id_len)
-    (Refuses-bind context_field (after_context settings id) (0 + length a) c text context fault (Reads-context (0 + length a) context opened.short opened.good) there))
+    let there : Refuses (after_context settings o context) (0 + length a + length c) text fault = subst (λ (n : ℕ). Refuses (after_context settings o context) n text fault) at refuses in
+    subst (λ (t : List ℕ). Refuses (opening settings.uncommitted >>= after_opening settings) 0 t fault) (sym (append_assoc a c text))
+    (Refuses-bind (opening settings.uncommitted) (after_opening settings) 0 a (c ++ text) o fault (Reads-opening settings.uncommitted 0 o opened.identified.allowed opened.identified.id_len)
+    (Refuses-bind context_field (after_context settings o) (0 + length a) c text context fault (Reads-context (0 + length a) context opened.short opened.good) there))
 
 -- ---- the data keys
 

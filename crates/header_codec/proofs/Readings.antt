@@ -92,3 +92,25 @@ pub judge_refused : {A : Type 0} (o : Option Fault) (k : Reader A) (p : Place) (
     → ((o ≡ Some fault) × (at ≡ p.at)) ⊎ ((o ≡ None) × (k p ≡ Refused fault at))
 judge_refused (Some own) k p fault at e = inl (cc, cc)
 judge_refused None k p fault at e = inr (refl, e)
+
+-- ---- a test alone
+
+pub refuse_passes : (b : Bool) (fault : Fault) (p : Place) → b ≡ false → refuse_if b fault p ≡ Read tt p
+refuse_passes true fault p e = absurd cc
+refuse_passes false fault p e = refl
+
+pub refuse_refuses : (b : Bool) (fault : Fault) (p : Place) → b ≡ true → refuse_if b fault p ≡ Refused fault p.at
+refuse_refuses true fault p e = refl
+refuse_refuses false fault p e = absurd cc
+
+pub refuse_read : (b : Bool) (fault : Fault) (p : Place) (x : Unit {0}) (q : Place) → refuse_if b fault p ≡ Read x q → (b ≡ false) × (p ≡ q)
+refuse_read true fault p x q e = absurd cc
+refuse_read false fault p x q e = (refl, cc)
+
+pub refuse_refused : (b : Bool) (own : Fault) (p : Place) (fault : Fault) (at : ℕ) → refuse_if b own p ≡ Refused fault at → Tested b own p fault at
+refuse_refused true own p fault at e = record { test = refl; fault_is = cc; end = cc }
+refuse_refused false own p fault at e = absurd cc
+
+-- what was read isn't refused
+pub read_not_refused : {A : Type 0} (x : A) (p : Place) (fault : Fault) (at : ℕ) → Read x p ≡ Refused fault at → ⊥
+read_not_refused x p fault at e = cc

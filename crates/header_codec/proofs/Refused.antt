@@ -1,32 +1,36 @@
 -- Where the table refuses a header, its fields have that offence.
-use Rattle.std.proofs.Common.{◌≡◌, ℕ, zero, suc, ◌+◌, ◌*◌, ◌^◌, ◌<◌, ◌≤◌, Bool, true, false, not, List, [], ◌∷◌, ◌++◌, length, Option, Some, None, refl, sym, ap, subst, ◌∙◌, append_assoc, arith, inl, inr}
+use Rattle.std.proofs.Common.{◌≡◌, ℕ, zero, suc, ◌+◌, ◌*◌, ◌^◌, ◌<◌, ◌≤◌, Bool, true, false, not, eqb, ◌&&◌, List, [], ◌∷◌, ◌++◌, length, Option, Some, None, refl, sym, ap, subst, ◌∙◌, append_assoc, arith, inl, inr}
 use Rattle.std.specs.Prelude.{◌==◌, nat_lt, option_map}
 use Rattle.std.specs.Int.{w8, w16}
 use Rattle.std.specs.List.{flat_map, AllByRecursion}
-use Rattle.std.proofs.lemmas.Bool.{eqb-true, eqb-false, ltb-true}
+use Rattle.std.proofs.lemmas.Bool.{eqb-true, eqb-false, ltb-true, or_parts}
 use Rattle.std.proofs.lemmas.List.{length-append}
 use Rattle.std.proofs.lemmas.List.Concat.{flat_map-cons}
 use Rattle.esdk_fields.specs.declared.faults.ContextFault.{ContextFault}
 use Rattle.esdk_fields.specs.declared.faults.Fault.{Fault}
-use Rattle.esdk_fields.specs.declared.faults.Fault.TheVariants.{BadVersion, UnsupportedSuite, BadContext, HeaderTooLong}
+use Rattle.esdk_fields.specs.declared.faults.Fault.TheVariants.{BadVersion, UnsupportedSuite, BadContext, HeaderTooLong, BadType}
+use Rattle.esdk_fields.specs.declared.faults.Fault.TheVariants as faults
 use Rattle.esdk_fields.specs.Bytes.{AreBytes}
 use Rattle.esdk_fields.specs.Place.{Place, start}
 use Rattle.esdk_fields.specs.Numbers.{from_big_endian, to_big_endian}
-use Rattle.esdk_fields.specs.Reading.{Read, Refused, ◌>>=◌, ◌>>◌, done, bytes, number, judge, repeat}
+use Rattle.esdk_fields.specs.Reading.{Read, Refused, ◌>>=◌, ◌>>◌, done, bytes, number, refuse_if, judge, repeat}
 use Rattle.esdk_fields.specs.Sized.{sized}
 use Rattle.esdk_fields.proofs.Again.{length-to_big_endian16}
 use Rattle.esdk_fields.proofs.Inverse.{read_same, then_is_read, then_is_refused, field_not_refused}
 use Rattle.esdk_fields.proofs.Taken.{IsTaken, IsTaken-then, bytes_taken, number8_taken, number16_taken}
+use Rattle.suite_table.specs.declared.suite.Suite.{Suite}
+use Rattle.suite_table.specs.declared.suite.Suite.TheVariants.{Committing, Uncommitted}
+use Rattle.suite_table.specs.Suites.{suite_id, format_version, id_length}
 use Rattle.context_codec.specs.Split.{context_fault}
 use Rattle.edk_codec.specs.Entry.{Entry}
 use Rattle.header_codec.specs.declared.settings.Settings.{Settings}
-use Rattle.header_codec.specs.Header.{latest_end, opening_text}
-use Rattle.header_codec.specs.Table.{opening, context_field, part, entry}
-use Rattle.header_codec.specs.Offence.{opened_text, Offends, HasOffence}
-use Rattle.header_codec.specs.Offence.{Version, Suite, Context}
-use Rattle.header_codec.proofs.Steps.{after_version, after_suite, after_context_length, after_part_length, after_provider, after_info}
-use Rattle.header_codec.proofs.Readings.{guard_refused, judge_refused}
-use Rattle.header_codec.proofs.Fronts.{not_false, part_taken, entry_taken}
+use Rattle.header_codec.specs.Header.{Opening, latest_end, type_text, version_text, opening_text}
+use Rattle.header_codec.specs.Table.{is_version, suite_of_version, is_forbidden, type_field, suite_field, identity, opening, context_field, part, entry}
+use Rattle.header_codec.specs.Offence.{IsIdentified, opened_text, Offends, HasOffence}
+use Rattle.header_codec.specs.Offence.{Version, MessageType, Forbidden, SuiteId, Context}
+use Rattle.header_codec.proofs.Steps.{after_version, after_type, after_suite_id, after_suite, after_type_field, after_context_length, after_part_length, after_provider, after_info}
+use Rattle.header_codec.proofs.Readings.{guard_refused, judge_refused, refuse_refused, read_not_refused}
+use Rattle.header_codec.proofs.Fronts.{not_false, version_is, type_taken, part_taken, entry_taken}
 
 -- fields at the front of the bytes that offend so
 pub offends_at : (settings : Settings) (b fields : List ℕ) (q : Place) (fault : Fault) (at : ℕ) → IsTaken (start b) fields q → at ≡ q.at → Offends settings fields fault → HasOffence settings b fault at
@@ -36,30 +40,94 @@ pub not_true : (b : Bool) → not b ≡ true → b ≡ false
 not_true true e = absurd cc
 not_true false e = refl
 
--- ---- version and suite
+-- ---- version, type and suite id
 
-pub opening_offends : (settings : Settings) (b : List ℕ) (fault : Fault) (at : ℕ) → AreBytes b → opening (start b) ≡ Refused fault at → HasOffence settings b fault at
+type_offends : (settings : Settings) (b : List ℕ) (suite : Suite) (p : Place) (fault : Fault) (at : ℕ) → IsTaken (start b) (to_big_endian w8 (format_version suite)) p → type_field suite p ≡ Refused fault at
+    → HasOffence settings b fault at
+unfolding type_field
+type_offends settings b Committing p fault at front e = absurd (read_not_refused {A = Unit {0}} tt p fault at e)
+type_offends settings b Uncommitted p fault at front e =
+    elim (then_is_refused (number w8 p) after_type fault at e) [
+      | inl none ↦ absurd (field_not_refused (from_big_endian w8) 1 p fault at none)
+      | inr a ↦
+          let k = number8_taken p a.value a.next front.rest a.first in
+          let own = refuse_refused (not (a.value == 0x80)) (BadType a.value) a.next fault at a.second in
+          offends_at settings b (to_big_endian w8 1 ++ to_big_endian w8 a.value) a.next fault at (IsTaken-then (start b) (to_big_endian w8 1) p (to_big_endian w8 a.value) a.next front k.0) own.end
+          (MessageType a.value k.1 (eqb-false a.value 0x80 (not_true (a.value == 0x80) own.test)) refl own.fault_is)
+    ]
+
+both_of : (a b : Bool) → (a && b) ≡ true → (a ≡ true) × (b ≡ true)
+both_of true b e = (refl, e)
+both_of false b e = absurd cc
+
+-- what is forbidden is the uncommitted suite's own id, where it isn't allowed
+forbidden_is : (uncommitted : Bool) (suite : Suite) (id : ℕ) → is_forbidden uncommitted suite id ≡ true → (suite ≡ Uncommitted) × (id ≡ suite_id Uncommitted) × (uncommitted ≡ false)
+forbidden_is uncommitted Committing id e = absurd cc
+forbidden_is uncommitted Uncommitted id e =
+    let both = both_of (eqb id 0x0178) (not uncommitted) e in
+    (refl, eqb-true id 0x0178 both.0, not_true uncommitted both.1)
+
+suite_offends : (settings : Settings) (b : List ℕ) (suite : Suite) (p : Place) (fault : Fault) (at : ℕ) → IsTaken (start b) (version_text suite) p → suite_field settings.uncommitted suite p ≡ Refused fault at
+    → HasOffence settings b fault at
+unfolding suite_field
+suite_offends settings b suite p fault at front e =
+    elim (then_is_refused (number w16 p) (after_suite_id settings.uncommitted suite) fault at e) [
+      | inl none ↦ absurd (field_not_refused (from_big_endian w16) 2 p fault at none)
+      | inr a ↦
+          let s = number16_taken p a.value a.next front.rest a.first in
+          let fields = IsTaken-then (start b) (version_text suite) p (to_big_endian w16 a.value) a.next front s.0 in
+          elim (guard_refused (is_forbidden settings.uncommitted suite a.value) (faults.Uncommitted a.value) (refuse_if (not (a.value == suite_id suite)) (UnsupportedSuite a.value)) a.next fault at a.second) [
+            | inl own ↦
+                let is = forbidden_is settings.uncommitted suite a.value own.test in
+                offends_at settings b (version_text suite ++ to_big_endian w16 a.value) a.next fault at fields own.end
+                (Forbidden is.2 (ap (λ (x : Suite). version_text x ++ to_big_endian w16 a.value) is.0 ∙ ap (λ (n : ℕ). version_text Uncommitted ++ to_big_endian w16 n) is.1) (own.fault_is ∙ ap (λ (n : ℕ). faults.Uncommitted n) is.1))
+            | inr passed ↦
+                let own = refuse_refused (not (a.value == suite_id suite)) (UnsupportedSuite a.value) a.next fault at passed.1 in
+                offends_at settings b (version_text suite ++ to_big_endian w16 a.value) a.next fault at fields own.end
+                (SuiteId suite a.value s.1 (eqb-false a.value (suite_id suite) (not_true (a.value == suite_id suite) own.test)) refl own.fault_is)
+          ]
+    ]
+
+identity_offends : (settings : Settings) (b : List ℕ) (suite : Suite) (p : Place) (fault : Fault) (at : ℕ) → IsTaken (start b) (to_big_endian w8 (format_version suite)) p → identity settings.uncommitted suite p ≡ Refused fault at
+    → HasOffence settings b fault at
+unfolding identity version_text
+identity_offends settings b suite p fault at front e =
+    elim (then_is_refused (type_field suite p) (λ _. after_type_field settings.uncommitted suite) fault at e) [
+      | inl first ↦ type_offends settings b suite p fault at front first
+      | inr t ↦
+          let typed = type_taken suite p t.value t.next front.rest t.first in
+          let version = IsTaken-then (start b) (to_big_endian w8 (format_version suite)) p (type_text suite) t.next front typed in
+          elim (then_is_refused (suite_field settings.uncommitted suite t.next) (λ _. after_suite suite) fault at t.second) [
+            | inl second ↦ suite_offends settings b suite t.next fault at version second
+            | inr s ↦ elim (then_is_refused (bytes (id_length suite) s.next) (λ id. done (made id)) fault at s.second) [
+              | inl none ↦ absurd (field_not_refused (λ x. x) (id_length suite) s.next fault at none)
+              | inr i ↦ absurd (not_refused (made i.value) i.next fault at i.second)
+            ]
+          ]
+    ]
+  where
+    made : List ℕ → Opening
+    made id = record { suite = suite; id = id }
+
+    not_refused : (x : Opening) (q : Place) (f : Fault) (n : ℕ) → Read x q ≡ Refused f n → ⊥
+    not_refused x q f n e = cc
+
+pub opening_offends : (settings : Settings) (b : List ℕ) (fault : Fault) (at : ℕ) → AreBytes b → opening settings.uncommitted (start b) ≡ Refused fault at → HasOffence settings b fault at
 unfolding opening
 opening_offends settings b fault at fits e =
-    elim (then_is_refused (number w8 (start b)) after_version fault at e) [
+    elim (then_is_refused (number w8 (start b)) (after_version settings.uncommitted) fault at e) [
       | inl none ↦ absurd (field_not_refused (from_big_endian w8) 1 (start b) fault at none)
       | inr a ↦
           let v = number8_taken (start b) a.value a.next fits a.first in
-          elim (guard_refused (not (a.value == 2)) (BadVersion a.value) (number w16 >>= after_suite) a.next fault at a.second) [
-            | inl own ↦ offends_at settings b (to_big_endian w8 a.value) a.next fault at v.0 own.end
-                (Version a.value v.1 (eqb-false a.value 2 (not_true (a.value == 2) own.test)) refl own.fault_is)
+          let suite = suite_of_version a.value in
+          elim (guard_refused (not (is_version a.value)) (BadVersion a.value) (identity settings.uncommitted suite) a.next fault at a.second) [
+            | inl own ↦
+                let no = or_parts (eqb a.value 1) (eqb a.value 2) (not_true (is_version a.value) own.test) in
+                offends_at settings b (to_big_endian w8 a.value) a.next fault at v.0 own.end (Version a.value v.1 (eqb-false a.value 1 no.0) (eqb-false a.value 2 no.1) refl own.fault_is)
             | inr passed ↦
-                let two : IsTaken (start b) (to_big_endian w8 2) a.next = subst (λ (n : ℕ). IsTaken (start b) (to_big_endian w8 n) a.next) (eqb-true a.value 2 (not_false (a.value == 2) passed.0)) v.0 in
-                elim (then_is_refused (number w16 a.next) after_suite fault at passed.1) [
-                  | inl none ↦ absurd (field_not_refused (from_big_endian w16) 2 a.next fault at none)
-                  | inr c ↦
-                      let s = number16_taken a.next c.value c.next v.0.rest c.first in
-                      elim (guard_refused (not (c.value == 0x0478)) (UnsupportedSuite c.value) (bytes 32) c.next fault at c.second) [
-                        | inl own ↦ offends_at settings b (to_big_endian w8 2 ++ to_big_endian w16 c.value) c.next fault at (IsTaken-then (start b) (to_big_endian w8 2) a.next (to_big_endian w16 c.value) c.next two s.0) own.end
-                            (Suite c.value s.1 (eqb-false c.value 0x0478 (not_true (c.value == 0x0478) own.test)) refl own.fault_is)
-                        | inr late ↦ absurd (field_not_refused (λ x. x) 32 c.next fault at late.1)
-                      ]
-                ]
+                let version : IsTaken (start b) (to_big_endian w8 (format_version suite)) a.next =
+                subst (λ (n : ℕ). IsTaken (start b) (to_big_endian w8 n) a.next) (version_is a.value (not_false (is_version a.value) passed.0)) v.0 in
+                identity_offends settings b suite a.next fault at version passed.1
           ]
     ]
 
@@ -69,9 +137,9 @@ why_bad : (o : Option ContextFault) (fault : Fault) → option_map BadContext o 
 why_bad (Some why) fault e = (why, refl, cc)
 why_bad None fault e = absurd cc
 
-pub context_offends : (settings : Settings) (b id : List ℕ) (p : Place) (fault : Fault) (at : ℕ) → IsTaken (start b) (opening_text id) p → length id ≡ 32 → context_field p ≡ Refused fault at → HasOffence settings b fault at
+pub context_offends : (settings : Settings) (b : List ℕ) (o : Opening) (p : Place) (fault : Fault) (at : ℕ) → IsTaken (start b) (opening_text o) p → IsIdentified settings o → context_field p ≡ Refused fault at → HasOffence settings b fault at
 unfolding context_field opened_text sized
-context_offends settings b id p fault at front len e =
+context_offends settings b o p fault at front known e =
     elim (then_is_refused (number w16 p) after_context_length fault at e) [
       | inl none ↦ absurd (field_not_refused (from_big_endian w16) 2 p fault at none)
       | inr a ↦
@@ -84,8 +152,8 @@ context_offends settings b id p fault at front len e =
                 elim (judge_refused (option_map BadContext (context_fault c.value)) (done c.value) c.next fault at c.second) [
                   | inl own ↦
                       let why = why_bad (context_fault c.value) fault own.0 in
-                      offends_at settings b (opening_text id ++ (to_big_endian w16 (length c.value) ++ c.value)) c.next fault at (IsTaken-then (start b) (opening_text id) p (to_big_endian w16 (length c.value) ++ c.value) c.next front text) own.1
-                      (Context id c.value why.0 len (omega (arith, n.1, t.1)) why.1 refl why.2)
+                      offends_at settings b (opening_text o ++ (to_big_endian w16 (length c.value) ++ c.value)) c.next fault at (IsTaken-then (start b) (opening_text o) p (to_big_endian w16 (length c.value) ++ c.value) c.next front text) own.1
+                      (Context o c.value why.0 known (omega (arith, n.1, t.1)) why.1 refl why.2)
                   | inr late ↦ absurd (not_refused c.value c.next fault at late.1)
                 ]
           ]

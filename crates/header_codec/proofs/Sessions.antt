@@ -3,18 +3,17 @@ use Rattle.std.proofs.Common.{◌≡◌, ℕ, ◌+◌, ◌-◌, ◌<◌, ◌≤�
 use Rattle.std.specs.Prelude.{is_some}
 use Rattle.std.proofs.Math.Seq.{take-append-add}
 use Rattle.std.proofs.lemmas.List.{length-take, take-take}
-use Rattle.esdk_fields.specs.Place.{Place, start}
-use Rattle.esdk_fields.specs.Reading.{Read, Wanting, bytes}
-use Rattle.esdk_fields.proofs.Sequential.{IsSequential-bytes}
-use Rattle.esdk_fields.proofs.Fronts.{value_stays, value_from, read_within, read_after, onward_from}
+use Rattle.esdk_fields.specs.Place.{start}
+use Rattle.esdk_fields.specs.Reading.{Read, Wanting}
+use Rattle.esdk_fields.proofs.Fronts.{value_stays, value_from, read_within, read_after}
 use Rattle.header_codec.specs.declared.settings.Settings.{Settings}
 use Rattle.header_codec.specs.declared.session.HeaderReader.{HeaderReader}
 use Rattle.header_codec.specs.Stands.{Stands}
 use Rattle.header_codec.specs.Header.{HeaderValue}
-use Rattle.header_codec.specs.Table.{Head, header, BeginsWith}
+use Rattle.header_codec.specs.Table.{header, BeginsWith}
 use Rattle.header_codec.specs.Session.{Session, answer, ShowsHeader}
 use Rattle.header_codec.proofs.Order.{IsSequential-header}
-use Rattle.header_codec.proofs.Steps.{header_is_read}
+use Rattle.header_codec.proofs.Whole.{size_before_end}
 
 -- after the header is whole, no byte is used
 pub answer_found : (v : Session) (o : Option HeaderValue) (piece : List ℕ) → ShowsHeader v o → is_some o ≡ true → v.stopped ≡ false → answer v piece ≡ Ok (record { used = 0; ready = true })
@@ -24,13 +23,7 @@ answer_found v (Some h) piece shows some on =
     let zero : length v.taken - length v.taken ≡ 0 = omega arith in
     rw (on, read, zero) refl
 
--- the size of the body is at most the offset where the tag ends
-size_before_end : (settings : Settings) (b : List ℕ) (parts : Head) (end : Place) → header settings (start b) ≡ Read parts end → parts.size ≤ end.at
-size_before_end settings b parts end e =
-    let h = header_is_read settings (start b) parts end e in
-    omega (arith, h.size, onward_from (bytes 16) h.body_end parts.tag end (IsSequential-bytes 16) h.tag)
-
--- the same header, when only the bytes up to its tag's end were taken
+-- the same header, when only the bytes up to its authentication's end were taken
 pub shows_found : (v : Session) (piece : List ℕ) (h : HeaderValue) (end : ℕ) (left : List ℕ) → header v.settings (start v.taken) ≡ Wanting
     → BeginsWith v.settings (v.taken ++ piece) h (record { at = end; left = left })
     → ShowsHeader (record v { taken = v.taken ++ take (end - length v.taken) piece }) (Some h)
@@ -39,7 +32,7 @@ shows_found v piece h end left waits begins =
     let s = IsSequential-header v.settings in
     let after : length v.taken < end = read_after (header v.settings) v.taken piece begins.parts (record { at = end; left = left }) s waits begins.read in
     let within : end ≤ length b = read_within (header v.settings) b begins.parts (record { at = end; left = left }) s begins.read in
-    let size : begins.parts.size ≤ end = size_before_end v.settings b begins.parts (record { at = end; left = left }) begins.read in
+    let size : begins.parts.size ≤ end = size_before_end v.settings (start b) begins.parts (record { at = end; left = left }) begins.read in
     let sum : length v.taken + (end - length v.taken) ≡ end = omega arith in
     let taken : take end b ≡ v.taken ++ take (end - length v.taken) piece = ap (λ (n : ℕ). take n b) (sym sum) ∙ take-append-add v.taken piece (end - length v.taken) in
     let len : length (v.taken ++ take (end - length v.taken) piece) ≡ end = ap length (sym taken) ∙ omega (arith, length-take end b) in
@@ -51,13 +44,13 @@ shows_found v piece h end left waits begins =
       parts = begins.parts;
       read = ap (λ (t : List ℕ). header v.settings (start t)) (sym taken) ∙ read ∙ ap (λ (n : ℕ). Read begins.parts (record { at = n; left = [] })) (sym len);
       stored = begins.stored;
-      is = begins.is ∙ ap (λ (r : List ℕ). value (record { suite = 0x0478; message_id = begins.parts.id; stored = h.stored; entries = begins.parts.entries; content = begins.parts.content; commitment = begins.parts.commitment; raw = r; tag = begins.parts.tag })) (raw ∙ ap (take begins.parts.size) taken);
+      is = begins.is ∙ ap (λ (r : List ℕ). value (record { suite = begins.parts.opening.suite; message_id = begins.parts.opening.id; stored = h.stored; entries = begins.parts.entries; content = begins.parts.content; commitment = begins.parts.commitment; raw = r; iv = begins.parts.iv; tag = begins.parts.tag })) (raw ∙ ap (take begins.parts.size) taken);
     }
   where
     value : HeaderValue → HeaderValue
     value x = x
 
-none_found : {A : Type 0} (o : Option A) → false ≡ is_some o → o ≡ None
+pub none_found : {A : Type 0} (o : Option A) → false ≡ is_some o → o ≡ None
 none_found None e = refl
 none_found (Some x) e = absurd cc
 
@@ -68,13 +61,13 @@ wants v (Some h) e shows = absurd cc
 
 -- a reader that just found the header stands for the session that took all of it
 pub stands_found : (reader next : HeaderReader) (v : Session) (piece bytes : List ℕ) (h : HeaderValue) (had used end : ℕ) (left : List ℕ) → Stands reader v
-    → reader.stopped ≡ false → false ≡ is_some reader.found → had ≡ length reader.taken.items → bytes ≡ reader.taken.items ++ piece → used ≡ end - had
-    → BeginsWith reader.settings bytes h (record { at = end; left = left })
-    → next.settings ≡ reader.settings → next.stopped ≡ false → next.found ≡ Some h
+    → reader.stopped ≡ false → false ≡ is_some reader.found → had ≡ length reader.intake.taken → bytes ≡ reader.intake.taken ++ piece → used ≡ end - had
+    → BeginsWith reader.intake.settings bytes h (record { at = end; left = left })
+    → next.intake.settings ≡ reader.intake.settings → next.stopped ≡ false → next.found ≡ Some h
     → Stands next (record v { taken = v.taken ++ take used piece })
 stands_found reader next v piece bytes h had used end left stands on none had-is bytes-is used-is begins settings-is stopped-is found-is =
     let empty : reader.found ≡ None = none_found reader.found none in
-    let same : reader.taken.items ≡ v.taken = stands.taken (sym stands.stopped ∙ on) empty in
+    let same : reader.intake.taken ≡ v.taken = stands.taken (sym stands.stopped ∙ on) empty in
     let started : BeginsWith v.settings (v.taken ++ piece) h (record { at = end; left = left }) =
     subst (λ (b : List ℕ). BeginsWith v.settings b h (record { at = end; left = left })) (bytes-is ∙ ap (λ (t : List ℕ). t ++ piece) same)
     (subst (λ (s : Settings). BeginsWith s bytes h (record { at = end; left = left })) stands.settings begins) in

@@ -1,28 +1,43 @@
 -- What each reader does after its first steps.
 use Rattle.std.proofs.Common.{refl, subst}
-use Rattle.std.specs.Prelude.{◌≡◌, ℕ, ◌+◌, List, not, ◌==◌, nat_lt, Option, option_map}
-use Rattle.std.specs.Int.{w16, w32}
-use Rattle.esdk_fields.specs.declared.faults.Fault.TheVariants.{BadVersion, UnsupportedSuite, BadContext, NoDataKeys, TooManyDataKeys, BadContentType, BadFrameLength, HeaderTooLong, UnitTooLong}
+use Rattle.std.specs.Prelude.{◌≡◌, ℕ, ◌+◌, List, Bool, not, ◌==◌, nat_lt, Option, option_map}
+use Rattle.std.specs.Int.{w8, w32}
+use Rattle.esdk_fields.specs.declared.faults.Fault.TheVariants.{BadVersion, UnsupportedSuite, BadContext, NoDataKeys, TooManyDataKeys, BadContentType, BadFrameLength, HeaderTooLong, UnitTooLong, BadType, BadReserved, BadIvLength}
+use Rattle.esdk_fields.specs.declared.faults.Fault.TheVariants as faults
 use Rattle.esdk_fields.specs.declared.contents.Content.{Content}
 use Rattle.esdk_fields.specs.Place.{Place}
 use Rattle.esdk_fields.specs.Reading.{Read, Reader, ◌>>=◌, ◌>>◌, done, bytes, number, here, refuse_if, judge, repeat}
 use Rattle.esdk_fields.proofs.Inverse.{read_same, then_is_read}
+use Rattle.suite_table.specs.declared.suite.Suite.{Suite}
+use Rattle.suite_table.specs.Suites.{suite_id, id_length, data_length}
 use Rattle.context_codec.specs.Split.{context_fault}
 use Rattle.edk_codec.specs.Entry.{Entry}
 use Rattle.header_codec.specs.declared.settings.Settings.{Settings}
-use Rattle.header_codec.specs.Header.{latest_end}
-use Rattle.header_codec.specs.Table.{Head, is_over, is_content_type, is_frame_length, is_unit_over, content_of, opening, context_field, part, entry, data_keys, content, header}
+use Rattle.header_codec.specs.Header.{Opening, latest_end}
+use Rattle.header_codec.specs.Table.{Head, is_version, suite_of_version, is_forbidden, is_over, is_content_type, is_frame_length, is_unit_over, content_of, suite_field, identity, opening, context_field, part, entry, data_keys, reserved, content, header_iv, header}
 
-abbrev pub after_suite : ℕ → Reader (List ℕ)
+abbrev pub after_type : ℕ → Reader (Unit {0})
+after_type kind = refuse_if (not (kind == 0x80)) (BadType kind)
+
+abbrev pub after_suite_id : Bool → Suite → ℕ → Reader (Unit {0})
+after_suite_id uncommitted suite id = do
+  refuse_if (is_forbidden uncommitted suite id) (faults.Uncommitted id)
+  refuse_if (not (id == suite_id suite)) (UnsupportedSuite id)
+
+abbrev pub after_suite : Suite → Reader Opening
 after_suite suite = do
-  refuse_if (not (suite == 0x0478)) (UnsupportedSuite suite)
-  bytes 32
+  id ← bytes (id_length suite)
+  done (record { suite = suite; id = id })
 
-abbrev pub after_version : ℕ → Reader (List ℕ)
-after_version version = do
-  refuse_if (not (version == 2)) (BadVersion version)
-  suite ← number w16
+abbrev pub after_type_field : Bool → Suite → Reader Opening
+after_type_field uncommitted suite = do
+  suite_field uncommitted suite
   after_suite suite
+
+abbrev pub after_version : Bool → ℕ → Reader Opening
+after_version uncommitted version = do
+  refuse_if (not (is_version version)) (BadVersion version)
+  identity uncommitted (suite_of_version version)
 
 abbrev pub after_context_length : ℕ → Reader (List ℕ)
 after_context_length n = do
@@ -62,41 +77,68 @@ after_frame max_unit kind frame = do
   refuse_if (is_unit_over max_unit kind frame) (UnitTooLong frame)
   done (content_of kind frame)
 
-abbrev pub after_kind : Option ℕ → ℕ → Reader Content
-after_kind max_unit kind = do
-  refuse_if (not (is_content_type kind)) (BadContentType kind)
+abbrev pub after_iv_length : ℕ → Reader (Unit {0})
+after_iv_length iv_length = refuse_if (not (iv_length == 12)) (BadIvLength iv_length)
+
+abbrev pub after_zeros : ℕ → Reader (Unit {0})
+after_zeros zeros = do
+  refuse_if (not (zeros == 0)) (BadReserved zeros)
+  iv_length ← number w8
+  after_iv_length iv_length
+
+abbrev pub after_reserved : Option ℕ → ℕ → Reader Content
+after_reserved max_unit kind = do
   frame ← number w32
   after_frame max_unit kind frame
 
-abbrev pub after_size : List ℕ → List ℕ → List Entry → Content → List ℕ → ℕ → Reader Head
-after_size id context entries kind commitment size = do
+abbrev pub after_type_of_content : Suite → Option ℕ → ℕ → Reader Content
+after_type_of_content suite max_unit kind = do
+  reserved suite
+  after_reserved max_unit kind
+
+abbrev pub after_kind : Suite → Option ℕ → ℕ → Reader Content
+after_kind suite max_unit kind = do
+  refuse_if (not (is_content_type kind)) (BadContentType kind)
+  after_type_of_content suite max_unit kind
+
+-- what was read before the tag
+abbrev pub head_with : Opening → List ℕ → List Entry → Content → List ℕ → ℕ → List ℕ → List ℕ → Head
+head_with o context entries kind commitment size iv tag = record { opening = o; context = context; entries = entries; content = kind; commitment = commitment; size = size; iv = iv; tag = tag }
+
+abbrev pub after_iv : Opening → List ℕ → List Entry → Content → List ℕ → ℕ → List ℕ → Reader Head
+after_iv o context entries kind commitment size iv = do
   tag ← bytes 16
-  done (record { id = id; context = context; entries = entries; content = kind; commitment = commitment; size = size; tag = tag })
+  done (head_with o context entries kind commitment size iv tag)
 
-abbrev pub after_commitment : List ℕ → List ℕ → List Entry → Content → List ℕ → Reader Head
-after_commitment id context entries kind commitment = do
+abbrev pub after_size : Opening → List ℕ → List Entry → Content → List ℕ → ℕ → Reader Head
+after_size o context entries kind commitment size = do
+  iv ← header_iv o.suite
+  after_iv o context entries kind commitment size iv
+
+abbrev pub after_commitment : Opening → List ℕ → List Entry → Content → List ℕ → Reader Head
+after_commitment o context entries kind commitment = do
   size ← here
-  after_size id context entries kind commitment size
+  after_size o context entries kind commitment size
 
-abbrev pub after_content : List ℕ → List ℕ → List Entry → Content → Reader Head
-after_content id context entries kind = do
-  commitment ← bytes 32
-  after_commitment id context entries kind commitment
+abbrev pub after_content : Opening → List ℕ → List Entry → Content → Reader Head
+after_content o context entries kind = do
+  commitment ← bytes (data_length o.suite)
+  after_commitment o context entries kind commitment
 
-abbrev pub after_keys : Settings → List ℕ → List ℕ → List Entry → Reader Head
-after_keys settings id context entries = do
-  kind ← content settings.max_unit
-  after_content id context entries kind
+abbrev pub after_keys : Settings → Opening → List ℕ → List Entry → Reader Head
+after_keys settings o context entries = do
+  kind ← content o.suite settings.max_unit
+  after_content o context entries kind
 
-abbrev pub after_context : Settings → List ℕ → List ℕ → Reader Head
-after_context settings id context = do
+abbrev pub after_context : Settings → Opening → List ℕ → Reader Head
+after_context settings o context = do
   entries ← data_keys settings.max_keys
-  after_keys settings id context entries
+  after_keys settings o context entries
 
-abbrev pub after_opening : Settings → List ℕ → Reader Head
-after_opening settings id = do
+abbrev pub after_opening : Settings → Opening → Reader Head
+after_opening settings o = do
   context ← context_field
-  after_context settings id context
+  after_context settings o context
 
 -- a header was read: each of its parts was, one after another
 pub record HeaderRead (settings : Settings) (p : Place) (parts : Head) (end : Place) : Type 0 where
@@ -105,24 +147,27 @@ pub record HeaderRead (settings : Settings) (p : Place) (parts : Head) (end : Pl
   pub after_entries : Place
   pub after_content : Place
   pub body_end : Place
-  pub id : opening p ≡ Read parts.id after_id
+  pub iv_end : Place
+  pub opening : opening settings.uncommitted p ≡ Read parts.opening after_id
   pub context : context_field after_id ≡ Read parts.context after_context
   pub entries : data_keys settings.max_keys after_context ≡ Read parts.entries after_entries
-  pub content : content settings.max_unit after_entries ≡ Read parts.content after_content
-  pub commitment : bytes 32 after_content ≡ Read parts.commitment body_end
+  pub content : content parts.opening.suite settings.max_unit after_entries ≡ Read parts.content after_content
+  pub commitment : bytes (data_length parts.opening.suite) after_content ≡ Read parts.commitment body_end
   pub size : parts.size ≡ body_end.at
-  pub tag : bytes 16 body_end ≡ Read parts.tag end
+  pub iv : header_iv parts.opening.suite body_end ≡ Read parts.iv iv_end
+  pub tag : bytes 16 iv_end ≡ Read parts.tag end
 
 pub header_is_read : (settings : Settings) (p : Place) (parts : Head) (end : Place) → header settings p ≡ Read parts end → HeaderRead settings p parts end
 unfolding header
 header_is_read settings p parts end e =
-    let a = then_is_read (opening p) (after_opening settings) parts end e in
+    let a = then_is_read (opening settings.uncommitted p) (after_opening settings) parts end e in
     let b = then_is_read (context_field a.next) (after_context settings a.value) parts end a.second in
     let c = then_is_read (data_keys settings.max_keys b.next) (after_keys settings a.value b.value) parts end b.second in
-    let d = then_is_read (content settings.max_unit c.next) (after_content a.value b.value c.value) parts end c.second in
-    let f = then_is_read (bytes 32 d.next) (after_commitment a.value b.value c.value d.value) parts end d.second in
-    let g = then_is_read (bytes 16 f.next) (λ tag. done (record { id = a.value; context = b.value; entries = c.value; content = d.value; commitment = f.value; size = f.next.at; tag = tag })) parts end f.second in
-    let made : Head = record { id = a.value; context = b.value; entries = c.value; content = d.value; commitment = f.value; size = f.next.at; tag = g.value } in
+    let d = then_is_read (content a.value.suite settings.max_unit c.next) (after_content a.value b.value c.value) parts end c.second in
+    let f = then_is_read (bytes (data_length a.value.suite) d.next) (after_commitment a.value b.value c.value d.value) parts end d.second in
+    let i = then_is_read (header_iv a.value.suite f.next) (after_iv a.value b.value c.value d.value f.value f.next.at) parts end f.second in
+    let g = then_is_read (bytes 16 i.next) (λ tag. done (head_with a.value b.value c.value d.value f.value f.next.at i.value tag)) parts end i.second in
+    let made : Head = head_with a.value b.value c.value d.value f.value f.next.at i.value g.value in
     let same = read_same made parts g.next end g.second in
     let found : HeaderRead settings p made g.next = record {
       after_id = a.next;
@@ -130,12 +175,14 @@ header_is_read settings p parts end e =
       after_entries = c.next;
       after_content = d.next;
       body_end = f.next;
-      id = a.first;
+      iv_end = i.next;
+      opening = a.first;
       context = b.first;
       entries = c.first;
       content = d.first;
       commitment = f.first;
       size = refl;
+      iv = i.first;
       tag = g.first;
     } in
     subst (λ (h : Head). HeaderRead settings p h end) same.0 (subst (λ (q : Place). HeaderRead settings p made q) same.1 found)

@@ -1,26 +1,38 @@
--- A header as a value, and its one text. Standard: AWS Encryption SDK, message header, "Structure" of version 2.0.
-use Rattle.std.specs.Prelude.{◌≡◌, ℕ, ◌+◌, ◌<◌, ◌≤◌, ◌^◌, List, ◌++◌, length, All, IfSome}
+-- A header as a value, and its one text. Standard: AWS Encryption SDK, message header, "Structure" of versions 1.0 and 2.0. The suite says which version it is.
+use Rattle.std.specs.Prelude.{◌≡◌, ℕ, ◌+◌, ◌<◌, ◌≤◌, ◌^◌, List, [], ◌++◌, length, replicate, All, IfSome, Bool, true}
 use Rattle.std.specs.Int.{w8, w16, w32}
 use Rattle.std.specs.List.{flat_map}
 use Rattle.esdk_fields.specs.declared.contents.Content.{Content}
 use Rattle.esdk_fields.specs.declared.contents.Content.TheVariants.{Single, Framed}
 use Rattle.esdk_fields.specs.Numbers.{to_big_endian}
 use Rattle.esdk_fields.specs.Sized.{sized}
+use Rattle.suite_table.specs.declared.suite.Suite.{Suite}
+use Rattle.suite_table.specs.declared.suite.Suite.TheVariants.{Committing, Uncommitted}
+use Rattle.suite_table.specs.Suites.{suite_id, format_version, id_length, data_length}
 use Rattle.context_codec.specs.Context.{KeyValue}
 use Rattle.context_codec.specs.Split.{SpellsContext}
 use Rattle.edk_codec.specs.Entry.{Entry, IsEntry, edk_text}
 use Rattle.header_codec.specs.declared.settings.Settings.{Settings}
 
--- the fields of a header, its body as it stands in the message, and its authentication tag
+-- what a header begins with
+pub record Opening : Type 0 where
+  pub suite : Suite
+  pub id : List ℕ
+
+-- the fields of a header, its body as it stands in the message, and its authentication: initialization vector and tag
 pub record HeaderValue : Type 0 where
-  pub suite : ℕ
+  pub suite : Suite
   pub message_id : List ℕ
   pub stored : List KeyValue
   pub entries : List Entry
   pub content : Content
   pub commitment : List ℕ
   pub raw : List ℕ
+  pub iv : List ℕ
   pub tag : List ℕ
+
+abbrev pub opening_of : HeaderValue → Opening
+opening_of h = record { suite = h.suite; id = h.message_id }
 
 -- "Content Type": 01 for a single block, 02 for frames
 abbrev pub content_type : Content → ℕ
@@ -37,34 +49,62 @@ abbrev pub IsContent : Content → Type 0
 IsContent Single = Unit {0}
 IsContent (Framed n) = (1 ≤ n) × (n < 2 ^ 32)
 
--- version 02, suite 0478, message id
-unfoldable pub opening_text : List ℕ → List ℕ
-opening_text id = to_big_endian w8 2 ++ to_big_endian w16 0x0478 ++ id
+-- "Type", which version 1.0 alone has: 80
+unfoldable pub type_text : Suite → List ℕ
+type_text Committing = []
+type_text Uncommitted = to_big_endian w8 0x80
+
+-- version, and type
+unfoldable pub version_text : Suite → List ℕ
+version_text suite = to_big_endian w8 (format_version suite) ++ type_text suite
+
+-- version, type, suite id, message id
+unfoldable pub opening_text : Opening → List ℕ
+opening_text o = version_text o.suite ++ to_big_endian w16 (suite_id o.suite) ++ o.id
 
 -- the count of the encrypted data keys, and one after another
 unfoldable pub edks_text : List Entry → List ℕ
 edks_text entries = to_big_endian w16 (length entries) ++ flat_map edk_text entries
 
--- content type and frame length
-unfoldable pub content_text : Content → List ℕ
-content_text content = to_big_endian w8 (content_type content) ++ to_big_endian w32 (frame_length content)
+-- "Reserved" and "IV Length", which version 1.0 alone has: four zero bytes, and 12
+unfoldable pub reserved_text : Suite → List ℕ
+reserved_text Committing = []
+reserved_text Uncommitted = to_big_endian w32 0 ++ to_big_endian w8 12
+
+-- content type, reserved bytes, frame length
+unfoldable pub content_text : Suite → Content → List ℕ
+content_text suite content = to_big_endian w8 (content_type content) ++ reserved_text suite ++ to_big_endian w32 (frame_length content)
 
 -- The fields of the body in their order, the context being spelled so.
 unfoldable pub header_text : List ℕ → HeaderValue → List ℕ
-header_text context h = opening_text h.message_id ++ sized context ++ edks_text h.entries ++ content_text h.content ++ h.commitment
+header_text context h = opening_text (opening_of h) ++ sized context ++ edks_text h.entries ++ content_text h.suite h.content ++ h.commitment
+
+-- "IV" of the header authentication, which version 1.0 alone has
+abbrev pub iv_text : Suite → List ℕ → List ℕ
+iv_text Committing iv = []
+iv_text Uncommitted iv = iv
+
+-- the header authentication
+unfoldable pub authentication_text : HeaderValue → List ℕ
+authentication_text h = iv_text h.suite h.iv ++ h.tag
+
+-- twelve bytes; where the header has none of its own, zeros
+abbrev pub IsIv : Suite → List ℕ → Type 0
+IsIv Committing iv = iv ≡ replicate 12 0
+IsIv Uncommitted iv = length iv ≡ 12
 
 -- The bytes are the body of this header: the context's text spells the stored pairs, in any order, and each other field has one spelling.
 pub record IsHeader (bytes : List ℕ) (h : HeaderValue) : Type 0 where
   pub context : List ℕ
   pub spells : SpellsContext context h.stored
   pub short : length context ≤ 65535
-  pub suite : h.suite ≡ 0x0478
-  pub id : length h.message_id ≡ 32
+  pub id : length h.message_id ≡ id_length h.suite
   pub some : 1 ≤ length h.entries
   pub few : length h.entries ≤ 65535
   pub entries : All IsEntry h.entries
   pub content : IsContent h.content
-  pub commitment : length h.commitment ≡ 32
+  pub commitment : length h.commitment ≡ data_length h.suite
+  pub iv : IsIv h.suite h.iv
   pub text : bytes ≡ header_text context h
   pub raw : h.raw ≡ bytes
 
@@ -72,13 +112,24 @@ pub record IsHeader (bytes : List ℕ) (h : HeaderValue) : Type 0 where
 abbrev pub latest_end : ℕ
 latest_end = 16777216
 
--- No limit is passed. Behind the data keys the body has 37 bytes: content type, frame length, commitment.
+-- how many bytes of the body stand behind the encrypted data keys: content type, reserved bytes, frame length, commitment
+abbrev pub behind_keys : Suite → ℕ
+behind_keys Committing = 37
+behind_keys Uncommitted = 10
+
+-- what is read only where the caller allows it
+abbrev pub IsAllowed : Bool → Suite → Type 0
+IsAllowed uncommitted Committing = Unit {0}
+IsAllowed uncommitted Uncommitted = uncommitted ≡ true
+
+-- No limit is passed, and the suite is allowed.
 pub record IsWithin (settings : Settings) (h : HeaderValue) : Type 0 where
-  pub keys_end : length h.raw ≤ latest_end + 37
+  pub allowed : IsAllowed settings.uncommitted h.suite
+  pub keys_end : length h.raw ≤ latest_end + behind_keys h.suite
   pub max_keys : IfSome settings.max_keys (λ most. length h.entries ≤ most)
   pub max_unit : IfSome settings.max_unit (λ most. frame_length h.content ≤ most)
 
 -- What the type of headers keeps: the body is the header's own, and its data keys end in time.
 pub record IsKept (h : HeaderValue) : Type 0 where
   pub body : IsHeader h.raw h
-  pub keys_end : length h.raw ≤ latest_end + 37
+  pub keys_end : length h.raw ≤ latest_end + behind_keys h.suite

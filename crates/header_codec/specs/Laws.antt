@@ -5,25 +5,23 @@ use Rattle.esdk_fields.specs.Bytes.{AreBytes}
 use Rattle.esdk_fields.specs.Laws.{JudgesInOrder}
 use Rattle.esdk_fields.specs.Place.{Place, start}
 use Rattle.esdk_fields.specs.Reading.{Read, Refused}
-use Rattle.context_codec.specs.Context.{KeyValue}
-use Rattle.edk_codec.specs.Entry.{Entry}
 use Rattle.header_codec.specs.declared.settings.Settings.{Settings}
-use Rattle.header_codec.specs.Header.{HeaderValue, IsHeader, IsWithin}
+use Rattle.header_codec.specs.Header.{HeaderValue, IsHeader, IsWithin, IsAllowed, IsIv, authentication_text, frame_length}
 use Rattle.header_codec.specs.Offence.{HasOffence}
 use Rattle.header_codec.specs.Table.{Head, header, BeginsWith}
-use Rattle.header_codec.specs.Written.{AreHeaderParts, written_header, written_value, header_refusal}
+use Rattle.header_codec.specs.Written.{HeaderParts, AreParts, body_of, value_of, end_refusal}
 
 -- A fault stays when bytes follow, and comes with the last byte of its field, no earlier and no later. So does the header, once it is whole.
 abbrev pub JudgesHeadersInOrder : Type 0
 JudgesHeadersInOrder = (settings : Settings) → JudgesInOrder (header settings)
 
--- Without the table: the bytes are the body of this header, its tag and what follows, and no limit is passed.
+-- Without the table: the bytes are the body of this header, its authentication and what follows, and no limit is passed.
 pub record IsSpelled (settings : Settings) (bytes : List ℕ) (h : HeaderValue) (end : Place) : Type 0 where
   pub body : IsHeader h.raw h
   pub within : IsWithin settings h
   pub tag : length h.tag ≡ 16
-  pub front : bytes ≡ h.raw ++ h.tag ++ end.left
-  pub behind : end.at ≡ length h.raw + 16
+  pub front : bytes ≡ h.raw ++ authentication_text h ++ end.left
+  pub behind : end.at ≡ length h.raw + length (authentication_text h)
 
 -- The table reads a header exactly where the bytes begin with a spelling of it.
 abbrev pub ReadsSpelledHeaders : Type 0
@@ -45,16 +43,15 @@ abbrev pub RefusesTheFirstOffence : Type 0
 RefusesTheFirstOffence = (settings : Settings) (bytes : List ℕ) (fault : Fault) (at : ℕ) → AreBytes bytes
     → (header settings (start bytes) ≡ Refused fault at) ↔ HasOffence settings bytes fault at
 
--- What is written is the body of a header of these parts.
+-- What is written is the body of a header of these parts, with any authentication.
 abbrev pub WritesHeaders : Type 0
-WritesHeaders = (id : List ℕ) (stored : List KeyValue) (entries : List Entry) (frame : ℕ) (commitment tag : List ℕ)
-    → AreHeaderParts id stored entries frame commitment
-    → IsHeader (written_header id stored entries frame commitment) (written_value id stored entries frame commitment tag)
+WritesHeaders = (parts : HeaderParts) (iv tag : List ℕ) → AreParts parts → IsIv parts.opening.suite iv → IsHeader (body_of parts) (value_of parts iv tag)
 
--- What is written is read back as these parts with whatever tag stands behind it, whatever follows, under any limits that the parts keep.
+-- What is written is read back as these parts with whatever authentication stands behind it, whatever follows, under any limits that the parts keep.
 abbrev pub WrittenHeadersAreRead : Type 0
-WrittenHeadersAreRead = (settings : Settings) (id : List ℕ) (stored : List KeyValue) (entries : List Entry) (frame : ℕ) (commitment tag more : List ℕ)
-    → AreHeaderParts id stored entries frame commitment → length tag ≡ 16
-    → header_refusal id stored entries settings.max_keys ≡ None → IfSome settings.max_unit (λ most. frame ≤ most)
-    → BeginsWith settings (written_header id stored entries frame commitment ++ tag ++ more) (written_value id stored entries frame commitment tag)
-    (record { at = length (written_header id stored entries frame commitment) + 16; left = more })
+WrittenHeadersAreRead = (settings : Settings) (parts : HeaderParts) (iv tag more : List ℕ)
+    → AreParts parts → IsIv parts.opening.suite iv → length tag ≡ 16 → IsAllowed settings.uncommitted parts.opening.suite
+    → end_refusal parts.opening parts.stored parts.entries ≡ None
+    → IfSome settings.max_keys (λ most. length parts.entries ≤ most) → IfSome settings.max_unit (λ most. frame_length parts.content ≤ most)
+    → BeginsWith settings (body_of parts ++ authentication_text (value_of parts iv tag) ++ more) (value_of parts iv tag)
+    (record { at = length (body_of parts) + length (authentication_text (value_of parts iv tag)); left = more })

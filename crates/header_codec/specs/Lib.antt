@@ -3,7 +3,10 @@ pub mod Table
 pub mod Offence
 pub mod Session
 pub mod Stands
+pub mod Rest
 pub mod Parts
+pub mod Progress
+pub mod Intake
 pub mod Found
 pub mod Written
 pub mod Laws

@@ -23,7 +23,7 @@ opened settings = record { settings = settings; taken = []; stopped = false }
 abbrev pub judged : Session → List ℕ → Reading Head
 judged v piece = header v.settings (start (v.taken ++ piece))
 
--- bytes are used up to the end of the piece, or of the header's tag
+-- bytes are used up to the end of the piece, or of the header's authentication
 abbrev pub answer_to : Session → List ℕ → Reading Head → Result HeaderStep FieldError
 answer_to v piece (Read parts end) = Ok (record { used = end.at - length v.taken; ready = true })
 answer_to v piece (Refused fault at) = Err (errors.Fault fault)

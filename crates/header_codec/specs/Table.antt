@@ -1,30 +1,48 @@
 -- Reading a header: the table of its fields, line by line, and what is judged at the last byte of each.
--- Standard: AWS Encryption SDK, message header, "Structure" of version 2.0; the faults M1 to M9 are this library's.
-use Rattle.std.specs.Prelude.{◌≡◌, ℕ, ◌+◌, List, take, Bool, false, not, ◌&&◌, ◌||◌, ◌==◌, nat_lt, if◌then◌else◌, Option, Some, None, option_map}
+-- Standard: AWS Encryption SDK, message header, "Structure" of versions 1.0 and 2.0; the faults M1 to M9 and M23 to M26 are this
+-- library's.
+use Rattle.std.specs.Prelude.{◌≡◌, ℕ, ◌+◌, List, take, replicate, Bool, false, not, ◌&&◌, ◌||◌, ◌==◌, nat_lt, if◌then◌else◌, Option, Some, None, option_map}
 use Rattle.std.specs.Int.{w8, w16, w32}
 use Rattle.esdk_fields.specs.declared.faults.Fault.{Fault}
-use Rattle.esdk_fields.specs.declared.faults.Fault.TheVariants.{BadVersion, UnsupportedSuite, BadContext, NoDataKeys, TooManyDataKeys, BadContentType, BadFrameLength, HeaderTooLong, UnitTooLong}
+use Rattle.esdk_fields.specs.declared.faults.Fault.TheVariants.{BadVersion, UnsupportedSuite, BadContext, NoDataKeys, TooManyDataKeys, BadContentType, BadFrameLength, HeaderTooLong, UnitTooLong, BadType, BadReserved, BadIvLength}
+use Rattle.esdk_fields.specs.declared.faults.Fault.TheVariants as faults
 use Rattle.esdk_fields.specs.declared.contents.Content.{Content}
 use Rattle.esdk_fields.specs.declared.contents.Content.TheVariants.{Single, Framed}
 use Rattle.esdk_fields.specs.Place.{Place, start}
 use Rattle.esdk_fields.specs.Reading.{Read, Reader, ◌>>=◌, ◌>>◌, done, bytes, number, here, refuse_if, judge, repeat, fault_of, value_of}
+use Rattle.suite_table.specs.declared.suite.Suite.{Suite}
+use Rattle.suite_table.specs.declared.suite.Suite.TheVariants.{Committing, Uncommitted}
+use Rattle.suite_table.specs.Suites.{suite_id, id_length, data_length}
 use Rattle.context_codec.specs.Context.{KeyValue}
 use Rattle.context_codec.specs.Split.{context_fault, SpellsContext}
 use Rattle.edk_codec.specs.Entry.{Entry}
 use Rattle.header_codec.specs.declared.settings.Settings.{Settings}
-use Rattle.header_codec.specs.Header.{HeaderValue, latest_end}
+use Rattle.header_codec.specs.Header.{Opening, HeaderValue, latest_end}
 
 -- What is read: the context as its bytes, and the size of the body.
 pub record Head : Type 0 where
-  pub id : List ℕ
+  pub opening : Opening
   pub context : List ℕ
   pub entries : List Entry
   pub content : Content
   pub commitment : List ℕ
   pub size : ℕ
+  pub iv : List ℕ
   pub tag : List ℕ
 
 -- ---- tests
+
+abbrev pub is_version : ℕ → Bool
+is_version version = version == 1 || version == 2
+
+-- the suite of a version's messages
+abbrev pub suite_of_version : ℕ → Suite
+suite_of_version version = if version == 1 then Uncommitted else Committing
+
+-- the suite's own id, where the caller doesn't allow the suite
+abbrev pub is_forbidden : Bool → Suite → ℕ → Bool
+is_forbidden uncommitted Committing id = false
+is_forbidden uncommitted Uncommitted id = id == suite_id Uncommitted && not uncommitted
 
 -- over a limit, where there is one
 abbrev pub is_over : Option ℕ → ℕ → Bool
@@ -47,13 +65,31 @@ content_of kind frame = if kind == 1 then Single else Framed frame
 
 -- ---- the table
 
-unfoldable pub opening : Reader (List ℕ)
-opening = do
+unfoldable pub type_field : Suite → Reader (Unit {0})
+type_field Committing = done tt
+type_field Uncommitted = do
+  kind ← number w8
+  refuse_if (not (kind == 0x80)) (BadType kind)
+
+unfoldable pub suite_field : Bool → Suite → Reader (Unit {0})
+suite_field uncommitted suite = do
+  id ← number w16
+  refuse_if (is_forbidden uncommitted suite id) (faults.Uncommitted id)
+  refuse_if (not (id == suite_id suite)) (UnsupportedSuite id)
+
+-- what follows the version
+unfoldable pub identity : Bool → Suite → Reader Opening
+identity uncommitted suite = do
+  type_field suite
+  suite_field uncommitted suite
+  id ← bytes (id_length suite)
+  done (record { suite = suite; id = id })
+
+unfoldable pub opening : Bool → Reader Opening
+opening uncommitted = do
   version ← number w8
-  refuse_if (not (version == 2)) (BadVersion version)
-  suite ← number w16
-  refuse_if (not (suite == 0x0478)) (UnsupportedSuite suite)
-  bytes 32
+  refuse_if (not (is_version version)) (BadVersion version)
+  identity uncommitted (suite_of_version version)
 
 unfoldable pub context_field : Reader (List ℕ)
 context_field = do
@@ -84,25 +120,40 @@ data_keys max_keys = do
   refuse_if (is_over max_keys count) (TooManyDataKeys count)
   repeat entry count
 
-unfoldable pub content : Option ℕ → Reader Content
-content max_unit = do
+unfoldable pub reserved : Suite → Reader (Unit {0})
+reserved Committing = done tt
+reserved Uncommitted = do
+  zeros ← number w32
+  refuse_if (not (zeros == 0)) (BadReserved zeros)
+  iv_length ← number w8
+  refuse_if (not (iv_length == 12)) (BadIvLength iv_length)
+
+unfoldable pub content : Suite → Option ℕ → Reader Content
+content suite max_unit = do
   kind ← number w8
   refuse_if (not (is_content_type kind)) (BadContentType kind)
+  reserved suite
   frame ← number w32
   refuse_if (not (is_frame_length kind frame)) (BadFrameLength frame)
   refuse_if (is_unit_over max_unit kind frame) (UnitTooLong frame)
   done (content_of kind frame)
 
+-- the header's initialization vector: zeros, where it has none of its own
+unfoldable pub header_iv : Suite → Reader (List ℕ)
+header_iv Committing = done (replicate 12 0)
+header_iv Uncommitted = bytes 12
+
 unfoldable pub header : Settings → Reader Head
 header settings = do
-  id ← opening
+  o ← opening settings.uncommitted
   context ← context_field
   entries ← data_keys settings.max_keys
-  kind ← content settings.max_unit
-  commitment ← bytes 32
+  kind ← content o.suite settings.max_unit
+  commitment ← bytes (data_length o.suite)
   size ← here
+  iv ← header_iv o.suite
   tag ← bytes 16
-  done (record { id = id; context = context; entries = entries; content = kind; commitment = commitment; size = size; tag = tag })
+  done (record { opening = o; context = context; entries = entries; content = kind; commitment = commitment; size = size; iv = iv; tag = tag })
 
 -- ---- what the bytes say
 
@@ -117,17 +168,18 @@ head settings bytes = value_of (header settings (start bytes))
 -- the header of these parts, its stored pairs being these
 abbrev pub made_of : List ℕ → Head → List KeyValue → HeaderValue
 made_of bytes parts stored = record {
-  suite = 0x0478;
-  message_id = parts.id;
+  suite = parts.opening.suite;
+  message_id = parts.opening.id;
   stored = stored;
   entries = parts.entries;
   content = parts.content;
   commitment = parts.commitment;
   raw = take parts.size bytes;
+  iv = parts.iv;
   tag = parts.tag;
 }
 
--- The bytes begin with this header and its tag, which end there.
+-- The bytes begin with this header and its authentication, which end there.
 pub record BeginsWith (settings : Settings) (bytes : List ℕ) (h : HeaderValue) (end : Place) : Type 0 where
   pub parts : Head
   pub read : header settings (start bytes) ≡ Read parts end

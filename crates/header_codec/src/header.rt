@@ -1,23 +1,26 @@
 //! A header that was read.
 
-ghost use Rattle.std.specs.Prelude.{◌≡◌, ◌+◌, ◌≤◌, length};
-ghost use Rattle.header_codec.specs.Header.{IsContent, IsHeader, latest_end};
+ghost use Rattle.std.specs.Prelude.{◌≡◌, ◌+◌, ◌<◌, ◌≤◌, ◌^◌, length};
+ghost use Rattle.header_codec.specs.Header.{IsContent, IsHeader, behind_keys, latest_end};
+ghost use Rattle.suite_table.specs.Suites.{data_length, format_version, id_length, suite_id};
 
 use context_codec::Context;
 use edk_codec::DataKeyEntry;
 use esdk_fields::Content;
 use std::marker::Model;
+use suite_table::Suite;
 
-/// The header of a message and its authentication tag. A contract sees a `HeaderValue`.
+/// The header of a message and its authentication. A contract sees a `HeaderValue`.
 #[derive(Drop)]
 pub struct Header {
-    pub(crate) algorithm: u16,
+    pub(crate) algorithm: Suite,
     pub(crate) id: Vec<u8>,
     pub(crate) context: Context,
     pub(crate) keys: Vec<DataKeyEntry>,
     pub(crate) body: Content,
     pub(crate) suite_data: Vec<u8>,
     pub(crate) text: Vec<u8>,
+    pub(crate) vector: [u8; 12],
     pub(crate) authentication: [u8; 16],
 }
 
@@ -34,6 +37,7 @@ impl Model for Header {
       content = a.body;
       commitment = a.suite_data.items;
       raw = a.text.items;
+      iv = a.vector;
       tag = a.authentication;
     } };
 
@@ -45,22 +49,37 @@ impl Model for Header {
       content = a.body;
       commitment = a.suite_data.items;
       raw = a.text.items;
+      iv = a.vector;
       tag = a.authentication;
     }) };
 }
 
 impl Header {
-    /// The algorithm suite id.
-    pub fn suite(&self) -> u16
+    /// The algorithm suite.
+    pub fn algorithm(&self) -> Suite
         ensures { result ≡ self.now.suite }
     {
         self.algorithm
     }
 
-    /// The message id, 32 bytes.
+    /// The algorithm suite's id.
+    pub fn suite(&self) -> u16
+        ensures { result ≡ suite_id self.now.suite }
+    {
+        self.algorithm.id()
+    }
+
+    /// The version of the format, 1 or 2.
+    pub fn version(&self) -> u8
+        ensures { result ≡ format_version self.now.suite }
+    {
+        self.algorithm.format_version()
+    }
+
+    /// The message id, as long as the suite says: 32 bytes, or 16 in version 1.
     pub fn message_id(&self) -> &[u8]
         ensures id { result.now ≡ self.now.message_id }
-        ensures len { length self.now.message_id ≡ 32 }
+        ensures len { length self.now.message_id ≡ id_length self.now.suite }
     {
         &self.id
     }
@@ -89,10 +108,10 @@ impl Header {
         self.body
     }
 
-    /// The algorithm suite data: the commitment to the data key, 32 bytes.
+    /// The algorithm suite data: the commitment to the data key, 32 bytes; none in version 1.
     pub fn commitment(&self) -> &[u8]
         ensures commitment { result.now ≡ self.now.commitment }
-        ensures len { length self.now.commitment ≡ 32 }
+        ensures len { length self.now.commitment ≡ data_length self.now.suite }
     {
         &self.suite_data
     }
@@ -101,9 +120,17 @@ impl Header {
     pub fn raw(&self) -> &[u8]
         ensures body { result.now ≡ self.now.raw }
         ensures is_header { IsHeader self.now.raw self.now }
-        ensures within { length self.now.raw ≤ latest_end + 37 }
+        ensures keys_end { length self.now.raw ≤ latest_end + behind_keys self.now.suite }
+        ensures short { length self.now.raw < 2 ^ 25 }
     {
         &self.text
+    }
+
+    /// The header's initialization vector: twelve zeros in version 2, which stores none.
+    pub fn iv(&self) -> &[u8; 12]
+        ensures { result.now ≡ self.now.iv }
+    {
+        &self.vector
     }
 
     /// The header's authentication tag.

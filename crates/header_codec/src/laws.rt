@@ -7,7 +7,7 @@ pub fn headers_are_judged_in_order()
     ensures { JudgesHeadersInOrder }
 {}
 
-/// A header is read exactly where the bytes begin with a spelling of it and its tag, and no limit is passed.
+/// A header is read exactly where the bytes begin with a spelling of it and its authentication, and no limit is passed.
 pub fn spelled_headers_are_read()
     ensures { ReadsSpelledHeaders }
 {}
@@ -17,7 +17,7 @@ pub fn one_header_is_read()
     ensures { ReadsOneHeader }
 {}
 
-/// Where the fields are read to the tag's end, there is a header.
+/// Where the fields are read to the end of the authentication, there is a header.
 pub fn some_header_is_read()
     ensures { ReadsSomeHeader }
 {}
@@ -32,7 +32,7 @@ pub fn written_headers_are_headers()
     ensures { WritesHeaders }
 {}
 
-/// What is written is read back as its parts, with whatever tag stands behind it and whatever follows, under any limits that the parts keep.
+/// What is written is read back as its parts, with whatever authentication stands behind it and whatever follows, under any limits that the parts keep.
 pub fn written_headers_are_read()
     ensures { WrittenHeadersAreRead }
 {}

@@ -1,13 +1,15 @@
 //! The header of a message: it is read in pieces of any size, and judged field by field as each is whole.
-//! Standard: AWS Encryption SDK, message header, "Structure" of version 2.0.
+//! Standard: AWS Encryption SDK, message header, "Structure" of versions 1.0 and 2.0.
 //!
-//! `specs/Table.antt` is the table of the fields with the faults M1 to M9, `specs/Header.antt` says without a reader which bytes a header has.
+//! `specs/Table.antt` is the table of the fields with the faults M1 to M9 and M23 to M26, `specs/Header.antt` says without a reader which bytes a header has.
 #![tactic(auto)]
 
 mod found;
 mod header;
+mod intake;
 mod laws;
 mod parts;
+mod progress;
 mod session;
 mod settings;
 mod table;
@@ -22,4 +24,5 @@ pub use laws::{
 };
 pub use session::{HeaderReader, HeaderStep};
 pub use settings::Settings;
-pub use written::write_header;
+pub use suite_table::Suite;
+pub use written::{write_header, write_legacy_header};

@@ -2,8 +2,8 @@
 
 ghost use Rattle.std.specs.Prelude.{◌≤◌, length};
 
-use context_codec::Context;
 use esdk_fields::Content;
+use suite_table::Suite;
 
 /// An encrypted data key where it stands in the bytes.
 #[derive(Clone, Copy)]
@@ -16,15 +16,19 @@ pub(crate) struct RawEntry<'a> {
     ghost cipher_short: { length cipher.now ≤ 65535 },
 }
 
-/// The fields of a header where they stand in the bytes, and its stored pairs.
-#[derive(Drop)]
-pub(crate) struct Parts<'a> {
+/// What a header begins with: the suite that its version and its suite id name, and the message id where it stands in the bytes.
+#[derive(Clone, Copy)]
+pub(crate) struct RawOpening<'a> {
+    pub(crate) suite: Suite,
     pub(crate) id: &'a [u8],
-    pub(crate) context: &'a [u8],
-    pub(crate) stored: Context,
-    pub(crate) entries: Vec<RawEntry<'a>>,
+}
+
+/// What follows the encrypted data keys, where it stands in the bytes, and the size of the body.
+#[derive(Clone, Copy)]
+pub(crate) struct RawEnding<'a> {
     pub(crate) content: Content,
     pub(crate) commitment: &'a [u8],
     pub(crate) size: usize,
+    pub(crate) iv: [u8; 12],
     pub(crate) tag: &'a [u8],
 }

@@ -4,26 +4,27 @@ ghost use Rattle.std.specs.Option.{option_copied};
 ghost use Rattle.header_codec.specs.Session.{Session, opened, Answers, stepped, ShowsHeader};
 ghost use Rattle.header_codec.specs.Stands.{Stands};
 
-use crate::found::header_in;
 use crate::header::Header;
+use crate::intake::Intake;
 use crate::settings::Settings;
 use esdk_fields::{FieldError, Stop};
 use std::alloc::Global;
 
-/// What a step did: the bytes of the piece that it used, and whether the header and its tag are whole.
+/// What a step did: the bytes of the piece that it used, and whether the header and its authentication are whole.
 #[derive(Clone, Copy)]
 pub struct HeaderStep {
     /// How many bytes of the piece were used.
     pub used: usize,
-    /// Whether the header and its tag are whole.
+    /// Whether the header and its authentication are whole.
     pub ready: bool,
 }
 
-/// Reads one header from pieces of bytes.
+/// Reads one header from pieces of bytes, and judges each field as soon as it is whole. What was read whole isn't read again: a step goes on where reading stands, at the
+/// context, at an encrypted data key or behind them, and reads of what isn't whole yet its lengths and short fields alone. So the time is that of the bytes and of the
+/// steps, however the bytes are cut, and a length takes no memory before its bytes come.
 #[derive(Drop)]
 pub struct HeaderReader {
-    settings: Settings,
-    taken: Vec<u8>,
+    intake: Intake,
     stopped: bool,
     found: Option<Header>,
 }
@@ -34,16 +35,15 @@ impl HeaderReader {
         ensures { Stands result (opened settings) }
     {
         HeaderReader {
-            settings,
-            taken: Vec::new(alloc),
+            intake: Intake::new(alloc, settings),
             stopped: false,
             found: None,
         }
     }
 
-    /// Takes bytes up to the end of the piece, or of the header's tag, and says how many, and whether the header and its tag are whole.
+    /// Takes bytes up to the end of the piece, or of the header's authentication, and says how many, and whether the header and its authentication are whole.
     ///
-    /// A fault M1 to M9 comes with the last byte of the field that has it. After any error, want of memory too, every later step answers
+    /// A fault M1 to M9 or M23 to M26 comes with the last byte of the field that has it. After any error, want of memory too, every later step answers
     /// `Stopped`, and it comes only then. After the header is whole a step uses nothing.
     pub fn step(&mut self, alloc: Global, piece: &[u8]) -> Result<HeaderStep, FieldError>
         ensures answer { (v : Session) → Stands self.old v → Answers v piece.now result }
@@ -59,13 +59,11 @@ impl HeaderReader {
             });
         }
         self.stopped = true;
-        let had = self.taken.len();
-        self.taken.extend_from_slice(piece)?;
-        match header_in(alloc, self.settings, &self.taken) {
+        let had = self.intake.len();
+        match self.intake.take(alloc, piece) {
             Ok(found) => {
                 self.stopped = false;
                 self.found = Some(found.header);
-                self.taken = Vec::new(alloc);
                 // What was taken before held no whole header, so this one ends behind it.
                 Ok(HeaderStep {
                     used: found.end.saturating_sub(had),
@@ -84,10 +82,17 @@ impl HeaderReader {
         }
     }
 
-    /// The header, once it and its tag are whole. None exactly until then.
+    /// The header, once it and its authentication are whole. None exactly until then.
     pub fn header(&self) -> Option<&Header>
         ensures { (v : Session) → Stands self.now v → ShowsHeader v (option_copied result) }
     {
         self.found.as_ref()
+    }
+
+    /// The header that `header` shows, itself: nothing of it is copied. None exactly until it and its authentication are whole.
+    pub fn into_header(self) -> Option<Header>
+        ensures { (v : Session) → Stands self v → ShowsHeader v result }
+    {
+        self.found
     }
 }

@@ -1,57 +1,138 @@
 //! Reading the fields of a header, each judged at its last byte.
 
-ghost use Rattle.std.specs.Prelude.{◌≡◌, ◌+◌, ◌≤◌, length, map, IfOk, OnOk, ◌==◌, not, nat_lt};
+ghost use Rattle.std.specs.Prelude.{◌≡◌, ◌+◌, ◌≤◌, length, IfOk, OnOk, ◌==◌, not, nat_lt};
 ghost use Rattle.esdk_fields.specs.Gives.{Gives};
-ghost use Rattle.esdk_fields.specs.Reading.{repeat};
+ghost use Rattle.esdk_fields.specs.Reading.{bytes};
 ghost use Rattle.context_codec.specs.Split.{SpellsContext};
 ghost use Rattle.header_codec.specs.Header.{latest_end, content_type, frame_length};
-ghost use Rattle.header_codec.specs.Table.{is_over, is_content_type, is_frame_length, is_unit_over, content_of, opening, context_field, part, entry, data_keys, content, header};
-ghost use Rattle.header_codec.specs.Parts.{raw_entry, head_of};
+ghost use Rattle.header_codec.specs.Table.{is_version, suite_of_version, is_forbidden, is_over, is_content_type, is_frame_length, is_unit_over, content_of, type_field, suite_field, identity, opening, context_field, part, entry, reserved, content, header_iv};
+ghost use Rattle.header_codec.specs.Parts.{raw_entry, raw_opening, raw_ending};
+ghost use Rattle.header_codec.specs.Rest.{keys_count, ending};
 
-use crate::parts::{Parts, RawEntry};
-use crate::settings::Settings;
+use crate::parts::{RawEnding, RawEntry, RawOpening};
 use context_codec::{Context, read_field};
 use esdk_fields::{
     Content, Cursor, Fault, FieldError, Stop, bytes_of, refused, sized_of, u8_of, u16_of, u32_of,
 };
 use std::alloc::Global;
+use suite_table::Suite;
 
-/// The version of the format.
-pub(crate) const VERSION: u8 = 2;
+/// The type of a message of version 1.
+pub(crate) const MESSAGE_TYPE: u8 = 0x80;
 
-/// The suite with key commitment and without a signature.
-pub(crate) const SUITE: u16 = 0x0478;
+/// How many bytes an initialization vector has.
+pub(crate) const IV_LENGTH: u8 = 12;
 
 /// Where the encrypted data keys end at the latest.
 pub(crate) const LATEST_END: usize = 16_777_216;
 
 /// A context where it stands in the bytes, and its pairs.
 #[derive(Drop)]
-struct ContextField<'a> {
-    bytes: &'a [u8],
-    stored: Context,
+pub(crate) struct ContextField<'a> {
+    pub(crate) bytes: &'a [u8],
+    pub(crate) stored: Context,
 }
 
-/// Version, suite, message id.
+/// Whether messages of this version are read.
+fn is_version(version: u8) -> bool
+    ensures { result ≡ is_version version }
+{
+    version == 1 || version == 2
+}
+
+/// The suite of a version's messages.
+fn suite_of_version(version: u8) -> Suite
+    ensures { result ≡ suite_of_version version }
+{
+    if version == 1 {
+        Suite::Uncommitted
+    } else {
+        Suite::Committing
+    }
+}
+
+/// Whether it is the suite's own id, and the caller doesn't allow the suite.
+fn is_forbidden(uncommitted: bool, suite: Suite, id: u16) -> bool
+    ensures { result ≡ is_forbidden uncommitted suite id }
+{
+    match suite {
+        Suite::Committing => false,
+        Suite::Uncommitted => id == Suite::Uncommitted.id() && !uncommitted,
+    }
+}
+
+/// The type of the message, which version 1 alone has.
+#[tactic(auto, unfolding(crate::specs::Table::type_field))]
+fn type_of(suite: Suite, cursor: &mut Cursor<'_>) -> Result<(), Stop>
+    ensures reads { Gives (λ x. x) result cursor.new (type_field suite cursor.old) }
+    ensures end { OnOk result (cursor.new.at ≤ cursor.old.at + 1) }
+{
+    match suite {
+        Suite::Committing => Ok(()),
+        Suite::Uncommitted => {
+            let kind = u8_of(cursor)?;
+            if kind != MESSAGE_TYPE {
+                return refused(Fault::BadType(kind), cursor);
+            }
+            Ok(())
+        }
+    }
+}
+
+/// The suite id.
+#[tactic(auto, unfolding(crate::specs::Table::suite_field))]
+fn suite_id_of(uncommitted: bool, suite: Suite, cursor: &mut Cursor<'_>) -> Result<(), Stop>
+    ensures reads { Gives (λ x. x) result cursor.new (suite_field uncommitted suite cursor.old) }
+    ensures end { OnOk result (cursor.new.at ≡ cursor.old.at + 2) }
+{
+    let id = u16_of(cursor)?;
+    if is_forbidden(uncommitted, suite, id) {
+        return refused(Fault::Uncommitted(id), cursor);
+    }
+    if id != suite.id() {
+        return refused(Fault::UnsupportedSuite(id), cursor);
+    }
+    Ok(())
+}
+
+/// What follows the version: type, suite id, message id.
+#[tactic(auto, unfolding(crate::specs::Table::identity))]
+fn identity_of<'a>(
+    uncommitted: bool,
+    suite: Suite,
+    cursor: &mut Cursor<'a>,
+) -> Result<RawOpening<'a>, Stop>
+    ensures reads { Gives raw_opening result cursor.new (identity uncommitted suite cursor.old) }
+    ensures end { OnOk result (cursor.new.at ≤ cursor.old.at + 35) }
+{
+    type_of(suite, cursor)?;
+    suite_id_of(uncommitted, suite, cursor)?;
+    let id = bytes_of(cursor, suite.id_length())?;
+    Ok(RawOpening { suite, id })
+}
+
+/// Version, type, suite id, message id.
 #[tactic(auto, unfolding(crate::specs::Table::opening))]
-fn opening_of<'a>(cursor: &mut Cursor<'a>) -> Result<&'a [u8], Stop>
-    ensures reads { Gives (λ id. id.now) result cursor.new (opening cursor.old) }
-    ensures end { OnOk result (cursor.new.at ≡ cursor.old.at + 35) }
+pub(crate) fn opening_of<'a>(
+    uncommitted: bool,
+    cursor: &mut Cursor<'a>,
+) -> Result<RawOpening<'a>, Stop>
+    ensures reads { Gives raw_opening result cursor.new (opening uncommitted cursor.old) }
+    ensures end { OnOk result (cursor.new.at ≤ cursor.old.at + 36) }
 {
     let version = u8_of(cursor)?;
-    if version != VERSION {
+    if !is_version(version) {
         return refused(Fault::BadVersion(version), cursor);
     }
-    let suite = u16_of(cursor)?;
-    if suite != SUITE {
-        return refused(Fault::UnsupportedSuite(suite), cursor);
-    }
-    bytes_of(cursor, 32)
+    identity_of(uncommitted, suite_of_version(version), cursor)
 }
 
 /// Two bytes of length, and a context's text.
 #[tactic(auto, unfolding(crate::specs::Table::context_field, esdk_fields::specs::Sized::sized_bytes))]
-fn context_field_of<'a>(alloc: Global, cursor: &mut Cursor<'a>) -> Result<ContextField<'a>, Stop>
+pub(crate) fn context_field_of<'a>(
+    alloc: Global,
+    cursor: &mut Cursor<'a>,
+) -> Result<ContextField<'a>, Stop>
     ensures reads { Gives (λ x. x.bytes.now) result cursor.new (context_field cursor.old) }
     ensures spells { IfOk result (λ x. SpellsContext x.bytes.now x.stored) }
     ensures end { OnOk result (cursor.new.at ≤ cursor.old.at + 65537) }
@@ -83,7 +164,7 @@ fn part_of<'a>(cursor: &mut Cursor<'a>) -> Result<&'a [u8], Stop>
 
 /// The three parts of an entry.
 #[tactic(auto, unfolding(crate::specs::Table::entry))]
-fn entry_of<'a>(cursor: &mut Cursor<'a>) -> Result<RawEntry<'a>, Stop>
+pub(crate) fn entry_of<'a>(cursor: &mut Cursor<'a>) -> Result<RawEntry<'a>, Stop>
     requires { cursor.old.at ≤ latest_end }
     ensures reads { Gives raw_entry result cursor.new (entry cursor.old) }
     ensures within { OnOk result (cursor.new.at ≤ latest_end) }
@@ -98,23 +179,6 @@ fn entry_of<'a>(cursor: &mut Cursor<'a>) -> Result<RawEntry<'a>, Stop>
     })
 }
 
-/// That many entries, one after another.
-fn entries_of<'a>(
-    alloc: Global,
-    count: u16,
-    cursor: &mut Cursor<'a>,
-) -> Result<Vec<RawEntry<'a>>, Stop>
-    requires { cursor.old.at ≤ latest_end }
-    ensures { Gives (λ v. map raw_entry v.items) result cursor.new (repeat entry count cursor.old) }
-{
-    let mut entries = Vec::new(alloc);
-    for _ in 0..count {
-        let entry = entry_of(cursor)?;
-        entries.push(entry)?;
-    }
-    Ok(entries)
-}
-
 /// Whether the number is over the limit, where there is one.
 pub(crate) fn is_over(max_keys: Option<u16>, count: u16) -> bool
     ensures { result ≡ is_over max_keys count }
@@ -125,15 +189,11 @@ pub(crate) fn is_over(max_keys: Option<u16>, count: u16) -> bool
     }
 }
 
-/// The count of the entries, and the entries.
-#[tactic(auto, unfolding(crate::specs::Table::data_keys))]
-fn data_keys_of<'a>(
-    alloc: Global,
-    max_keys: Option<u16>,
-    cursor: &mut Cursor<'a>,
-) -> Result<Vec<RawEntry<'a>>, Stop>
-    requires { cursor.old.at + 2 ≤ latest_end }
-    ensures { Gives (λ v. map raw_entry v.items) result cursor.new (data_keys max_keys cursor.old) }
+/// How many entries there are.
+#[tactic(auto, unfolding(crate::specs::Rest::keys_count))]
+pub(crate) fn keys_count_of(max_keys: Option<u16>, cursor: &mut Cursor<'_>) -> Result<u16, Stop>
+    ensures reads { Gives (λ n. n) result cursor.new (keys_count max_keys cursor.old) }
+    ensures end { OnOk result (cursor.new.at ≡ cursor.old.at + 2) }
 {
     let count = u16_of(cursor)?;
     if count == 0 {
@@ -142,7 +202,7 @@ fn data_keys_of<'a>(
     if is_over(max_keys, count) {
         return refused(Fault::TooManyDataKeys(count), cursor);
     }
-    entries_of(alloc, count, cursor)
+    Ok(count)
 }
 
 /// Whether it is 01, a single block, or 02, frames.
@@ -180,15 +240,37 @@ fn content_with(kind: u8, frame: u32) -> Content
     }
 }
 
-/// Content type and frame length.
+/// Four zero bytes and the length of initialization vectors, which version 1 alone has.
+#[tactic(auto, unfolding(crate::specs::Table::reserved))]
+fn reserved_of(suite: Suite, cursor: &mut Cursor<'_>) -> Result<(), Stop>
+    ensures { Gives (λ x. x) result cursor.new (reserved suite cursor.old) }
+{
+    match suite {
+        Suite::Committing => Ok(()),
+        Suite::Uncommitted => {
+            let zeros = u32_of(cursor)?;
+            if zeros != 0 {
+                return refused(Fault::BadReserved(zeros), cursor);
+            }
+            let iv_length = u8_of(cursor)?;
+            if iv_length != IV_LENGTH {
+                return refused(Fault::BadIvLength(iv_length), cursor);
+            }
+            Ok(())
+        }
+    }
+}
+
+/// Content type, reserved bytes and frame length.
 #[tactic(auto, unfolding(crate::specs::Table::content))]
-fn content_of(max_unit: Option<u64>, cursor: &mut Cursor<'_>) -> Result<Content, Stop>
-    ensures { Gives (λ x. x) result cursor.new (content max_unit cursor.old) }
+fn content_of(suite: Suite, max_unit: Option<u64>, cursor: &mut Cursor<'_>) -> Result<Content, Stop>
+    ensures { Gives (λ x. x) result cursor.new (content suite max_unit cursor.old) }
 {
     let kind = u8_of(cursor)?;
     if !is_content_type(kind) {
         return refused(Fault::BadContentType(kind), cursor);
     }
+    reserved_of(suite, cursor)?;
     let frame = u32_of(cursor)?;
     if !is_frame_length(kind, frame) {
         return refused(Fault::BadFrameLength(frame), cursor);
@@ -199,32 +281,46 @@ fn content_of(max_unit: Option<u64>, cursor: &mut Cursor<'_>) -> Result<Content,
     Ok(content_with(kind, frame))
 }
 
-/// The fields of a header's body and its tag, from the first byte on.
-#[tactic(auto, unfolding(crate::specs::Table::header))]
-pub(crate) fn parts_of<'a>(
-    alloc: Global,
-    settings: Settings,
-    cursor: &mut Cursor<'a>,
-) -> Result<Parts<'a>, Stop>
-    requires { cursor.old.at ≡ 0 }
-    ensures reads { Gives head_of result cursor.new (header settings cursor.old) }
-    ensures spells { IfOk result (λ parts. SpellsContext parts.context.now parts.stored) }
+/// The header's initialization vector: zeros, where it has none of its own.
+#[tactic(auto, unfolding(crate::specs::Table::header_iv))]
+fn header_iv_of(suite: Suite, cursor: &mut Cursor<'_>) -> Result<[u8; 12], Stop>
+    ensures { Gives (λ iv. iv) result cursor.new (header_iv suite cursor.old) }
 {
-    let id = opening_of(cursor)?;
-    let field = context_field_of(alloc, cursor)?;
-    let entries = data_keys_of(alloc, settings.max_keys, cursor)?;
-    let content = content_of(settings.max_unit, cursor)?;
-    let commitment = bytes_of(cursor, 32)?;
+    match suite {
+        Suite::Committing => Ok([0; 12]),
+        Suite::Uncommitted => iv_of(cursor),
+    }
+}
+
+/// An initialization vector that stands in the bytes.
+fn iv_of(cursor: &mut Cursor<'_>) -> Result<[u8; 12], Stop>
+    ensures { Gives (λ iv. iv) result cursor.new (bytes 12 cursor.old) }
+{
+    let bytes = bytes_of(cursor, 12)?;
+    let mut iv = [0; 12];
+    iv.copy_from_slice(bytes);
+    Ok(iv)
+}
+
+/// What follows the encrypted data keys: content, commitment, authentication.
+#[tactic(auto, unfolding(crate::specs::Rest::ending))]
+pub(crate) fn ending_of<'a>(
+    suite: Suite,
+    max_unit: Option<u64>,
+    cursor: &mut Cursor<'a>,
+) -> Result<RawEnding<'a>, Stop>
+    ensures { Gives raw_ending result cursor.new (ending suite max_unit cursor.old) }
+{
+    let content = content_of(suite, max_unit, cursor)?;
+    let commitment = bytes_of(cursor, suite.data_length())?;
     let size = cursor.offset();
+    let iv = header_iv_of(suite, cursor)?;
     let tag = bytes_of(cursor, 16)?;
-    Ok(Parts {
-        id,
-        context: field.bytes,
-        stored: field.stored,
-        entries,
+    Ok(RawEnding {
         content,
         commitment,
         size,
+        iv,
         tag,
     })
 }

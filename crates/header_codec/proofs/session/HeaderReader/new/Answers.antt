@@ -4,4 +4,4 @@ use Rattle.header_codec.proofs.session.HeaderReader.new.Goals as goal
 
 pub returns : goal.returns
 unfolding header opening
-returns c = record { settings = refl; stopped = refl; taken = λ _ _. c.new.ensures.items; found = refl }
+returns c = record { settings = c.new.ensures.settings; stopped = refl; taken = λ _ _. c.new.ensures.taken; found = refl }

@@ -1,4 +1,4 @@
-use Rattle.std.proofs.Common.{◌∙◌, sym, refl, rules}
+use Rattle.std.proofs.Common.{◌∙◌, sym, refl}
 use Rattle.header_codec.proofs.Sessions.{answer_found, stands_found}
 use Rattle.header_codec.proofs.session.HeaderReader.step.Goals as goal
 
@@ -8,5 +8,5 @@ returns-then-is_some-clause-answer c = λ v stands.
 
 pub returns-in-Ok-clause-stands : goal.returns-in-Ok-clause-stands
 returns-in-Ok-clause-stands c = λ v stands.
-    stands_found c.args.self.now _ v c.args.piece.now c.deref.result.now c.in-Ok.found.header c.len-had.result c.saturating_sub.result c.in-Ok.found.end c.in-Ok.ensures.0 stands
-    c.if-self.false c.if-is_some.ensures (c.len-had.ensures ∙ search rules) (c.deref.ensures.value ∙ c.in_ok-extend_from_slice.ensures.items) c.saturating_sub.ensures c.in-Ok.ensures.1 refl refl refl
+    stands_found c.args.self.now _ v c.args.piece.now _ c.in-Ok.found.header c.len-had.result c.saturating_sub.result c.in-Ok.found.end c.in-Ok.ensures.finds.0 stands
+    c.if-self.false c.if-is_some.ensures c.len-had.ensures refl c.saturating_sub.ensures c.in-Ok.ensures.finds.1 c.in-Ok.ensures.settings refl refl
