@@ -13,5 +13,3 @@ pub mod FrameTable
 pub mod TableLaws
 pub mod BlockTable
 pub mod Loop
-pub mod OneRow
-pub mod Writing

@@ -1,5 +1,5 @@
 -- Walking over a row of units, one after another, as a loop does.
-use Rattle.std.proofs.Common.{◌≡◌, ℕ, ◌+◌, ◌-◌, ◌*◌, ◌<◌, ◌≤◌, true, false, List, [], ◌∷◌, ◌++◌, length, refl, sym, ap, subst, ◌∙◌, arith, inl, inr}
+use Rattle.std.proofs.Common.{◌≡◌, ℕ, ◌+◌, ◌*◌, ◌<◌, true, false, List, [], ◌∷◌, ◌++◌, refl, sym, ap, ◌∙◌, arith, inl, inr}
 use Rattle.std.specs.List.{flat_map, range_with_len}
 use Rattle.std.proofs.lemmas.Bool.{cases_lt}
 use Rattle.std.proofs.lemmas.List.{append-nil}
@@ -10,7 +10,7 @@ use Rattle.frame_codec.specs.Unit.{Piece, More, Last}
 use Rattle.body_format.specs.declared.verdicts.Verdict.{Verdict}
 use Rattle.body_format.specs.declared.verdicts.Verdict.TheVariants.{Going, Faulty}
 use Rattle.body_format.specs.Rows.{slot, is_more, released, behind_last, verdict_of, judged_units, JudgedBody, IsRow}
-use Rattle.body_format.proofs.Places.{past_past, past_none, length-past}
+use Rattle.body_format.proofs.Places.{past_past, past_none}
 use Rattle.body_format.proofs.Ranges.{flat_map_one}
 use Rattle.body_format.proofs.Slots.{first_is}
 use Rattle.body_format.proofs.RowLaws.{same_judged, units_are, verdict_is}
@@ -46,15 +46,6 @@ passed_more width unit p k place units content next row passed e =
           ∙ sym (flat_map_one (λ j. released (slot width unit p j)) k);
     }
 
--- bytes were walked over
-pub shorter : (width : ℕ) (unit : ℕ → Reader Piece) (k : ℕ) (place next : Place) (content : List ℕ) → IsRow width unit → unit k place ≡ Read (More content) next → length next.left < length place.left
-shorter width unit k place next content row e =
-    let sized = row.sized k place next content e in
-    let wide : 1 ≤ width = row.wide in
-    let left : length next.left ≡ length (past width place).left = ap (λ (q : Place). length q.left) sized.1 in
-    let long : width ≤ length place.left = sized.0 in
-    omega (arith, left, length-past width place)
-
 -- ---- the end
 
 ends : (width : ℕ) (unit : ℕ → Reader Piece) (p : Place) (k : ℕ) (units : List (List ℕ)) (place : Place) (r : Reading Piece) → IsRow width unit → Passed width unit p k place units → unit k place ≡ r → is_more r ≡ false
@@ -86,11 +77,3 @@ fault_end width unit p k units place fault at row passed e = ends width unit p k
 pub wanting_end : (width : ℕ) (unit : ℕ → Reader Piece) (p : Place) (k : ℕ) (units : List (List ℕ)) (place : Place) → IsRow width unit → Passed width unit p k place units
     → unit k place ≡ Wanting → judged_units width unit p ≡ record { units = units; verdict = Going }
 wanting_end width unit p k units place row passed e = ends width unit p k units place Wanting row passed e refl ∙ without units Going
-
--- ---- by the numbers of the units, which start at 1
-
-pub passed_on : (width : ℕ) (unit : ℕ → Reader Piece) (p : Place) (want : ℕ) (place : Place) (units : List (List ℕ)) (content : List ℕ) (next : Place) → IsRow width unit → 1 ≤ want
-    → Passed width unit p (want - 1) place units → unit (want - 1) place ≡ Read (More content) next → Passed width unit p (want + 1 - 1) next (units ++ content ∷ [])
-passed_on width unit p want place units content next row some passed e =
-    let n : want - 1 + 1 ≡ want + 1 - 1 = omega arith in
-    subst (λ (k : ℕ). Passed width unit p k next (units ++ content ∷ [])) n (passed_more width unit p (want - 1) place units content next row passed e)

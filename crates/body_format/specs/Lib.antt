@@ -3,4 +3,3 @@ pub mod Body
 pub mod Table
 pub mod Written
 pub mod Laws
-pub mod Views

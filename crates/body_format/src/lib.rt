@@ -2,19 +2,14 @@
 //! Standard: AWS Encryption SDK Specification, message body.
 //!
 //! `specs/Body.antt` says how any bytes are judged, over the units' readers of `frame_codec`; `specs/Table.antt` says it a second time by the
-//! fields alone; `specs/Written.antt` says how a text is written in frames.
+//! fields alone; `specs/Written.antt` says how a text is written in frames. The crate has no code but laws about these.
 #![tactic(auto)]
 
-mod judgements;
 mod laws;
-mod units;
 mod verdicts;
-mod written;
 
-pub use judgements::{BodyJudgement, judge_body};
 pub use laws::{
     bodies_are_judged_by_the_table, faults_stay, fronts_go_on, released_units_stay,
     trailing_bytes_are_refused, whole_frames_are_released, written_bodies_are_whole,
 };
 pub use verdicts::Verdict;
-pub use written::{write_body, write_final_frame, write_regular_frame};

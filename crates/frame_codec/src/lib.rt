@@ -18,5 +18,5 @@ pub use laws::{
     needed_bytes_decide, spelled_units_are_read, units_are_judged_in_order, units_have_their_sizes,
     written_units_are_read,
 };
-pub use unit_heads::{Head, UnitHead, judge_head, unit_head_of};
+pub use unit_heads::{Head, UnitHead, judge_head};
 pub use written::{final_head, number_after, regular_head, write_single};

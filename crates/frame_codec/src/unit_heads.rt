@@ -149,7 +149,7 @@ fn block_start_of(cursor: &mut Cursor<'_>, max_unit: Option<u64>) -> Result<Unit
 /// Reads what stands before the content of the unit that is to have the number `want`. `Wanting` where not all of it is there, else the fault of
 /// the field that ends there: M18, M19, M21 or M9. Takes no memory. `max_unit` limits a single block alone.
 #[tactic(auto, unfolding(crate::specs::UnitHead::unit_head))]
-pub fn unit_head_of(
+fn unit_head_of(
     cursor: &mut Cursor<'_>,
     content: Content,
     want: u32,

@@ -42,18 +42,19 @@ pub fn number_after(number: u32) -> Option<u32>
     number.checked_add(1)
 }
 
-/// A body of one block: this text, sealed under a derived key, a message id and an initialization vector. Fails only where memory runs out.
+/// A body of one block: this text, sealed under a derived key, a message id of at most 32 bytes and an initialization vector. Fails only where memory runs out.
 ///
 /// One derived key must never seal two texts under the same initialization vector.
 #[tactic(auto, unfolding(crate::specs::Written::single_block, crate::specs::Written::sealed_unit))]
 pub fn write_single(
     alloc: Global,
     derived: &[u8; 32],
-    message_id: &[u8; 32],
+    message_id: &[u8],
     iv: &[u8; 12],
     text: &[u8],
 ) -> Result<Blob, AllocError>
-    requires { length text.now ≤ 2 ^ 36 - 32 }
+    requires id { length message_id.now ≤ 32 }
+    requires short { length text.now ≤ 2 ^ 36 - 32 }
     ensures { IfOk result (λ body. body ≡ single_block derived.now message_id.now iv.now text.now) }
 {
     let key = Key256::new(derived);

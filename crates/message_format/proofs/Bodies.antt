@@ -1,5 +1,5 @@
 -- What is said of a body, and of the same body when more bytes follow.
-use Rattle.std.proofs.Common.{◌≡◌, ◌⊎◌, ℕ, ◌+◌, ◌-◌, ◌*◌, ◌/◌, ◌<◌, ◌≤◌, List, ◌++◌, length, take, min, Option, refl, sym, ap, subst, ◌∙◌, arith, inl, inr}
+use Rattle.std.proofs.Common.{◌≡◌, ℕ, ◌+◌, ◌-◌, ◌*◌, ◌/◌, ◌<◌, ◌≤◌, List, ◌++◌, length, take, Option, refl, sym, ap, ◌∙◌, arith, inl, inr}
 use Rattle.std.proofs.lemmas.List.{length-append, take_at}
 use Rattle.std.proofs.Math.Nat.{min-eq_left, min-eq_right, div-lt_iff_lt-mul}
 use Rattle.std.proofs.lemmas.Nat.{le-div}
@@ -17,7 +17,6 @@ use Rattle.body_format.specs.Body.{judged_body, beside_content}
 use Rattle.body_format.specs.Laws.{Releases}
 use Rattle.body_format.specs.Written.{IsFramed, frame_count, pieces, framed_body}
 use Rattle.body_format.specs.Table.{tabled_frames, tabled_block}
-use Rattle.body_format.proofs.RowLaws.{Begins}
 use Rattle.body_format.proofs.BodyLaws.{fault_stays, units_front, too_many, front_releases}
 use Rattle.body_format.proofs.TableLaws as tables
 use Rattle.body_format.proofs.BlockTable as blocks

@@ -1,12 +1,11 @@
 -- What is said of bytes, and of the same bytes when more follow.
-use Rattle.std.proofs.Common.{◌≡◌, ℕ, ◌+◌, ◌≤◌, Bool, true, false, List, [], ◌∷◌, ◌++◌, length, take, Option, Some, None, refl, sym, ap, ◌∙◌, arith}
-use Rattle.std.proofs.lemmas.List.{append-nil, take-append-le}
+use Rattle.std.proofs.Common.{◌≡◌, ℕ, ◌≤◌, true, List, [], ◌++◌, length, Option, Some, None, refl, sym, ap, ◌∙◌}
+use Rattle.std.proofs.lemmas.List.{take-append-le}
 use Rattle.esdk_fields.specs.declared.faults.Fault.{Fault}
 use Rattle.esdk_fields.specs.declared.faults.Fault.TheVariants.{TrailingBytes}
 use Rattle.esdk_fields.specs.Place.{Place, start, followed}
 use Rattle.esdk_fields.specs.Reading.{Reading, Read, Refused, Wanting}
 use Rattle.esdk_fields.proofs.Fronts.{fault_stays, value_stays}
-use Rattle.context_codec.specs.Context.{KeyValue}
 use Rattle.header_codec.specs.declared.settings.Settings.{Settings}
 use Rattle.header_codec.specs.Header.{HeaderValue}
 use Rattle.header_codec.specs.Table.{Head, header}
@@ -18,7 +17,6 @@ use Rattle.keyring_trait.specs.Unlocking.{Unlocking, Refuses, Unlocks}
 use Rattle.body_format.specs.declared.verdicts.Verdict.{Verdict}
 use Rattle.body_format.specs.declared.verdicts.Verdict.TheVariants.{Going, Whole, Faulty}
 use Rattle.body_format.specs.Rows.{JudgedBody}
-use Rattle.body_format.specs.Body.{judged_body}
 use Rattle.message_format.specs.Judgement.{Judged, locked, opened_as, lock_fault, header_of, judged_lock, judged_header, judged_reading, judged}
 use Rattle.message_format.specs.Laws.{FaultsStay, UnitsStay, UnlockingStays, RefusesTrailingBytes, FrontsGoOn}
 use Rattle.message_format.proofs.Judging.{judged_is}
@@ -54,10 +52,10 @@ going_follows more after = record {
 body_follows : (settings : Settings) (h : HeaderValue) (key more : List ℕ) (p : Place)
     → Follows more (judged_lock settings h key p None) (judged_lock settings h key (followed p more) None)
 body_follows settings h key more p = record {
-  fault = λ f e. ap opened (body_fault_stays h.content settings.max_unit (derived key h.message_id) h.message_id p more f e);
-  units = body_units_stay h.content settings.max_unit (derived key h.message_id) h.message_id p more;
+  fault = λ f e. ap opened (body_fault_stays h.content settings.max_unit (derived h.suite key h.message_id) h.message_id p more f e);
+  units = body_units_stay h.content settings.max_unit (derived h.suite key h.message_id) h.message_id p more;
   unlocked = λ e. refl;
-  trailing = λ e some. ap opened (body_trailing h.content settings.max_unit (derived key h.message_id) h.message_id p more e some);
+  trailing = λ e some. ap opened (body_trailing h.content settings.max_unit (derived h.suite key h.message_id) h.message_id p more e some);
 }
   where
     opened : JudgedBody → Judged
@@ -77,7 +75,7 @@ header_follows settings h more p (Unlocks whole only key) = lock_follows setting
 -- the header stays what it is
 pub header_stays : (settings : Settings) (b more : List ℕ) (parts : Head) (p : Place) → header settings (start b) ≡ Read parts p → header_of (b ++ more) parts ≡ header_of b parts
 header_stays settings b more parts p e =
-    ap (λ (r : List ℕ). value (record { suite = 0x0478; message_id = parts.id; stored = stored_in parts.context; entries = parts.entries; content = parts.content; commitment = parts.commitment; raw = r; tag = parts.tag }))
+    ap (λ (r : List ℕ). value (record { suite = parts.opening.suite; message_id = parts.opening.id; stored = stored_in parts.context; entries = parts.entries; content = parts.content; commitment = parts.commitment; raw = r; iv = parts.iv; tag = parts.tag }))
     (take-append-le parts.size b more (size_within settings b parts p e))
   where
     value : HeaderValue → HeaderValue

@@ -1,5 +1,5 @@
 -- The judgement, case by case.
-use Rattle.std.proofs.Common.{◌≡◌, ℕ, List, Option, Some, None, refl, ap, ◌∙◌}
+use Rattle.std.proofs.Common.{◌≡◌, ℕ, List, Some, None, ap}
 use Rattle.esdk_fields.specs.declared.faults.Fault.{Fault}
 use Rattle.esdk_fields.specs.Place.{Place, start}
 use Rattle.esdk_fields.specs.Reading.{Reading, Read, Refused, Wanting}
@@ -8,7 +8,7 @@ use Rattle.header_codec.specs.declared.settings.Settings.{Settings}
 use Rattle.header_codec.specs.Header.{HeaderValue}
 use Rattle.header_codec.specs.Table.{Head, header}
 use Rattle.suite_table.specs.Keys.{derived}
-use Rattle.keyring_trait.specs.Unlocking.{Unlocking, Refuses, Unlocks}
+use Rattle.keyring_trait.specs.Unlocking.{Unlocking, Unlocks}
 use Rattle.body_format.specs.declared.verdicts.Verdict.TheVariants.{Going, Faulty}
 use Rattle.body_format.specs.Body.{judged_body}
 use Rattle.message_format.specs.Judgement.{Judged, locked, opened_as, lock_fault, header_of, judged_lock, judged_header, judged_reading, judged}
@@ -28,7 +28,7 @@ judged_read b settings a parts body e = judged_is b settings a (Read parts body)
 
 -- the body of this header, as it is judged under this data key
 abbrev pub body_of : Settings → HeaderValue → List ℕ → Place → Judged
-body_of settings h key body = opened_as (judged_body h.content settings.max_unit (derived key h.message_id) h.message_id body)
+body_of settings h key body = opened_as (judged_body h.content settings.max_unit (derived h.suite key h.message_id) h.message_id body)
 
 pub judged_opened : (settings : Settings) (h : HeaderValue) (body : Place) (whole only : List KeyValue) (key : List ℕ) → lock_fault h only key ≡ None
     → judged_header settings h body (Unlocks whole only key) ≡ body_of settings h key body

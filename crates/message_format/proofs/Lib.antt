@@ -7,4 +7,4 @@ pub mod WrittenHeads
 pub mod WrittenMessages
 pub mod RoundTrip
 pub mod Lines
-pub mod Found
+pub mod LegacyMessages

@@ -1,6 +1,6 @@
 -- A reader's judgement of bytes, and of the same bytes when more follow.
-use Rattle.std.proofs.Common.{◌≡◌, ℕ, List, ◌++◌, refl, sym, ap, ◌∙◌}
-use Rattle.esdk_fields.specs.Place.{Place, start, followed}
+use Rattle.std.proofs.Common.{◌≡◌, ℕ, List, ◌++◌, refl, ap, ◌∙◌}
+use Rattle.esdk_fields.specs.Place.{start, followed}
 use Rattle.esdk_fields.specs.Reading.{Reading, Read, Refused, Wanting}
 use Rattle.esdk_fields.proofs.Fronts.{value_stays}
 use Rattle.context_codec.specs.Context.{KeyValue}
@@ -9,8 +9,7 @@ use Rattle.header_codec.specs.Header.{HeaderValue}
 use Rattle.header_codec.specs.Table.{Head, header}
 use Rattle.header_codec.proofs.Order.{IsSequential-header}
 use Rattle.keyring_trait.specs.Wrapping.{WrapKeyValue}
-use Rattle.keyring_trait.specs.Unlocking.{Unlocking}
-use Rattle.message_format.specs.Judgement.{judged, header_of}
+use Rattle.message_format.specs.Judgement.{judged}
 use Rattle.message_format.specs.Reading.{unlock_header, unlock_reading, unlocking, read}
 use Rattle.message_format.proofs.Following.{SameAnswer, GoesOn, header_stays, follows}
 

@@ -1,5 +1,5 @@
 -- Who holds a key that the writer wrapped under, and is given what it needs, reads what was written.
-use Rattle.std.proofs.Common.{◌≡◌, ℕ, ◌<◌, ◌≤◌, false, List, length, take, refl, sym, ap, ◌∙◌, inl, inr}
+use Rattle.std.proofs.Common.{◌≡◌, ℕ, ◌<◌, ◌≤◌, false, List, length, take, sym, ap, ◌∙◌, inl, inr}
 use Rattle.std.proofs.lemmas.Bool.{cases_lt}
 use Rattle.esdk_fields.specs.Place.{start, cut}
 use Rattle.esdk_fields.specs.Reading.{Read}
@@ -16,7 +16,7 @@ use Rattle.keyring_trait.specs.Unlocking.{Unlocking, Unlocks, reserved_key}
 use Rattle.keyring_trait.specs.Laws.{AreWrapped, IsEnough, AreGiven}
 use Rattle.keyring_trait.proofs.Unlocking.{unlocks_stored}
 use Rattle.message_format.specs.Message.{message, IsWritable}
-use Rattle.message_format.specs.Judgement.{Judged, judged}
+use Rattle.message_format.specs.Judgement.{judged}
 use Rattle.message_format.specs.Reading.{unlock_header, unlocking, read}
 use Rattle.message_format.specs.Laws.{IsWithinLimits, whole_of_text, front_of_text, body_start}
 use Rattle.message_format.proofs.Judging.{judged_wanting}

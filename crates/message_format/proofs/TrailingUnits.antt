@@ -1,11 +1,10 @@
 -- Bytes behind what is whole change nothing of what was released.
-use Rattle.std.proofs.Common.{◌≡◌, ℕ, ◌+◌, ◌<◌, ◌≤◌, Bool, true, false, List, ◌++◌, Option, refl, sym, ap, ◌∙◌, arith}
+use Rattle.std.proofs.Common.{◌≡◌, ℕ, ◌+◌, ◌≤◌, false, List, ◌++◌, Option, refl, sym, ap, ◌∙◌, arith}
 use Rattle.std.specs.List.{flat_map, range_with_len}
 use Rattle.esdk_fields.specs.declared.contents.Content.{Content}
 use Rattle.esdk_fields.specs.declared.contents.Content.TheVariants.{Single, Framed}
 use Rattle.esdk_fields.specs.Place.{Place, cut}
-use Rattle.esdk_fields.specs.Reading.{Reading, Read, Refused, Wanting, Reader}
-use Rattle.esdk_fields.specs.Sequential.{cut_reading}
+use Rattle.esdk_fields.specs.Reading.{Read, Refused, Wanting, Reader}
 use Rattle.frame_codec.specs.Unit.{Piece, More, Last, Under, frame, block}
 use Rattle.body_format.specs.declared.verdicts.Verdict.TheVariants.{Whole}
 use Rattle.body_format.specs.Rows.{slot, is_more, released, verdict_of, first_other, judged_units, IsRow}

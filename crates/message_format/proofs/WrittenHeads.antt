@@ -1,29 +1,28 @@
 -- The header of a written message, its tag, and that it is read back.
-use Rattle.std.proofs.Common.{◌≡◌, ℕ, ◌+◌, ◌≤◌, Bool, true, false, not, List, [], ◌++◌, length, take, replicate, Option, Some, None, refl, sym, ap, ◌∙◌, arith}
-use Rattle.std.specs.Prelude.{IfSome, nat_lt, if◌then◌else◌}
+use Rattle.std.proofs.Common.{◌≡◌, ℕ, ◌+◌, Bool, true, false, not, List, [], ◌++◌, length, replicate, Some, None, refl, sym, ap, ◌∙◌, arith}
+use Rattle.std.specs.Prelude.{nat_lt, if◌then◌else◌}
 use Rattle.std.specs.Str.{bytes_eq}
 use Rattle.std.proofs.lemmas.Bool.{le-ltb}
 use Rattle.std.proofs.lemmas.List.{length-append}
 use Rattle.std.proofs.lemmas.Slice.Eq.{bytes_eq-Decides}
-use Rattle.esdk_fields.specs.declared.contents.Content.TheVariants.{Framed}
-use Rattle.esdk_fields.specs.declared.faults.Fault.TheVariants.{Commitment, HeaderTag}
 use Rattle.esdk_fields.specs.declared.refusals.Refusal.{Refusal}
 use Rattle.esdk_fields.specs.declared.refusals.Refusal.TheVariants.{TooManyDataKeys, HeaderTooLong}
-use Rattle.esdk_fields.specs.Place.{Place, start}
-use Rattle.esdk_fields.specs.Reading.{Read}
-use Rattle.cipher_spec.specs.Gcm.{sealed, tag_of, cipher_of}
+use Rattle.esdk_fields.specs.Place.{Place}
+use Rattle.cipher_spec.specs.Gcm.{sealed, cipher_of}
 use Rattle.cipher_spec.proofs.GcmLemmas.{length-tag_of}
 use Rattle.context_codec.specs.Context.{KeyValue, ctx_text}
 use Rattle.edk_codec.specs.Entry.{Entry}
 use Rattle.header_codec.specs.declared.settings.Settings.{Settings}
 use Rattle.header_codec.specs.Header.{HeaderValue, latest_end}
-use Rattle.header_codec.specs.Table.{Head, header, is_over, made_of, BeginsWith}
-use Rattle.header_codec.specs.Written.{AreHeaderParts, header_refusal, keys_end, written_header, written_value}
+use Rattle.header_codec.specs.Table.{is_over, made_of, BeginsWith}
+use Rattle.header_codec.specs.Written.{AreHeaderParts, committing, header_refusal, keys_end, written_value}
 use Rattle.header_codec.proofs.Contents.{limit_within}
-use Rattle.header_codec.proofs.WrittenHeaders.{written_is_read}
+use Rattle.header_codec.proofs.CommittingHeaders.{committing_is_read}
+use Rattle.suite_table.specs.declared.suite.Suite.{Suite}
+use Rattle.suite_table.specs.declared.suite.Suite.TheVariants.{Committing}
 use Rattle.suite_table.specs.Keys.{derived, commitment}
 use Rattle.suite_table.proofs.KeyLemmas.{length-commitment}
-use Rattle.context_codec.specs.Parts.{stored_of, only_of, stored_in}
+use Rattle.context_codec.specs.Parts.{stored_of, only_of}
 use Rattle.context_codec.proofs.Parts.{IsContext-stored_of}
 use Rattle.context_codec.proofs.Stored.{stored_is}
 use Rattle.body_format.specs.Written.{framed_body}
@@ -33,15 +32,15 @@ use Rattle.message_format.specs.Laws.{IsWithinLimits}
 
 -- ---- the tag
 
-pub length-header_tag : (raw : List ℕ) (only : List KeyValue) (key id : List ℕ) → length (header_tag raw only key id) ≡ 16
+pub length-header_tag : (suite : Suite) (iv raw : List ℕ) (only : List KeyValue) (key id : List ℕ) → length (header_tag suite iv raw only key id) ≡ 16
 unfolding header_tag sealed
-length-header_tag raw only key id = length-tag_of (derived key id) (replicate 12 0) (raw ++ ctx_text only) (cipher_of (derived key id) (replicate 12 0) [])
+length-header_tag suite iv raw only key id = length-tag_of (derived suite key id) iv (raw ++ ctx_text only) (cipher_of (derived suite key id) iv [])
 
 -- ---- the header
 
 -- the tag of the message
 abbrev pub tag_in : List KeyValue → List (List ℕ) → ℕ → List ℕ → List Entry → List ℕ → List ℕ
-tag_in c required size key entries id = header_tag (header_body c required size key entries id) (only_of required c) key id
+tag_in c required size key entries id = header_tag Committing (replicate 12 0) (header_body c required size key entries id) (only_of required c) key id
 
 -- the header as a value
 abbrev pub written : List KeyValue → List (List ℕ) → ℕ → List ℕ → List Entry → List ℕ → HeaderValue
@@ -55,7 +54,7 @@ parts_are text c required size key entries id w = record {
   some = w.entries_some;
   few = w.entries_few;
   each = w.entries_are;
-  frames = (w.some, w.narrow);
+  content = (w.some, w.narrow);
   commitment_len = length-commitment key id;
 }
 
@@ -67,8 +66,8 @@ none_refused false false first second e f = refl
 taken : (settings : Settings) (text : List ℕ) (c : List KeyValue) (required : List (List ℕ)) (size : ℕ) (key : List ℕ) (entries : List Entry) (id : List ℕ) → IsWritable text c required size key entries id
     → IsWithinLimits settings size entries → header_refusal id (stored_of required c) entries settings.max_keys ≡ None
 taken settings text c required size key entries id w limits =
-    none_refused (is_over settings.max_keys (length entries)) (nat_lt latest_end (keys_end id (stored_of required c) entries)) (TooManyDataKeys (length entries)) (HeaderTooLong (keys_end id (stored_of required c) entries))
-    (limit_within settings.max_keys (length entries) limits.max_keys) (le-ltb latest_end (keys_end id (stored_of required c) entries) w.entries_end)
+    none_refused (is_over settings.max_keys (length entries)) (nat_lt latest_end (keys_end (committing id) (stored_of required c) entries)) (TooManyDataKeys (length entries)) (HeaderTooLong (keys_end (committing id) (stored_of required c) entries))
+    (limit_within settings.max_keys (length entries) limits.max_keys) (le-ltb latest_end (keys_end (committing id) (stored_of required c) entries) w.entries_end)
 
 -- ---- it is read back
 
@@ -78,7 +77,7 @@ unfolding message
 length-message text c required size key entries id =
     let raw = header_body c required size key entries id in
     let tag = tag_in c required size key entries id in
-    omega (arith, length-append (raw ++ tag) (framed_body (under size key id) text), length-append raw tag, length-header_tag raw (only_of required c) key id)
+    omega (arith, length-append (raw ++ tag) (framed_body (under size key id) text), length-append raw tag, length-header_tag Committing (replicate 12 0) raw (only_of required c) key id)
 
 -- where the body of a message begins, and what stands there
 abbrev pub body_place : List ℕ → List KeyValue → List (List ℕ) → ℕ → List ℕ → List Entry → List ℕ → Place
@@ -88,8 +87,8 @@ pub begins_written : (settings : Settings) (text : List ℕ) (c : List KeyValue)
     → IsWithinLimits settings size entries → BeginsWith settings (message text c required size key entries id) (written c required size key entries id) (body_place text c required size key entries id)
 unfolding message header_body
 begins_written settings text c required size key entries id w limits =
-    written_is_read settings id (stored_of required c) entries size (commitment key id) (tag_in c required size key entries id) (framed_body (under size key id) text)
-    (parts_are text c required size key entries id w) (length-header_tag (header_body c required size key entries id) (only_of required c) key id)
+    committing_is_read settings id (stored_of required c) entries size (commitment key id) (tag_in c required size key entries id) (framed_body (under size key id) text)
+    (parts_are text c required size key entries id w) (length-header_tag Committing (replicate 12 0) (header_body c required size key entries id) (only_of required c) key id)
     (taken settings text c required size key entries id w limits) limits.max_unit
 
 -- the header that begins the bytes is the one that is found in them

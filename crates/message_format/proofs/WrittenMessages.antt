@@ -1,29 +1,27 @@
 -- A written message is judged whole, and has its text; its fronts release the frames that are whole.
-use Rattle.std.proofs.Common.{◌≡◌, ℕ, ◌+◌, ◌-◌, ◌*◌, ◌/◌, ◌<◌, ◌≤◌, Bool, true, false, List, [], ◌++◌, length, take, min, refl, sym, ap, ◌∙◌, arith, inl, inr}
+use Rattle.std.proofs.Common.{◌≡◌, ℕ, ◌+◌, ◌-◌, ◌*◌, ◌<◌, ◌≤◌, Bool, true, false, List, [], length, take, min, sym, ap, ◌∙◌, arith, inl, inr}
 use Rattle.std.specs.Prelude.{nat_le}
 use Rattle.std.proofs.Math.Dec.{leb}
 use Rattle.std.proofs.lemmas.List.Concat.{concat_is}
 use Rattle.std.proofs.lemmas.Bool.{cases_lt, le-leb, lt-leb}
 use Rattle.std.proofs.Math.Nat.{zero-div}
-use Rattle.std.proofs.lemmas.List.{length-append, length-take, take-take}
-use Rattle.esdk_fields.specs.declared.contents.Content.TheVariants.{Framed}
+use Rattle.std.proofs.lemmas.List.{length-take, take-take}
 use Rattle.esdk_fields.specs.Place.{Place, start, cut}
-use Rattle.esdk_fields.specs.Reading.{Read, Wanting}
+use Rattle.esdk_fields.specs.Reading.{Read}
 use Rattle.esdk_fields.proofs.Fronts.{value_from, wanting_before_value}
 use Rattle.context_codec.specs.Context.{KeyValue}
 use Rattle.edk_codec.specs.Entry.{Entry}
 use Rattle.header_codec.specs.declared.settings.Settings.{Settings}
 use Rattle.header_codec.proofs.Whole.{size_within}
 use Rattle.header_codec.specs.Header.{HeaderValue}
-use Rattle.header_codec.specs.Table.{Head, header, BeginsWith}
+use Rattle.header_codec.specs.Table.{Head, header}
 use Rattle.header_codec.proofs.Order.{IsSequential-header}
-use Rattle.suite_table.specs.Keys.{derived}
 use Rattle.context_codec.specs.Parts.{only_of, stored_in}
 use Rattle.keyring_trait.specs.Unlocking.{Unlocks}
-use Rattle.body_format.specs.declared.verdicts.Verdict.TheVariants.{Going, Whole}
+use Rattle.body_format.specs.declared.verdicts.Verdict.TheVariants.{Going}
 use Rattle.body_format.specs.Rows.{JudgedBody}
-use Rattle.body_format.specs.Body.{judged_body, beside_content}
-use Rattle.body_format.specs.Written.{IsFramed, frame_count, pieces, framed_body}
+use Rattle.body_format.specs.Body.{beside_content}
+use Rattle.body_format.specs.Written.{IsFramed, frame_count, pieces}
 use Rattle.body_format.proofs.BodyLaws.{framed_whole}
 use Rattle.body_format.proofs.WrittenBodies.{joined_all, joined_pieces}
 use Rattle.message_format.specs.Message.{header_body, under, message, IsWritable}
@@ -67,7 +65,7 @@ none_before text size count start n h =
 pub header_same : (settings : Settings) (b : List ℕ) (n : ℕ) (parts : Head) (end : Place) → header settings (start (take n b)) ≡ Read parts end → header_of (take n b) parts ≡ header_of b parts
 header_same settings b n parts end e =
     let within : parts.size ≤ n = omega (arith, size_within settings (take n b) parts end e, length-take n b) in
-    ap (λ (r : List ℕ). value (record { suite = 0x0478; message_id = parts.id; stored = stored_in parts.context; entries = parts.entries; content = parts.content; commitment = parts.commitment; raw = r; tag = parts.tag }))
+    ap (λ (r : List ℕ). value (record { suite = parts.opening.suite; message_id = parts.opening.id; stored = stored_in parts.context; entries = parts.entries; content = parts.content; commitment = parts.commitment; raw = r; iv = parts.iv; tag = parts.tag }))
     (take-take parts.size n b within)
   where
     value : HeaderValue → HeaderValue

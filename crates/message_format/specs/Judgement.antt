@@ -1,5 +1,5 @@
 -- How any bytes are judged as a message, once it is answered what unlocks it. Standard: AWS Encryption SDK Specification, "Decrypt", from "Parse the header" to
--- "Decrypt the message body"; the faults M1 to M22 are this library's.
+-- "Decrypt the message body"; the faults M1 to M26 are this library's.
 use Rattle.std.specs.Prelude.{ℕ, ◌+◌, Bool, true, false, not, List, [], length, Option, Some, None, if◌then◌else◌}
 use Rattle.std.specs.List.{concat}
 use Rattle.std.specs.Str.{bytes_eq}
@@ -11,6 +11,8 @@ use Rattle.context_codec.specs.Context.{KeyValue}
 use Rattle.header_codec.specs.declared.settings.Settings.{Settings}
 use Rattle.header_codec.specs.Header.{HeaderValue}
 use Rattle.header_codec.specs.Table.{Head, header, made_of}
+use Rattle.suite_table.specs.declared.suite.Suite.{Suite}
+use Rattle.suite_table.specs.declared.suite.Suite.TheVariants.{Committing, Uncommitted}
 use Rattle.suite_table.specs.Keys.{derived, commitment}
 use Rattle.context_codec.specs.Parts.{stored_in}
 use Rattle.keyring_trait.specs.Unlocking.{Unlocking, Refuses, Unlocks}
@@ -33,11 +35,20 @@ locked verdict = record { unlocked = false; units = []; verdict = verdict }
 abbrev pub opened_as : JudgedBody → Judged
 opened_as body = record { unlocked = true; units = body.units; verdict = body.verdict }
 
+-- whether this is the commitment to the data key; under a suite without commitments there is nothing to ask
+abbrev pub is_committed : Suite → List ℕ → List ℕ → List ℕ → Bool
+is_committed Committing committed key id = bytes_eq committed (commitment key id)
+is_committed Uncommitted committed key id = true
+
+-- whether the header commits to the data key, where its suite asks for that
+abbrev pub commits : HeaderValue → List ℕ → Bool
+commits h key = is_committed h.suite h.commitment key h.message_id
+
 -- M16, where the header doesn't commit to this data key; else M17, where its tag isn't that of the header and of the pairs that it doesn't store
 unfoldable pub lock_fault : HeaderValue → List KeyValue → List ℕ → Option Fault
 lock_fault h only key =
-    if not (bytes_eq h.commitment (commitment key h.message_id)) then Some Commitment
-    else if not (bytes_eq h.tag (header_tag h.raw only key h.message_id)) then Some HeaderTag
+    if not (commits h key) then Some Commitment
+    else if not (bytes_eq h.tag (header_tag h.suite h.iv h.raw only key h.message_id)) then Some HeaderTag
     else None
 
 -- the header that was read at the front of the bytes
@@ -47,7 +58,7 @@ header_of bytes parts = made_of bytes parts (stored_in parts.context)
 -- the body, once nothing is wrong with the lock
 abbrev pub judged_lock : Settings → HeaderValue → List ℕ → Place → Option Fault → Judged
 judged_lock settings h key body (Some fault) = locked (Faulty fault)
-judged_lock settings h key body None = opened_as (judged_body h.content settings.max_unit (derived key h.message_id) h.message_id body)
+judged_lock settings h key body None = opened_as (judged_body h.content settings.max_unit (derived h.suite key h.message_id) h.message_id body)
 
 -- the header is whole, and the body begins there
 abbrev pub judged_header : Settings → HeaderValue → Place → Unlocking → Judged

@@ -6,7 +6,9 @@ use Rattle.esdk_fields.specs.declared.faults.Fault.TheVariants.{Commitment, Head
 use Rattle.context_codec.specs.Context.{KeyValue}
 use Rattle.edk_codec.specs.Entry.{Entry}
 use Rattle.header_codec.specs.declared.settings.Settings.{Settings}
+use Rattle.header_codec.specs.Header.{iv_text}
 use Rattle.header_codec.specs.Table.{Head, header_fault, head}
+use Rattle.suite_table.specs.declared.suite.Suite.TheVariants.{Committing}
 use Rattle.suite_table.specs.Keys.{derived, commitment}
 use Rattle.context_codec.specs.Parts.{holds, only_of}
 use Rattle.keyring_trait.specs.Wrapping.{WrapKeyValue}
@@ -121,6 +123,22 @@ ReadsWholeFrames = (text : List ℕ) (c : List KeyValue) (required : List (List 
 
 -- ---- line by line
 
+-- where the body begins: behind the header body, the initialization vector where the header has one, and the tag
+abbrev pub body_start_of : Head → ℕ
+body_start_of parts = parts.size + length (iv_text parts.opening.suite parts.iv) + 16
+
+-- the header commits to the data key, where its suite has commitments
+abbrev pub Commits : Head → List ℕ → Type 0
+Commits parts key = parts.opening.suite ≡ Committing → parts.commitment ≡ commitment key parts.opening.id
+
+-- the tag that is due: that of the header body and of the pairs that the header doesn't store
+abbrev pub tag_due : List ℕ → Head → List KeyValue → List ℕ → List ℕ
+tag_due bytes parts only key = header_tag parts.opening.suite parts.iv (take parts.size bytes) only key parts.opening.id
+
+-- the key that frames and tag stand under
+abbrev pub key_of : Head → List ℕ → List ℕ
+key_of parts key = derived parts.opening.suite key parts.opening.id
+
 -- The judgement of any bytes, the first line that applies. `parts` is what the header's table reads; behind it stands the tag, and then the body.
 pub record IsLineByLine (bytes : List ℕ) (settings : Settings) (answer : Unlocking) : Type 0 where
   -- the header has a fault
@@ -129,20 +147,20 @@ pub record IsLineByLine (bytes : List ℕ) (settings : Settings) (answer : Unloc
   pub header_goes_on : header_fault settings bytes ≡ None → head settings bytes ≡ None → judged bytes settings answer ≡ locked Going
   -- it isn't unlocked
   pub refused : (parts : Head) (fault : Fault) → head settings bytes ≡ Some parts → answer ≡ Refuses fault → judged bytes settings answer ≡ locked (Faulty fault)
-  -- M16: it doesn't commit to the data key
+  -- M16: it doesn't commit to the data key, and its suite has commitments
   pub other_key : (parts : Head) (whole only : List KeyValue) (key : List ℕ) → head settings bytes ≡ Some parts → answer ≡ Unlocks whole only key
-      → parts.commitment ≢ commitment key parts.id → judged bytes settings answer ≡ locked (Faulty Commitment)
+      → parts.opening.suite ≡ Committing → parts.commitment ≢ commitment key parts.opening.id → judged bytes settings answer ≡ locked (Faulty Commitment)
   -- M17: its tag isn't that of its body and of the pairs that it doesn't store
   pub other_tag : (parts : Head) (whole only : List KeyValue) (key : List ℕ) → head settings bytes ≡ Some parts → answer ≡ Unlocks whole only key
-      → parts.commitment ≡ commitment key parts.id → parts.tag ≢ header_tag (take parts.size bytes) only key parts.id → judged bytes settings answer ≡ locked (Faulty HeaderTag)
+      → Commits parts key → parts.tag ≢ tag_due bytes parts only key → judged bytes settings answer ≡ locked (Faulty HeaderTag)
   -- frames, by their table
   pub frames : (parts : Head) (whole only : List KeyValue) (key : List ℕ) (size : ℕ) → head settings bytes ≡ Some parts → answer ≡ Unlocks whole only key
-      → parts.commitment ≡ commitment key parts.id → parts.tag ≡ header_tag (take parts.size bytes) only key parts.id → parts.content ≡ Framed size
-      → judged bytes settings answer ≡ opened_as (tabled_frames (record { key = derived key parts.id; id = parts.id; frame = size }) (drop (parts.size + 16) bytes))
+      → Commits parts key → parts.tag ≡ tag_due bytes parts only key → parts.content ≡ Framed size
+      → judged bytes settings answer ≡ opened_as (tabled_frames (record { key = key_of parts key; id = parts.opening.id; frame = size }) (drop (body_start_of parts) bytes))
   -- a single block, by its table
   pub block : (parts : Head) (whole only : List KeyValue) (key : List ℕ) → head settings bytes ≡ Some parts → answer ≡ Unlocks whole only key
-      → parts.commitment ≡ commitment key parts.id → parts.tag ≡ header_tag (take parts.size bytes) only key parts.id → parts.content ≡ Single
-      → judged bytes settings answer ≡ opened_as (tabled_block settings.max_unit (derived key parts.id) parts.id (drop (parts.size + 16) bytes))
+      → Commits parts key → parts.tag ≡ tag_due bytes parts only key → parts.content ≡ Single
+      → judged bytes settings answer ≡ opened_as (tabled_block settings.max_unit (key_of parts key) parts.opening.id (drop (body_start_of parts) bytes))
 
 abbrev pub JudgesLineByLine : Type 0
 JudgesLineByLine = (bytes : List ℕ) (settings : Settings) (answer : Unlocking) → IsLineByLine bytes settings answer

@@ -1,5 +1,5 @@
 pub mod Message
 pub mod Judgement
 pub mod Reading
-pub mod Answers
 pub mod Laws
+pub mod Legacy

@@ -1,20 +1,23 @@
 -- The message that is written of a plaintext: header, authentication tag, framed body.
 -- Standard: AWS Encryption SDK Specification, "AWS Encryption SDK Message Format", version 2.0 with the committing suite 0x0478.
-use Rattle.std.specs.Prelude.{◌≡◌, ℕ, ◌+◌, ◌-◌, ◌*◌, ◌^◌, ◌<◌, ◌≤◌, true, List, [], ◌++◌, length, All, replicate}
+use Rattle.std.specs.Prelude.{◌≡◌, ℕ, ◌-◌, ◌*◌, ◌^◌, ◌<◌, ◌≤◌, true, List, [], ◌++◌, length, All, replicate}
 use Rattle.cipher_spec.specs.Gcm.{sealed}
 use Rattle.context_codec.specs.Context.{KeyValue, IsContext, ctx_text}
 use Rattle.edk_codec.specs.Entry.{Entry, IsEntry}
 use Rattle.header_codec.specs.Header.{latest_end}
-use Rattle.header_codec.specs.Written.{written_header, keys_end}
+use Rattle.header_codec.specs.Written.{committing, written_header, keys_end}
+use Rattle.suite_table.specs.declared.suite.Suite.{Suite}
+use Rattle.suite_table.specs.declared.suite.Suite.TheVariants.{Committing}
+use Rattle.suite_table.specs.Suites.{id_length}
 use Rattle.suite_table.specs.Keys.{derived, commitment}
 use Rattle.context_codec.specs.Parts.{holds, stored_of, only_of}
 use Rattle.frame_codec.specs.Unit.{Under}
 use Rattle.body_format.specs.Written.{framed_body}
 
--- "Authentication Tag": AES-256-GCM of the empty text under the derived key and twelve zero bytes. What is authenticated is the header body as it stands in the
--- message, and behind it the text of the pairs that the header doesn't store.
-unfoldable pub header_tag : List ℕ → List KeyValue → List ℕ → List ℕ → List ℕ
-header_tag raw only key id = (sealed (derived key id) (replicate 12 0) (raw ++ ctx_text only) []).1
+-- "Authentication Tag": AES-256-GCM of the empty text under the derived key of the suite and the header's initialization vector. What is authenticated is the
+-- header body as it stands in the message, and behind it the text of the pairs that the header doesn't store.
+unfoldable pub header_tag : Suite → List ℕ → List ℕ → List KeyValue → List ℕ → List ℕ → List ℕ
+header_tag suite iv raw only key id = (sealed (derived suite key id) iv (raw ++ ctx_text only) []).1
 
 -- the header body: it stores the pairs whose keys aren't required, and commits to the data key
 unfoldable pub header_body : List KeyValue → List (List ℕ) → ℕ → List ℕ → List Entry → List ℕ → List ℕ
@@ -22,14 +25,14 @@ header_body c required size key entries id = written_header id (stored_of requir
 
 -- what frames of this length stand under
 abbrev pub under : ℕ → List ℕ → List ℕ → Under
-under size key id = record { key = derived key id; id = id; frame = size }
+under size key id = record { key = derived Committing key id; id = id; frame = size }
 
 -- The message of a text: its context, the keys of it that are required of the reader, the frame length, the data key, the entries that hold this key wrapped, and the
 -- message id. The required pairs are authenticated with the header, and not stored.
 unfoldable pub message : List ℕ → List KeyValue → List (List ℕ) → ℕ → List ℕ → List Entry → List ℕ → List ℕ
 message text c required size key entries id =
     let raw = header_body c required size key entries id in
-    raw ++ header_tag raw (only_of required c) key id ++ framed_body (under size key id) text
+    raw ++ header_tag Committing (replicate 12 0) raw (only_of required c) key id ++ framed_body (under size key id) text
 
 -- What can be written: four bytes hold the frame length and each frame's number, the context has a text, what is required is in it, and the header's fields hold its parts.
 pub record IsWritable (text : List ℕ) (c : List KeyValue) (required : List (List ℕ)) (size : ℕ) (key : List ℕ) (entries : List Entry) (id : List ℕ) : Type 0 where
@@ -41,6 +44,6 @@ pub record IsWritable (text : List ℕ) (c : List KeyValue) (required : List (Li
   pub entries_some : 1 ≤ length entries
   pub entries_few : length entries ≤ 65535
   pub entries_are : All IsEntry entries
-  pub entries_end : keys_end id (stored_of required c) entries ≤ latest_end
+  pub entries_end : keys_end (committing id) (stored_of required c) entries ≤ latest_end
   pub key_long : length key ≡ 32
-  pub id_long : length id ≡ 32
+  pub id_long : length id ≡ id_length Committing

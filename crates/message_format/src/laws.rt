@@ -1,5 +1,6 @@
 //! Laws about messages. A law is a function that does nothing: its contract is what is proved.
 
+ghost use Rattle.message_format.specs.Legacy.{JudgesLegacyMessages, ForbidsLegacyMessages};
 ghost use Rattle.message_format.specs.Laws.{FaultsStay, UnitsStay, UnlockingStays, RefusesTrailingBytes, FrontsGoOn, OfJudged, OfRead, JudgesWhatIsWritten, ReleasesTheText, ReleasesWholeFrames, ReleasesTheFront, ReadsWhatIsWritten, ReadsWholeFrames, JudgesLineByLine};
 
 /// A written message is whole under every answer that has its data key and the pairs that it doesn't store, and what is released of it is its text.
@@ -48,6 +49,13 @@ pub fn trailing_bytes_are_refused()
 pub fn fronts_go_on()
     ensures judged { OfJudged FrontsGoOn }
     ensures read { OfRead FrontsGoOn }
+{}
+
+/// A message of version 1.0 is whole, where the reader allows that, under every answer that has its data key and the pairs that it doesn't store; where the
+/// reader doesn't, it is M23.
+pub fn legacy_messages_are_judged()
+    ensures whole { JudgesLegacyMessages }
+    ensures forbidden { ForbidsLegacyMessages }
 {}
 
 /// The judgement of any bytes line by line: the header's fault, the header that isn't whole, the answer's fault, M16, M17, and then the body's table.

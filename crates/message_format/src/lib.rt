@@ -3,20 +3,16 @@
 //!
 //! `specs/Message.antt` says what is written, `specs/Judgement.antt` how bytes are judged, `specs/Reading.antt` how a reader that holds wrapping keys
 //! judges them. `specs/Laws.antt` says it a second time, line by line, and what follows: a written message is whole and has its text, a fault stays when
-//! bytes follow, and what was released is never taken back. `judge` is the definition as a program, over all the bytes at once.
+//! bytes follow, and what was released is never taken back. The code is what writing and reading share: the header's tag, and what unlocks a header.
 #![tactic(auto)]
 
-mod answers;
 mod comparing;
-mod judgements;
 mod laws;
 mod locks;
 
-pub use answers::Answer;
-pub use judgements::{Judgement, judge};
 pub use laws::{
-    faults_stay, fronts_go_on, judgement_goes_line_by_line, released_units_stay,
-    trailing_bytes_are_refused, unlocking_stays, whole_frames_are_released,
+    faults_stay, fronts_go_on, judgement_goes_line_by_line, legacy_messages_are_judged,
+    released_units_stay, trailing_bytes_are_refused, unlocking_stays, whole_frames_are_released,
     written_messages_are_read, written_messages_are_whole,
 };
 pub use locks::{header_tag, lock_fault};
