@@ -25,7 +25,7 @@ use Rattle.stream_open.specs.Laws.{Event, Step, Finish, MayBeHeard, Meets, Meets
 
 -- ---- which answer is looked at
 
-same_answer : (r : Reading Head) (a : Unlocking) → SameAnswer r a a
+pub same_answer : (r : Reading Head) (a : Unlocking) → SameAnswer r a a
 same_answer (Read parts p) a = refl
 same_answer (Refused fault at) a = tt
 same_answer Wanting a = tt
@@ -46,7 +46,7 @@ pub same_judged : (b : List ℕ) (settings : Settings) (a later : Unlocking) →
 same_judged b settings a later same = same_by b settings a later (header settings (start b)) refl same
 
 -- a header is asked about only where no answer is kept
-asked_by : (b : Bool) (o : Option Unlocking) (settings : Settings) (bytes : List ℕ) (h : HeaderValue) → (if b then None else header_asked o settings bytes) ≡ Some h → o ≡ None
+pub asked_by : (b : Bool) (o : Option Unlocking) (settings : Settings) (bytes : List ℕ) (h : HeaderValue) → (if b then None else header_asked o settings bytes) ≡ Some h → o ≡ None
 asked_by true o settings bytes h e = absurd cc
 asked_by false None settings bytes h e = refl
 asked_by false (Some a) settings bytes h e = absurd cc
@@ -88,7 +88,7 @@ unread_by settings b more (Read parts p) e none =
 unread_by settings b more (Refused fault at) e none = refl
 unread_by settings b more Wanting e none = refl
 
-unread_front : (settings : Settings) (taken piece : List ℕ) (n : ℕ) → head settings (taken ++ piece) ≡ None → head settings (taken ++ take n piece) ≡ None
+pub unread_front : (settings : Settings) (taken piece : List ℕ) (n : ℕ) → head settings (taken ++ piece) ≡ None → head settings (taken ++ take n piece) ≡ None
 unread_front settings taken piece n none =
     let whole : taken ++ take n piece ++ drop n piece ≡ taken ++ piece = append_assoc taken (take n piece) (drop n piece) ∙ ap (λ (l : List ℕ). taken ++ l) (take-append-drop n piece) in
     unread_by settings (taken ++ take n piece) (drop n piece) (header settings (start (taken ++ take n piece))) refl (ap (head settings) whole ∙ none)
@@ -119,7 +119,7 @@ pub record IsKept (v : OpeningValue) (given : List ℕ) : Type 0 where
   pub unheard : v.answer ≡ None → head v.settings v.taken ≡ None
 
 -- no header is whole with the piece
-unasked : (b : Bool) (o : Option Unlocking) (settings : Settings) (bytes : List ℕ) → b ≡ false → o ≡ None → (if b then None else header_asked o settings bytes) ≡ None → head settings bytes ≡ None
+pub unasked : (b : Bool) (o : Option Unlocking) (settings : Settings) (bytes : List ℕ) → b ≡ false → o ≡ None → (if b then None else header_asked o settings bytes) ≡ None → head settings bytes ≡ None
 unasked true o settings bytes going none e = absurd cc
 unasked false (Some a) settings bytes going none e = absurd cc
 unasked false None settings bytes going none e = unmapped (head settings bytes) e
@@ -144,7 +144,7 @@ kept_on v w piece n given stopped answer kept same is unheard =
       unheard = unheard;
     }
 
-ok_kept : (v : OpeningValue) (given piece : List ℕ) (heard : Heard) (n : ℕ) → IsKept v given → MayBeHeard (asked_of v piece) (Ok n ≡ Err errors.Memory) heard → step_answer v piece heard ≡ Ok n
+pub ok_kept : (v : OpeningValue) (given piece : List ℕ) (heard : Heard) (n : ℕ) → IsKept v given → MayBeHeard (asked_of v piece) (Ok n ≡ Err errors.Memory) heard → step_answer v piece heard ≡ Ok n
     → IsKept (stepped v piece heard (Ok n)) (given ++ (stepped v piece heard (Ok n)).out)
 unfolding step_answer
 ok_kept v given piece Nothing n kept may is =
@@ -198,7 +198,7 @@ kept_all (e ∷ es) v given kept meets =
     subst (λ (l : List ℕ). IsKept (after_all es (after_event v e)) l) (append_assoc given (after_event v e).out (given_by es (after_event v e)))
     (kept_all es (after_event v e) (given ++ (after_event v e).out) (kept_event v given e kept meets.0) meets.1)
 
-kept_none : (settings : Settings) (given : List KeyValue) → IsKept (opened settings given) []
+pub kept_none : (settings : Settings) (given : List KeyValue) → IsKept (opened settings given) []
 unfolding header opening
 kept_none settings given =
     let is : judged [] settings (answer_kept None) ≡ _ = judged_wanting [] settings (answer_kept None) refl in

@@ -104,11 +104,11 @@ Clean (Refused fault at) = Unit {0}
 Clean Wanting = Unit {0}
 
 -- two readings that say the same
-record SaysSame (r s : Reading Piece) : Type 0 where
-  units : released r ≡ released s
-  verdict : verdict_of r ≡ verdict_of s
-  clean : Clean r → Clean s
-  more : is_more r ≡ is_more s
+pub record SaysSame (r s : Reading Piece) : Type 0 where
+  pub units : released r ≡ released s
+  pub verdict : verdict_of r ≡ verdict_of s
+  pub clean : Clean r → Clean s
+  pub more : is_more r ≡ is_more s
 
 says_by : (r s x y : Reading Piece) → r ≡ x → s ≡ y → SaysSame x y → SaysSame r s
 says_by r s x y e f same = subst (λ (t : Reading Piece). SaysSame t s) (sym e) (subst (λ (t : Reading Piece). SaysSame x t) (sym f) same)
@@ -152,7 +152,7 @@ says_head content max_unit key id want left at there (heads.Unit head) e =
       | inr long ↦ says_whole content max_unit key id want left at there head (opened_there key id head (drop head.size left)) reads long refl
     ]
 
-unit_says : (content : Content) (max_unit : Option ℕ) (key id : List ℕ) (want : ℕ) (left : List ℕ) (at there : ℕ)
+pub unit_says : (content : Content) (max_unit : Option ℕ) (key id : List ℕ) (want : ℕ) (left : List ℕ) (at there : ℕ)
     → SaysSame (unit content max_unit key id want (place at left)) (unit content max_unit key id want (place there left))
 unit_says content max_unit key id want left at there = says_head content max_unit key id want left at there (head_of content want max_unit left) refl
 
@@ -248,7 +248,7 @@ behind_wanting old new p more behind same number held waits =
     }
 
 -- where no byte of it came, the open unit wants more
-no_byte : (body : Body) → 1 ≤ body.number → open_unit body [] ≡ Wanting
+pub no_byte : (body : Body) → 1 ≤ body.number → open_unit body [] ≡ Wanting
 no_byte body some =
     let r = row_of body.content body.max_unit body.key body.message_id in
     let n : body.number ≡ body.number - 1 + 1 = omega arith in

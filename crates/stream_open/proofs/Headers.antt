@@ -35,7 +35,7 @@ pub data Front (whole front : Reading Head) : Type 0 where
   Same : (parts : Head) (p q : Place) → front ≡ Read parts p → whole ≡ Read parts q → q.at ≡ p.at → Front whole front
   SameFault : (fault : Fault) (at : ℕ) → front ≡ Refused fault at → whole ≡ Refused fault at → Front whole front
 
-front_whole : (taken piece : List ℕ) (k : ℕ) → taken ++ take k piece ++ drop k piece ≡ taken ++ piece
+pub front_whole : (taken piece : List ℕ) (k : ℕ) → taken ++ take k piece ++ drop k piece ≡ taken ++ piece
 front_whole taken piece k = append_assoc taken (take k piece) (drop k piece) ∙ ap (λ (l : List ℕ). taken ++ l) (take-append-drop k piece)
 
 front_by : (settings : Settings) (taken piece : List ℕ) (k : ℕ) (r : Reading Head) → header settings (start (taken ++ take k piece)) ≡ r
@@ -54,7 +54,7 @@ front_of settings taken piece k = front_by settings taken piece k (header settin
 -- ---- where a step ends
 
 -- while no header is whole there is no stop
-no_stop : (w : OpeningValue) (piece : List ℕ) (k : ℕ) → header w.settings (start w.taken) ≡ Wanting → header w.settings (start (w.taken ++ take k piece)) ≡ Wanting → is_stop w piece k ≡ false
+pub no_stop : (w : OpeningValue) (piece : List ℕ) (k : ℕ) → header w.settings (start w.taken) ≡ Wanting → header w.settings (start (w.taken ++ take k piece)) ≡ Wanting → is_stop w piece k ≡ false
 no_stop w piece k now later =
     ap (λ (j : Judged). is_faulty j.verdict || nat_lt (marks (judged_now w)) (marks j)) (judged_wanting (w.taken ++ take k piece) w.settings (answer_kept w.answer) later)
     ∙ ap (λ (j : Judged). is_faulty Going || nat_lt (marks j) (marks (locked Going))) (judged_wanting w.taken w.settings (answer_kept w.answer) now)
@@ -188,6 +188,13 @@ shown_asked v piece used h going unheard s =
     some_of : HeaderValue → Option HeaderValue
     some_of g = Some g
 
+-- so a header is asked about
+pub was_asked : (v : OpeningValue) (piece : List ℕ) (used : ℕ) (h : HeaderValue) → v.stopped ≡ false → v.answer ≡ None → Shown v piece used h → asked_of v piece ≡ None → ⊥
+was_asked v piece used h going unheard s none = some_none (sym (shown_asked v piece used h going unheard s) ∙ none)
+  where
+    some_none : Some h ≡ None → ⊥
+    some_none e = cc
+
 -- ---- an answer that unlocks nothing
 
 -- A front has no whole header, or it is this one, which is judged so.
@@ -259,6 +266,7 @@ failed_answer v piece going = ap (λ (b : Bool). if b then Err errors.Stopped el
 pub runs_out_locked : (v : OpeningValue) → v.stopped ≡ false → header v.settings (start v.taken) ≡ Wanting → MayRunOut v
 runs_out_locked v going now = record {
   going = going;
+  unended = ap (λ (j : Judged). j.verdict) (judged_wanting v.taken v.settings (answer_kept v.answer) now);
   unreserved = λ e. absurd (true_false (sym e ∙ ap (λ (j : Judged). j.unlocked) (judged_wanting v.taken v.settings (answer_kept v.answer) now)));
 }
 

@@ -12,3 +12,8 @@ pub mod Stepping
 pub mod Steps
 pub mod Headers
 pub mod HeaderSteps
+pub mod GoingOn
+pub mod FoundFaults
+pub mod Feeding
+pub mod Keeping
+pub mod Marks

@@ -21,7 +21,7 @@ use Rattle.stream_open.specs.Stands.{quiet, IsBodyOf, IsUnlocked, IsLocked, Stan
 -- ---- how the bytes taken are judged
 
 pub body_same : (body : Body) (v : OpeningValue) (h : HeaderValue) (key : List ℕ) (p : Place) → IsBodyOf body v h key
-    → judged_body h.content v.settings.max_unit (derived key h.message_id) h.message_id p ≡ judged_body body.content body.max_unit body.key body.message_id p
+    → judged_body h.content v.settings.max_unit (derived h.suite key h.message_id) h.message_id p ≡ judged_body body.content body.max_unit body.key body.message_id p
 body_same body v h key p is = rw (is.content, is.max_unit, is.derives, is.id) refl
 
 -- before the header is unlocked

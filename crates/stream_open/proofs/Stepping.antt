@@ -11,6 +11,8 @@ use Rattle.esdk_fields.proofs.Fronts.{value_stays, read_after, end_stays}
 use Rattle.header_codec.specs.Header.{HeaderValue}
 use Rattle.header_codec.specs.Table.{Head, header}
 use Rattle.header_codec.proofs.Order.{IsSequential-header}
+use Rattle.suite_table.specs.declared.suite.Suite.{Suite}
+use Rattle.suite_table.specs.Keys.{derived}
 use Rattle.keyring_trait.specs.Unlocking.{Unlocks}
 use Rattle.frame_codec.specs.Unit.{Piece, More, Last, unit}
 use Rattle.frame_codec.proofs.Order.{IsSequential-unit}
@@ -47,7 +49,7 @@ reading body piece n = open_unit body (body.unit.held ++ take n piece)
 abbrev opens_as : JudgedBody → Judged
 opens_as j = opened_as j
 
-judged_then : (u : Unlocked) (v : OpeningValue) (more : List ℕ) → (at : IsUnlocked u v)
+pub judged_then : (u : Unlocked) (v : OpeningValue) (more : List ℕ) → (at : IsUnlocked u v)
     → judged (v.taken ++ more) v.settings (answer_kept v.answer) ≡ opened_as (judged_body u.body.content u.body.max_unit u.body.key u.body.message_id (followed at.place more))
 judged_then u v more at =
     ap (λ (o : Option _). judged (v.taken ++ more) v.settings (answer_kept o)) at.answer
@@ -57,11 +59,11 @@ judged_then u v more at =
     ∙ judged_opened v.settings (header_of v.taken at.parts) (followed at.place more) u.whole u.only at.key at.opens
     ∙ ap opens_as (body_same u.body v (header_of v.taken at.parts) at.key (followed at.place more) at.body)
 
-with_said : (u : Unlocked) (v : OpeningValue) (piece : List ℕ) (n : ℕ) → (at : IsUnlocked u v) → IsBehind u.body at.place → Clean (reading u.body piece n)
+pub with_said : (u : Unlocked) (v : OpeningValue) (piece : List ℕ) (n : ℕ) → (at : IsUnlocked u v) → IsBehind u.body at.place → Clean (reading u.body piece n)
     → judged_with v piece n ≡ opened_as (said (behind_units u.body at.place) (reading u.body piece n))
 with_said u v piece n at behind clean = judged_then u v (take n piece) at ∙ ap opens_as (judged_on u.body at.place (take n piece) behind clean)
 
-now_said : (u : Unlocked) (v : OpeningValue) → (at : IsUnlocked u v) → IsBehind u.body at.place → judged_now v ≡ opened_as (said_as (behind_units u.body at.place) Going)
+pub now_said : (u : Unlocked) (v : OpeningValue) → (at : IsUnlocked u v) → IsBehind u.body at.place → judged_now v ≡ opened_as (said_as (behind_units u.body at.place) Going)
 now_said u v at behind = judged_unlocked u v at ∙ ap opens_as (judged_here u.body at.place behind)
 
 -- ---- where a step ends
@@ -111,7 +113,7 @@ first_reach body piece waits = reaches body piece (ap (open_unit body) (append-n
 pub clean_at : (body : Body) (piece : List ℕ) → open_unit body body.unit.held ≡ Wanting → Clean (reading body piece (unit_reach body piece))
 clean_at body piece waits = clean_by body piece (unit_reach body piece) (reading body piece (unit_reach body piece)) (first_reach body piece waits) waits refl
 
-reach_same : (u : Unlocked) (v : OpeningValue) (piece : List ℕ) → (at : IsUnlocked u v) → IsBehind u.body at.place → reach v piece ≡ unit_reach u.body piece
+pub reach_same : (u : Unlocked) (v : OpeningValue) (piece : List ℕ) → (at : IsUnlocked u v) → IsBehind u.body at.place → reach v piece ≡ unit_reach u.body piece
 unfolding reach
 reach_same u v piece at behind =
     let n : ℕ = unit_reach u.body piece in
@@ -150,7 +152,7 @@ in_unit u v piece at going unended =
     ∙ answer_same n (reading u.body piece n) clean
     ∙ sym (answer_at_reach u.body piece n (reading u.body piece n) unended (first_reach u.body piece behind.wanting) refl)
 
-whole_verdict : (u : Unlocked) (v : OpeningValue) → (at : IsUnlocked u v) → u.body.ended ≡ true → (judged_body u.body.content u.body.max_unit u.body.key u.body.message_id at.place).verdict ≡ Whole
+pub whole_verdict : (u : Unlocked) (v : OpeningValue) → (at : IsUnlocked u v) → u.body.ended ≡ true → (judged_body u.body.content u.body.max_unit u.body.key u.body.message_id at.place).verdict ≡ Whole
 whole_verdict u v at ended = at.behind.verdict ∙ ap (λ (b : Bool). if b then Whole else Going) ended
 
 behind_all : (u : Unlocked) (v : OpeningValue) (piece : List ℕ) → (at : IsUnlocked u v) → v.stopped ≡ false → u.body.ended ≡ true → step_answer v piece Nothing ≡ body_answer u.body piece
@@ -186,16 +188,17 @@ unframed : (b : Bool) → (b ≡ true → ⊥) → b ≡ false
 unframed true never = absurd (never refl)
 unframed false never = refl
 
-runs_out : (u : Unlocked) (v : OpeningValue) → IsUnlocked u v → v.stopped ≡ false → LacksRoom u.body → MayRunOut v
-runs_out u v at going lacks = record {
+runs_out : (u : Unlocked) (v : OpeningValue) → IsUnlocked u v → v.stopped ≡ false → u.body.ended ≡ false → LacksRoom u.body → MayRunOut v
+runs_out u v at going unended lacks = record {
   going = going;
+  unended = ap (λ (j : Judged). j.verdict) (judged_unlocked u v at) ∙ at.behind.verdict ∙ ap (λ (b : Bool). if b then Whole else Going) unended;
   unreserved = λ _. ap (λ (r : Reading Head). is_framed (value_of r)) at.reads ∙ unframed (framed at.parts.content) (λ e. lacks (at.body.reserved e));
 }
 
 pub answers_as : (u : Unlocked) (v : OpeningValue) (piece : List ℕ) (r : Result ℕ OpenError) → IsUnlocked u v → v.stopped ≡ false → AnswersBody u.body piece r → Answers v piece Nothing r
 answers_as u v piece (Ok n) at going e = same_by u v piece u.body.ended refl at going ∙ e
 answers_as u v piece (Err (errors.Fault fault)) at going e = same_by u v piece u.body.ended refl at going ∙ e
-answers_as u v piece (Err errors.Memory) at going (unended, lacks) = runs_out u v at going lacks
+answers_as u v piece (Err errors.Memory) at going (unended, lacks) = runs_out u v at going unended lacks
 answers_as u v piece (Err errors.KeyringFault) at going e = absurd e
 answers_as u v piece (Err errors.Stopped) at going e = absurd e
 
@@ -211,10 +214,10 @@ inside u v at going = λ unended. (at.behind.going going unended).wanting
 
 -- ---- where it stands then
 
-body_on : (old new : Body) (v w : OpeningValue) (h g : HeaderValue) (key : List ℕ) → SameBody old new → w.settings ≡ v.settings → g.message_id ≡ h.message_id → g.content ≡ h.content
+body_on : (old new : Body) (v w : OpeningValue) (h g : HeaderValue) (key : List ℕ) → SameBody old new → w.settings ≡ v.settings → g.suite ≡ h.suite → g.message_id ≡ h.message_id → g.content ≡ h.content
     → IsBodyOf old v h key → IsBodyOf new w g key
-body_on old new v w h g key same settings id content is = record {
-  derives = same.key ∙ is.derives ∙ ap (Rattle.suite_table.specs.Keys.derived key) (sym id);
+body_on old new v w h g key same settings suite id content is = record {
+  derives = same.key ∙ is.derives ∙ ap (λ (s : Suite). derived s key h.message_id) (sym suite) ∙ ap (derived g.suite key) (sym id);
   id = same.id ∙ is.id ∙ sym id;
   content = same.content ∙ is.content ∙ sym content;
   max_unit = same.max_unit ∙ is.max_unit ∙ ap (λ (s : Rattle.header_codec.specs.declared.settings.Settings.Settings). s.max_unit) (sym settings);
@@ -236,7 +239,7 @@ stands_stopped u v new at same kept = record {
   reads = at.reads;
   answer = at.answer;
   opens = at.opens;
-  body = body_on u.body new v (record v { stopped = true; out = [] }) (header_of v.taken at.parts) (header_of v.taken at.parts) at.key same refl refl refl at.body;
+  body = body_on u.body new v (record v { stopped = true; out = [] }) (header_of v.taken at.parts) (header_of v.taken at.parts) at.key same refl refl refl refl at.body;
   behind = record {
     verdict = ap (λ (j : JudgedBody). j.verdict) (judged_same u.body new at.place same) ∙ at.behind.verdict ∙ ap (λ (b : Bool). if b then Whole else Going) (sym kept);
     going = λ s e. absurd cc;
@@ -292,7 +295,7 @@ stands_with u v more out new at same behind = record {
   reads = value_stays (header v.settings) v.taken more at.parts at.place (IsSequential-header v.settings) at.reads;
   answer = at.answer;
   opens = ap (λ (h : HeaderValue). lock_fault h u.only at.key) (header_stays v.settings v.taken more at.parts at.place at.reads) ∙ at.opens;
-  body = body_on u.body new v (record v { taken = v.taken ++ more; out = out }) (header_of v.taken at.parts) (header_of (v.taken ++ more) at.parts) at.key same refl refl refl at.body;
+  body = body_on u.body new v (record v { taken = v.taken ++ more; out = out }) (header_of v.taken at.parts) (header_of (v.taken ++ more) at.parts) at.key same refl refl refl refl at.body;
   behind = behind;
 }
 

@@ -55,7 +55,7 @@ unstopped_at k Going e = cc
 unstopped_at k Whole e = cc
 unstopped_at k (Faulty fault) e = cc
 
-unstopped_on : (v : OpeningValue) (piece : List ℕ) (heard : Heard) → answer_on v piece heard ≡ Err errors.Stopped → ⊥
+pub unstopped_on : (v : OpeningValue) (piece : List ℕ) (heard : Heard) → answer_on v piece heard ≡ Err errors.Stopped → ⊥
 unstopped_on v piece Nothing e = unstopped_at (reach v piece) (judged_with v piece (reach v piece)).verdict e
 unstopped_on v piece (Found m) e = let w : OpeningValue = keeping v (Found m) in unstopped_at (reach w piece) (judged_with w piece (reach w piece)).verdict e
 unstopped_on v piece (Named fault) e = let w : OpeningValue = keeping v (Named fault) in unstopped_at (reach w piece) (judged_with w piece (reach w piece)).verdict e

@@ -71,7 +71,7 @@ wanting_steps old now piece n going is filled =
 
 -- ---- a unit whose last byte came
 
-whole_known : (head : UnitHead) (bytes : List ℕ) (o : Option (List ℕ)) → is_wanting (whole_reading head bytes o) ≡ false
+pub whole_known : (head : UnitHead) (bytes : List ℕ) (o : Option (List ℕ)) → is_wanting (whole_reading head bytes o) ≡ false
 whole_known head bytes (Some text) = refl
 whole_known head bytes None = refl
 

@@ -2,6 +2,7 @@
 use Rattle.std.specs.Prelude.{◌≡◌, ◌⊎◌, ℕ, List, [], ◌∷◌, ◌++◌, Option, Some, None}
 use Rattle.esdk_fields.specs.declared.faults.Fault.{Fault}
 use Rattle.context_codec.specs.Context.{KeyValue}
+use Rattle.suite_table.specs.Suites.{suite_id}
 use Rattle.header_codec.specs.Header.{HeaderValue}
 use Rattle.keyring_trait.specs.declared.journal.JournalLine.{JournalLine}
 use Rattle.keyring_trait.specs.declared.journal.Kind.TheVariants.{Unseal}
@@ -15,7 +16,7 @@ use Rattle.keyring_trait.specs.Wrapping.{WrapKeyValue}
 
 -- what is asked of a manager about this header, when the caller gives these pairs
 abbrev pub request_of : List KeyValue → HeaderValue → DecRequestValue
-request_of given h = record { suite = h.suite; stored = h.stored; given = given; entries = h.entries }
+request_of given h = record { suite = suite_id h.suite; stored = h.stored; given = given; entries = h.entries }
 
 -- What a manager may answer in one call: the materials that it finds, or why it finds none; and what it bears then of what it served.
 pub record Asking : Type 1 where

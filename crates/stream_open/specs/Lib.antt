@@ -1,7 +1,9 @@
 pub mod Answered
 pub mod Asking
 pub mod Body
+pub mod Feeding
 pub mod Laws
+pub mod OpenUnit
 pub mod Session
 pub mod Stands
 pub mod UnitBuffer

@@ -111,9 +111,10 @@ abbrev pub is_framed : Option Head → Bool
 is_framed None = false
 is_framed (Some parts) = framed parts.content
 
--- Memory may run out: the session goes on, and it isn't within the frames of a message that is unlocked.
+-- Memory may run out: the session goes on, more bytes are wanted, and it isn't within the frames of a message that is unlocked.
 pub record MayRunOut (v : OpeningValue) : Type 0 where
   pub going : v.stopped ≡ false
+  pub unended : (judged_now v).verdict ≡ Going
   pub unreserved : (judged_now v).unlocked ≡ true → is_framed (head v.settings v.taken) ≡ false
 
 -- that answer, or want of memory where that may be

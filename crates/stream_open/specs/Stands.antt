@@ -31,7 +31,7 @@ quiet (Some u) = Some (record u { body = record u.body { unit = record u.body.un
 
 -- a body has the fields of the header that was unlocked with this data key
 pub record IsBodyOf (body : Body) (v : OpeningValue) (h : HeaderValue) (key : List ℕ) : Type 0 where
-  pub derives : body.key ≡ derived key h.message_id
+  pub derives : body.key ≡ derived h.suite key h.message_id
   pub id : body.message_id ≡ h.message_id
   pub content : body.content ≡ h.content
   pub max_unit : body.max_unit ≡ v.settings.max_unit

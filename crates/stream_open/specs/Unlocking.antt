@@ -15,7 +15,7 @@ pub record IsBegun (u : Unlocked) (h : HeaderValue) (max_unit : Option ℕ) (m :
   pub opens : lock_fault h m.only m.key ≡ None
   pub whole : u.whole ≡ m.context
   pub only : u.only ≡ m.only
-  pub key : u.body.key ≡ derived m.key h.message_id
+  pub key : u.body.key ≡ derived h.suite m.key h.message_id
   pub id : u.body.message_id ≡ h.message_id
   pub content : u.body.content ≡ h.content
   pub limit : u.body.max_unit ≡ max_unit

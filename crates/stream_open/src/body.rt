@@ -11,6 +11,7 @@ ghost use Rattle.stream_open.specs.declared.errors.OpenError.TheVariants as erro
 ghost use Rattle.stream_open.specs.Session.{framed};
 
 use crate::errors::OpenError;
+use crate::message_id::MessageId;
 use crate::unit_buffer::UnitBuffer;
 use aes_core::Key256;
 use esdk_fields::{Content, Fault};
@@ -18,7 +19,7 @@ use frame_codec::{Head, UnitHead, UnitKind, judge_head};
 use header_codec::Header;
 use keyring_trait::DataKey;
 use std::alloc::{AllocError, Global};
-use suite_table::{Suite, derived};
+use suite_table::derived;
 
 /// How many bytes a final frame has beside its content; a regular one has fewer.
 const BESIDE_CONTENT: usize = 40;
@@ -30,7 +31,7 @@ const TAG: usize = 16;
 #[derive(Drop)]
 pub(crate) struct Body {
     pub(crate) key: Key256,
-    pub(crate) message_id: [u8; 32],
+    pub(crate) message_id: MessageId,
     pub(crate) content: Content,
     pub(crate) max_unit: Option<u64>,
     pub(crate) number: u32,
@@ -56,7 +57,7 @@ impl Body {
         max_unit: Option<u64>,
         key: &DataKey,
     ) -> Result<Body, AllocError>
-        ensures key { IfOk result (λ body. body.key ≡ derived key.now header.now.message_id) }
+        ensures key { IfOk result (λ body. body.key ≡ derived header.now.suite key.now header.now.message_id) }
         ensures id { IfOk result (λ body. body.message_id ≡ header.now.message_id) }
         ensures content { IfOk result (λ body. body.content ≡ header.now.content) }
         ensures max_unit { IfOk result (λ body. body.max_unit ≡ max_unit) }
@@ -65,11 +66,9 @@ impl Body {
     {
         let unit = UnitBuffer::new(alloc, reserved_for(header.content()))?;
         let id = header.message_id();
-        let mut message_id = [0; 32];
-        message_id.copy_from_slice(id);
         Ok(Body {
-            key: Key256::new(&derived(Suite::Committing, key.bytes(), id)),
-            message_id,
+            key: Key256::new(&derived(header.algorithm(), key.bytes(), id)),
+            message_id: MessageId::new(id),
             content: header.content(),
             max_unit,
             number: 1,
@@ -149,7 +148,7 @@ impl Body {
         ensures kept { OnErr result (self.new.ended ≡ self.old.ended) }
         ensures same { SameBody self.old self.new }
     {
-        if !self.unit.open(&self.key, &self.message_id, head) {
+        if !self.unit.open(&self.key, self.message_id.bytes(), head) {
             return Err(OpenError::Fault(Fault::UnitTag(head.number)));
         }
         match head.kind {

@@ -5,7 +5,7 @@ ghost use Rattle.std.specs.Option.{option_copied};
 ghost use Rattle.keyring_trait.specs.Manager.{ManagerGoes, TellsOn};
 ghost use Rattle.keyring_trait.specs.declared.journal.JournalLine.{JournalLine};
 ghost use Rattle.stream_open.specs.Asking.{asking_of};
-ghost use Rattle.stream_open.specs.Session.{OpeningValue, opened, judged_now, finish_answer, finished, whole_context, only_authenticated, is_end};
+ghost use Rattle.stream_open.specs.Session.{OpeningValue, opened, judged_now, asked_of, finish_answer, finished, whole_context, only_authenticated, is_end};
 ghost use Rattle.stream_open.specs.Stands.{Stands, Steps, quiet, unread_as};
 
 use crate::asking::materials_for;
@@ -56,12 +56,12 @@ impl Opener {
     }
 
     /// Takes bytes up to the end of the piece, of the header's tag or of a unit, whichever is first, and answers how many; at least one where the piece isn't empty. At the
-    /// end of the header's tag the manager is asked for the data key, at the moment `now`, in seconds. At the end of a unit `out` is its content.
+    /// end of the header's tag the manager is asked for the data key, at the moment `now`, in seconds; else it stays. At the end of a unit `out` is its content.
     ///
-    /// - `Fault`: the bytes taken, followed by the piece, have this fault, and no unit is released before it. M1 to M9 in the header, M11 to M15 where the manager
-    ///   doesn't unlock it, M16 or M17 where its key or the header's tag isn't right, M9 and M18 to M22 in the body.
+    /// - `Fault`: the bytes taken, followed by the piece, have this fault, and no unit is released before it. M1 to M9 and M23 to M26 in the header, M11 to M15 where the
+    ///   manager doesn't unlock it, M16 or M17 where its key or the header's tag isn't right, M9 and M18 to M22 in the body.
     /// - `KeyringFault`: a keyring failed when the manager was asked.
-    /// - `Memory`: memory ran out; never within the frames of a message that is unlocked.
+    /// - `Memory`: memory ran out, and no content was given yet: in the header, or in a single block that isn't whole.
     /// - `Stopped`: exactly where an earlier call answered an error.
     ///
     /// Any error leaves `out` empty and stops the opener.
@@ -81,6 +81,7 @@ impl Opener {
         ensures same { (M.meaning manager.old).plain ≡ true → TellsOn (M.tells manager.new) (M.tells manager.old) }
         ensures exact { M.exact manager.old → M.exact manager.new }
         ensures limits { (lines : List JournalLine) → M.within manager.new lines → M.within manager.old lines }
+        ensures unasked { (v : OpeningValue) → Stands self.old v → asked_of v piece.now ≡ None → manager.new ≡ manager.old }
     {
         // Where the manager isn't asked, it stays as it is: `wraps` says so of a steady one's count.
         let _wraps = manager.wraps();
@@ -130,6 +131,7 @@ impl Opener {
         ensures same { (M.meaning manager.old).plain ≡ true → TellsOn (M.tells manager.new) (M.tells manager.old) }
         ensures exact { M.exact manager.old → M.exact manager.new }
         ensures limits { (lines : List JournalLine) → M.within manager.new lines → M.within manager.old lines }
+        ensures unasked { (v : OpeningValue) → Stands self.old v → asked_of v piece.now ≡ None → manager.new ≡ manager.old }
     {
         self.stopped = true;
         let step = match self.reader.step(alloc, piece) {
@@ -171,6 +173,17 @@ impl Opener {
         match &self.unlocked {
             None => None,
             Some(unlocked) => Some(&unlocked.whole),
+        }
+    }
+
+    /// The whole context, once the header was unlocked, handed out. Takes no memory.
+    pub fn into_context(self) -> Option<Context>
+        ensures { (v : OpeningValue) → Stands self v → result ≡ whole_context v }
+    {
+        let Opener { unlocked, .. } = self;
+        match unlocked {
+            None => None,
+            Some(unlocked) => Some(unlocked.whole),
         }
     }
 

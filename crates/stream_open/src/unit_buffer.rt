@@ -103,7 +103,8 @@ impl UnitBuffer {
 
     /// Opens the unit, which is whole, where it lies: whether its tag is right. If it is, its content is given; if it isn't, nothing is.
     #[tactic(auto, unfolding(frame_codec::specs::Unit::opened_unit))]
-    pub(crate) fn open(&mut self, key: &Key256, message_id: &[u8; 32], head: &UnitHead) -> bool
+    pub(crate) fn open(&mut self, key: &Key256, message_id: &[u8], head: &UnitHead) -> bool
+        requires id { length message_id.now ≤ 32 }
         requires whole { length self.old.held ≡ head.now.size + head.now.length + 16 }
         requires short { head.now.length ≤ longest_block }
         ensures answer { opened_of key.now message_id.now head.now self.old.held ≡ (if result then Some self.new.out else None) }

@@ -168,7 +168,7 @@ kept_all (e ∷ es) v false given kept =
 
 -- ---- the message
 
-message_is : (v : SealingValue) (text : List ℕ) → message_of v.materials v.size v.id text ≡ beginning v ++ framed_body (under_of v) text
+pub message_is : (v : SealingValue) (text : List ℕ) → message_of v.materials v.size v.id text ≡ beginning v ++ framed_body (under_of v) text
 unfolding message start_of
 message_is v text = refl
 

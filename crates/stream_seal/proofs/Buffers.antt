@@ -45,6 +45,7 @@ pushed stage size bytes more capacity capacity' value fits held room grown =
     record {
       head = omega (arith, fits.head, length-append bytes more);
       short = omega (arith, ap length text, length-drop final_head_length (bytes ++ more), length-append bytes more, room, held.size_is, ap length held.text_is, length-drop final_head_length bytes, fits.head);
+      some = fits.some;
       narrow = fits.narrow;
       room = omega (arith, fits.room);
     }

@@ -5,3 +5,8 @@ pub mod Doing
 pub mod Standing
 pub mod AnyCut
 pub mod Refusing
+pub mod GivenFrames
+pub mod FeedingSteps
+pub mod Feeding
+pub mod FeedingAll
+pub mod FedSealers

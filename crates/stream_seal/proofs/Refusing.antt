@@ -135,7 +135,7 @@ which : (piece : List ℕ) (b : Bool) (x y : Doing) → (b ≡ true → TakesSom
 which piece true x y first second = first refl
 which piece false x y first second = second refl
 
-within_some : (declared : Option ℕ) (taken count : ℕ) → spent_of declared taken ≡ None → 1 ≤ count → 1 ≤ within_of declared taken count
+pub within_some : (declared : Option ℕ) (taken count : ℕ) → spent_of declared taken ≡ None → 1 ≤ count → 1 ≤ within_of declared taken count
 within_some None taken count unspent some = some
 within_some (Some whole) taken count unspent some = by_test (whole - taken == 0) refl unspent
   where

@@ -5,6 +5,7 @@ use Rattle.std.proofs.lemmas.List.{append-nil, length-append, length-drop, lengt
 use Rattle.frame_codec.specs.Unit.{Under}
 use Rattle.frame_codec.specs.UnitHead.{final_mark}
 use Rattle.frame_codec.specs.Written.{final_frame, regular_frame}
+use Rattle.suite_table.specs.declared.suite.Suite.TheVariants.{Committing}
 use Rattle.suite_table.specs.Keys.{derived}
 use Rattle.stream_seal.specs.declared.declared_length.Declared.{Declared}
 use Rattle.stream_seal.specs.declared.errors.SealError.{SealError}
@@ -132,7 +133,7 @@ under_with key id size = record { key = key; id = id; frame = size }
 
 under_is : (old : Sealer) (v : SealingValue) → Stands old v → under_with old.key old.message_id v.size ≡ under_of v
 under_is old v stands =
-    ap (λ (k : List ℕ). under_with k old.message_id v.size) stands.key ∙ ap (λ (i : List ℕ). under_with (derived v.materials.key v.id) i v.size) stands.id
+    ap (λ (k : List ℕ). under_with k old.message_id v.size) stands.key ∙ ap (λ (i : List ℕ). under_with (derived Committing v.materials.key v.id) i v.size) stands.id
 
 -- a frame that is sealed as these words say is the session's
 sealed_is : (old : Sealer) (v : SealingValue) (opened : FrameValue) (seal : Under → ℕ → List ℕ → List ℕ) → Stands old v → v.stopped ≡ false → opened ≡ record old.frame { out = [] }

@@ -31,9 +31,10 @@ out_in Open bytes = []
 out_in Regular bytes = drop (final_head_length - regular_head_length) bytes
 out_in Final bytes = bytes
 
--- The head has room before the content, the content has at most the frame length, and the whole frame fits into the memory that was reserved.
+-- The head has room before the content, the content has at most the frame length, which isn't 0, and the whole frame fits into the memory that was reserved.
 pub record FitsFrame (stage : Stage) (size : ℕ) (bytes : List ℕ) (capacity : ℕ) : Type 0 where
   pub head : final_head_length ≤ length bytes
   pub short : length (text_in stage bytes) ≤ size
+  pub some : 1 ≤ size
   pub narrow : size < 2 ^ 32
   pub room : final_head_length + size + tag_length ≤ capacity

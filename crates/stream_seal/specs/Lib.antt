@@ -1,4 +1,5 @@
 pub mod DeclaredLength
+pub mod Feeding
 pub mod FrameBuffer
 pub mod Laws
 pub mod Session

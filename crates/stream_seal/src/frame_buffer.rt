@@ -51,8 +51,9 @@ impl Model for FrameBuffer {
 }
 
 impl FrameBuffer {
-    /// A buffer for frames of so many bytes; none came yet. Fails only where memory runs out.
+    /// A buffer for frames of so many bytes, at least one; none came yet. Fails only where memory runs out.
     pub(crate) fn new(alloc: Global, size: u32) -> Result<FrameBuffer, AllocError>
+        requires some { 1 ≤ size }
         ensures { IfOk result (λ f. f ≡ record { size = size; text = []; out = [] }) }
     {
         let mut bytes = Vec::with_capacity(alloc, FINAL_HEAD + size as usize + TAG)?;
@@ -68,6 +69,7 @@ impl FrameBuffer {
     pub(crate) fn room(&self) -> usize
         ensures room { result ≡ self.now.size - length self.now.text }
         ensures short { length self.now.text ≤ self.now.size }
+        ensures some { 1 ≤ self.now.size }
     {
         match self.stage {
             Stage::Open => self.size as usize - (self.bytes.len() - FINAL_HEAD),

@@ -5,7 +5,8 @@
 //! Standard: AWS Encryption SDK Specification, "Encrypt" and message body, "Framed Data".
 //!
 //! `specs/Start.antt` says what a message begins with, `specs/Session.antt` what each call answers, gives and leaves, and `specs/Stands.antt` which sealer is at which
-//! point of a session. `specs/Laws.antt` says what follows: however the text is cut into pieces, what is given is the message of that text.
+//! point of a session. `specs/Laws.antt` says what follows: however the text is cut into pieces, what is given is the message of that text. `specs/Feeding.antt` says what
+//! comes of a piece that is fed to its end, by one step after another.
 #![tactic(auto)]
 
 mod declared_length;
@@ -16,5 +17,8 @@ mod session;
 mod start;
 
 pub use errors::SealError;
-pub use laws::{any_cut_gives_the_message, errors_come_exactly};
+pub use laws::{
+    any_cut_gives_the_message, errors_come_exactly, fed_pieces_give_the_message,
+    feeding_comes_to_its_end,
+};
 pub use session::Sealer;

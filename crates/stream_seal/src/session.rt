@@ -1,8 +1,8 @@
 //! A message that is sealed piece by piece.
 
-ghost use Rattle.std.specs.Prelude.{◌≡◌, ◌≤◌, length, None, IfErr, IfOk, OnOk};
+ghost use Rattle.std.specs.Prelude.{◌≡◌, ◌-◌, ◌<◌, ◌≤◌, length, None, IfErr, IfOk, OnOk};
 ghost use Rattle.stream_seal.specs.Session.{SealingValue, beginning, IsNotMemory, opened, step_answer, stepped, finish_answer, finished};
-ghost use Rattle.stream_seal.specs.Stands.{Stands};
+ghost use Rattle.stream_seal.specs.Stands.{Stands, work_of};
 ghost use Rattle.stream_seal.specs.Start.{BeginsNot, start_refusal};
 
 use crate::declared_length::{Declared, after, spent, whole_to_come, within};
@@ -83,13 +83,15 @@ impl Sealer {
     ///
     /// An empty piece uses and gives nothing. Otherwise: where all declared bytes were taken, it answers `OverDeclared` (Q10) with their number; where a full frame is
     /// held and has the number 4,294,967,295, it answers `TooManyFrames` (Q9); where another full frame is held, it gives it as a regular frame and uses nothing; else it
-    /// takes as many bytes as the frame, the declared length and the piece allow, at least one, and gives nothing.
+    /// takes as many bytes as the frame, the declared length and the piece allow, at least one, and gives nothing. So a loop that steps with what the last step left of a
+    /// piece ends.
     ///
     /// After an error, and after `finish`, it answers `Stopped`, and only then. Any error leaves `out` empty.
     pub fn step(&mut self, piece: &[u8]) -> Result<usize, SealError>
         ensures answer { (v : SealingValue) → Stands self.old v → result ≡ step_answer v piece.now }
         ensures stands { (v : SealingValue) → Stands self.old v → Stands self.new (stepped v piece.now) }
         ensures within { IfOk result (λ used. used ≤ length piece.now) }
+        ensures falls { IfOk result (λ used. 1 ≤ length piece.now → work_of self.new (length piece.now - used) < work_of self.old (length piece.now)) }
         ensures no_memory { IfErr result IsNotMemory }
     {
         self.frame.go_on();

@@ -1,8 +1,7 @@
 //! What a message begins with: its header and the header's tag.
 
-ghost use Rattle.std.specs.Prelude.{◌≡◌, ◌+◌, ◌≤◌, length, IfErr, IfOk, OnOk, None};
+ghost use Rattle.std.specs.Prelude.{◌≡◌, ◌^◌, ◌<◌, ◌≤◌, length, IfErr, IfOk, OnOk, None};
 ghost use Rattle.context_codec.specs.Insert.{RefusesAs};
-ghost use Rattle.header_codec.specs.Header.{latest_end};
 ghost use Rattle.message_format.specs.Message.{header_body};
 ghost use Rattle.stream_seal.specs.Start.{StartsNot, start_of, start_refusal};
 
@@ -13,7 +12,10 @@ use header_codec::write_header;
 use keyring_trait::EncMaterials;
 use message_format::header_tag;
 use std::alloc::Global;
-use suite_table::commitment;
+use suite_table::{Suite, commitment};
+
+/// The initialization vector of the header's tag under the suite of the messages that are written.
+const HEADER_IV: [u8; 12] = [0; 12];
 
 /// The header of a message with these materials, and its tag. The header stores the pairs whose keys aren't required; the tag authenticates the others too.
 /// Q7 `TooManyDataKeys`, where there are more entries than the limit; Q8 `HeaderTooLong`, where the header would be too long.
@@ -32,7 +34,15 @@ pub(crate) fn message_start(
 {
     let mut start = body_of_header(alloc, materials, frame_length, max_keys, message_id)?;
     let only = materials.context().only(alloc, materials.required())?;
-    let tag = header_tag(alloc, start.bytes(), &only, materials.key(), message_id)?;
+    let tag = header_tag(
+        alloc,
+        Suite::Committing,
+        &HEADER_IV,
+        start.bytes(),
+        &only,
+        materials.key(),
+        message_id,
+    )?;
     start.push_all(&tag)?;
     Ok(start)
 }
@@ -48,7 +58,7 @@ fn body_of_header(
 ) -> Result<Blob, PairError>
     requires some { 1 ≤ frame_length }
     ensures body { IfOk result (λ body. body ≡ header_body materials.now.context materials.now.required frame_length materials.now.key materials.now.entries message_id.now) }
-    ensures short { IfOk result (λ body. length body ≤ latest_end + 37) }
+    ensures short { IfOk result (λ body. length body < 2 ^ 25) }
     ensures taken { OnOk result (start_refusal materials.now max_keys message_id.now ≡ None) }
     ensures cause { IfErr result (λ e. RefusesAs e (start_refusal materials.now max_keys message_id.now)) }
 {

@@ -10,7 +10,7 @@ use Rattle.stream_open.specs.declared.session.Opener.{Opener}
 use Rattle.stream_open.specs.Answered.{Answered, Unanswered}
 use Rattle.stream_open.specs.Asking.{Asking, asking_of, request_of}
 use Rattle.stream_open.specs.Stands.{Steps}
-use Rattle.stream_open.proofs.Headers.{Shown, shown, not_shown, used_within}
+use Rattle.stream_open.proofs.Headers.{Shown, shown, was_asked, not_shown, used_within}
 use Rattle.stream_open.proofs.HeaderSteps.{locked_at, steps_unread, steps_waiting, steps_unanswered, steps_not_unlocked, steps_opened, steps_failed}
 use Rattle.stream_open.proofs.session.Opener.step_header.Goals as goal
 
@@ -121,3 +121,39 @@ returns-clause-within g c = λ v stands.
     let going : v.stopped ≡ false = sym stands.stopped ∙ c.requires.going in
     let lock = locked_at c.args.self.now v c.requires.locked stands in
     used_within v.taken c.args.piece.now v.settings c.in-Ok.step (c.in-Ok.ensures.answer (record { settings = v.settings; taken = v.taken; stopped = false }) (lock.reads going))
+
+pub returns-in_err-materials-clause-unasked : goal.returns-in_err-materials-clause-unasked
+returns-in_err-materials-clause-unasked g c = λ v stands none.
+    let going : v.stopped ≡ false = sym stands.stopped ∙ c.requires.going in
+    let lock = locked_at c.args.self.now v c.requires.locked stands in
+    let piece : List ℕ = c.args.piece.now in
+    let before : Session = record { settings = v.settings; taken = v.taken; stopped = false } in
+    let used : ℕ = c.in-Ok.step.used in
+    let after : Session = record { settings = v.settings; taken = v.taken ++ take used piece; stopped = false } in
+    let reads : Reads c.step.new.self after = c.in-Ok.ensures.stands before (lock.reads going) in
+    let h : HeaderValue = c.in-Some.header.now in
+    absurd (was_asked v piece used h going (lock.unheard going) (shown v piece used h (c.in-Some.ensures after reads)) none)
+
+pub returns-in_err-unlocked_by-clause-unasked : goal.returns-in_err-unlocked_by-clause-unasked
+returns-in_err-unlocked_by-clause-unasked g c = λ v stands none.
+    let going : v.stopped ≡ false = sym stands.stopped ∙ c.requires.going in
+    let lock = locked_at c.args.self.now v c.requires.locked stands in
+    let piece : List ℕ = c.args.piece.now in
+    let before : Session = record { settings = v.settings; taken = v.taken; stopped = false } in
+    let used : ℕ = c.in-Ok.step.used in
+    let after : Session = record { settings = v.settings; taken = v.taken ++ take used piece; stopped = false } in
+    let reads : Reads c.step.new.self after = c.in-Ok.ensures.stands before (lock.reads going) in
+    let h : HeaderValue = c.in-Some.header.now in
+    absurd (was_asked v piece used h going (lock.unheard going) (shown v piece used h (c.in-Some.ensures after reads)) none)
+
+pub returns-clause-unasked : goal.returns-clause-unasked
+returns-clause-unasked g c = λ v stands none.
+    let going : v.stopped ≡ false = sym stands.stopped ∙ c.requires.going in
+    let lock = locked_at c.args.self.now v c.requires.locked stands in
+    let piece : List ℕ = c.args.piece.now in
+    let before : Session = record { settings = v.settings; taken = v.taken; stopped = false } in
+    let used : ℕ = c.in-Ok.step.used in
+    let after : Session = record { settings = v.settings; taken = v.taken ++ take used piece; stopped = false } in
+    let reads : Reads c.step.new.self after = c.in-Ok.ensures.stands before (lock.reads going) in
+    let h : HeaderValue = c.in-Some.header.now in
+    absurd (was_asked v piece used h going (lock.unheard going) (shown v piece used h (c.in-Some.ensures after reads)) none)

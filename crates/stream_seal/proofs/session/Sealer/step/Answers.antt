@@ -1,7 +1,9 @@
-use Rattle.std.proofs.Common.{◌≡◌, ℕ, min, length, Ok, refl, sym, ap, ◌∙◌, arith}
+use Rattle.std.proofs.Common.{◌≡◌, ℕ, ◌≤◌, min, length, Ok, refl, sym, ap, subst, ◌∙◌, arith}
 use Rattle.std.proofs.lemmas.Bool.{eqb-true, eqb-false}
 use Rattle.stream_seal.proofs.Doing.{doing_stopped, doing_empty, doing_spent, doing_takes, doing_last, doing_gives}
+use Rattle.stream_seal.proofs.FedSealers.{gives_less, some_within, takes_less}
 use Rattle.stream_seal.proofs.Standing.{answers, spent_now, stands_after, stands_stopped, stands_empty, stands_takes, stands_gives, goes_on, room_is, used_is, next_some, next_none}
+use Rattle.stream_seal.specs.FrameBuffer.{FrameValue}
 use Rattle.stream_seal.specs.Session.{Takes, held, within_of}
 use Rattle.stream_seal.proofs.session.Sealer.step.Goals as goal
 
@@ -23,6 +25,9 @@ returns-then-is_empty-clause-stands c = λ v stands.
     stands_after _ v c.args.piece.now _
     (doing_empty v c.args.piece.now (sym stands.stopped ∙ c.if-self.false) (eqb-true (length c.args.piece.now) 0 (sym c.is_empty.ensures ∙ c.if-is_empty.true)))
     (stands_empty c.args.self.now v c.go_on.new.self c.args.piece.now stands c.go_on.ensures)
+
+pub returns-then-is_empty-clause-falls : goal.returns-then-is_empty-clause-falls
+returns-then-is_empty-clause-falls c = λ some. absurd (omega (arith, some, eqb-true (length c.args.piece.now) 0 (sym c.is_empty.ensures ∙ c.if-is_empty.true)))
 
 pub returns-in-Some-clause-answer : goal.returns-in-Some-clause-answer
 returns-in-Some-clause-answer c = λ v stands.
@@ -54,6 +59,22 @@ returns-then-room-gt0-clause-stands c = λ v stands.
     stands_after _ v c.args.piece.now (Takes c.within-used.result) (does ∙ ap (λ (n : ℕ). Takes n) (sym used))
     (stands_takes c.args.self.now v c.go_on.new.self c.push.new.self c.after-self.result c.args.piece.now c.within-used.result stands goes.on
     (omega (arith, c.within-used.ensures.most, c.min.ensures)) c.go_on.ensures c.push.ensures c.after-self.ensures)
+
+pub returns-then-room-gt0-clause-falls : goal.returns-then-room-gt0-clause-falls
+returns-then-room-gt0-clause-falls c = λ some.
+    takes_less c.args.self.now.frame c.push.new.self (length c.args.piece.now) c.within-used.result
+    (subst (λ (n : ℕ). 1 ≤ n) (sym c.within-used.ensures.count)
+    (some_within c.args.self.now.declared c.min.result (sym c.spent.ensures ∙ c.in_default.is) (omega (arith, c.min.ensures, c.if-room-gt0.true, some))))
+    (omega (arith, c.within-used.ensures.most, c.min.ensures))
+
+pub returns-in-Some-number_after-clause-falls : goal.returns-in-Some-number_after-clause-falls
+returns-in-Some-number_after-clause-falls c = λ some.
+    let quiet = ap (λ (f : FrameValue). f.size) c.go_on.ensures in
+    let text = ap (λ (f : FrameValue). length f.text) c.go_on.ensures in
+    gives_less c.args.self.now.frame c.seal_regular.new.self (length c.args.piece.now)
+    (omega (arith, ap (λ (f : FrameValue). f.size) (c.seal_regular.ensures 0), c.room-room.ensures.some))
+    (omega (arith, quiet, text, c.room-room.ensures.room, c.room-room.ensures.short, c.if-room-gt0.false))
+    (ap (λ (f : FrameValue). f.text) (c.seal_regular.ensures 0))
 
 pub returns-in-Some-number_after-clause-answer : goal.returns-in-Some-number_after-clause-answer
 returns-in-Some-number_after-clause-answer c = λ v stands.

@@ -1,0 +1,80 @@
+-- A sealer that is fed a piece to its end, step by step.
+use Rattle.std.proofs.Common.{◌≡◌, ℕ, ◌+◌, ◌-◌, ◌*◌, ◌<◌, ◌≤◌, List, [], ◌++◌, length, drop, Bool, true, false, ◌==◌, if◌then◌else◌, Option, Some, None, Result, Ok, Err, refl, sym, ap, subst, ◌∙◌, arith}
+use Rattle.std.proofs.lemmas.Bool.{eq-eqb, ne_eqb, eqb-false}
+use Rattle.stream_seal.specs.declared.declared_length.Declared.{Declared}
+use Rattle.stream_seal.specs.declared.errors.SealError.{SealError}
+use Rattle.stream_seal.specs.declared.errors.SealError.TheVariants as errors
+use Rattle.stream_seal.specs.declared.session.Sealer.{Sealer}
+use Rattle.stream_seal.specs.DeclaredLength.{spent, within}
+use Rattle.stream_seal.specs.Feeding.{IsFed, IsOnTheWay, StepFeeds}
+use Rattle.stream_seal.specs.FrameBuffer.{FrameValue}
+use Rattle.stream_seal.specs.Session.{SealingValue, step_answer, stepped}
+use Rattle.stream_seal.specs.Stands.{Stands, FeedsStill, FeedsNoMore, FeedFails}
+use Rattle.stream_seal.proofs.Feeding.{arrives, fails, feeds, goes_on}
+use Rattle.stream_seal.proofs.FeedingSteps.{step_feeds}
+
+-- ---- a loop of steps
+
+-- what `step` says of a sealer before and after it
+pub record Stepped (old new : Sealer) (rest : List ℕ) (answer : Result ℕ SealError) : Type 0 where
+  pub answers : (v : SealingValue) → Stands old v → answer ≡ step_answer v rest
+  pub stands : (v : SealingValue) → Stands old v → Stands new (stepped v rest)
+
+pub still_begins : (v : SealingValue) (piece : List ℕ) (sealer : Sealer) → Stands sealer v → IsFed v → FeedsStill v piece sealer piece []
+still_begins v piece sealer stands is = record { now = v; stands = stands; way = (feeds v piece is).begins }
+
+pub still_goes : (v : SealingValue) (piece : List ℕ) (old new : Sealer) (rest given out : List ℕ) (answer : Result ℕ SealError) (used : ℕ) → FeedsStill v piece old rest given → 1 ≤ length rest
+    → Stepped old new rest answer → ((w : SealingValue) → Stands new w → out ≡ w.out) → answer ≡ Ok used → FeedsStill v piece new (drop used rest) (given ++ out)
+still_goes v piece old new rest given out answer used still some step gave is =
+    let next : SealingValue = stepped still.now rest in
+    let stands : Stands new next = step.stands still.now still.stands in
+    record {
+      now = next;
+      stands = stands;
+      way = subst (λ (l : List ℕ). IsOnTheWay v piece next (drop used rest) (given ++ l)) (sym (gave next stands))
+          (goes_on v piece still.now rest given used still.way some (sym (step.answers still.now still.stands) ∙ is));
+    }
+
+pub still_arrives : (v : SealingValue) (piece : List ℕ) (sealer : Sealer) (given : List ℕ) → FeedsStill v piece sealer [] given → FeedsNoMore v piece sealer given None
+still_arrives v piece sealer given still =
+    let end = arrives v piece still.now given still.way in
+    record { stands = subst (λ (w : SealingValue). Stands sealer w) end.end still.stands; why = end.why; out = end.out }
+
+pub still_fails : (v : SealingValue) (piece : List ℕ) (old new : Sealer) (rest given : List ℕ) (answer : Result ℕ SealError) (error : SealError) → FeedsStill v piece old rest given
+    → 1 ≤ length rest → Stepped old new rest answer → answer ≡ Err error → FeedFails v piece new given error
+still_fails v piece old new rest given answer (errors.Refusal refusal) still some step is =
+    let end = fails v piece still.now rest given refusal still.way some (sym (step.answers still.now still.stands) ∙ is) in
+    record { stands = subst (λ (w : SealingValue). Stands new w) end.end (step.stands still.now still.stands); why = end.why; out = end.out }
+still_fails v piece old new rest given answer errors.Stopped still some step is =
+    subst (λ (r : Result ℕ SealError). StepFeeds still.now rest (stepped still.now rest) r) (sym (step.answers still.now still.stands) ∙ is) (step_feeds still.now rest still.way.feeding some)
+still_fails v piece old new rest given answer errors.Memory still some step is =
+    subst (λ (r : Result ℕ SealError). StepFeeds still.now rest (stepped still.now rest) r) (sym (step.answers still.now still.stands) ∙ is) (step_feeds still.now rest still.way.feeding some)
+
+-- ---- it ends
+
+abbrev work : FrameValue → ℕ → ℕ
+work frame count = 2 * count + (if length frame.text == frame.size then 1 else 0)
+
+at_most : (b : Bool) → (if b then 1 else 0) ≤ 1
+at_most true = omega arith
+at_most false = omega arith
+
+-- some bytes were taken
+pub takes_less : (old new : FrameValue) (count used : ℕ) → 1 ≤ used → used ≤ count → work new (count - used) < work old count
+takes_less old new count used some few = omega (arith, at_most (length new.text == new.size))
+
+-- a full frame was given
+pub gives_less : (old new : FrameValue) (count : ℕ) → 1 ≤ new.size → length old.text ≡ old.size → new.text ≡ [] → work new (count - 0) < work old count
+gives_less old new count some full none =
+    let before : (length old.text == old.size) ≡ true = eq-eqb (length old.text) old.size full in
+    let now : (length new.text == new.size) ≡ false = ne_eqb (length new.text) new.size (λ e. omega (arith, e, ap length none)) in
+    rw (before, now) (omega arith)
+
+-- while not all declared bytes came, some of some can be taken
+pub some_within : (declared : Option Declared) (count : ℕ) → spent declared ≡ None → 1 ≤ count → 1 ≤ within declared count
+some_within None count unspent some = some
+some_within (Some d) count unspent some = by_test (d.left == 0) refl unspent
+  where
+    by_test : (b : Bool) → (d.left == 0) ≡ b → (if b then Some d.whole else None) ≡ None → 1 ≤ within (Some d) count
+    by_test true none is = absurd (cc)
+    by_test false more is = let left = eqb-false d.left 0 more in omega (arith, left)
