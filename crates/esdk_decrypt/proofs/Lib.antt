@@ -1,5 +1,10 @@
+mod Keeping
 mod Answering
-mod Putting
+mod Asking
+mod Stepping
+mod Running
+mod Pieces
+mod Concluding
 pub mod Told
 pub mod Readers
 pub mod WholeInputs

@@ -1,5 +1,5 @@
 -- What a manager answers that is exact, tells its wrapping keys and doesn't fail is what a reader with these keys answers.
-use Rattle.std.proofs.Common.{◌≡◌, ℕ, List, Option, Some, None, Result, Ok, Err, IfOk, ap, ◌∙◌, inl, inr, arith}
+use Rattle.std.proofs.Common.{◌≡◌, ℕ, List, Option, Some, None, Result, Ok, Err, IfOk, ap, ◌∙◌, arith}
 use Rattle.std.specs.Prelude.{IfErr}
 use Rattle.esdk_fields.specs.Counts.{Stayed}
 use Rattle.esdk_fields.specs.declared.faults.Fault.{Fault}
@@ -157,8 +157,20 @@ ends_allowed from to settings given input taken output put unwritten (errors.Out
 ends_allowed from to settings given input taken output put unwritten (errors.Outside outsides.InputTooLong) allows long =
     record { bytes = long.bytes; answer = long.answer; releases = releases_allowed allows long.releases; sound = long.sound; most = long.most }
 ends_allowed from to settings given input taken output put unwritten (errors.Outside other) allows none = none
-ends_allowed from to settings given input taken output put unwritten errors.Memory allows (inl lost) = inl lost
-ends_allowed from to settings given input taken output put unwritten errors.Memory allows (inr front) = inr (front_allowed allows front)
+ends_allowed from to settings given input taken output put unwritten errors.Memory allows (none, same) = (
+  record {
+    before = none.before;
+    last = none.last;
+    came = none.came;
+    few = none.few;
+    lacks = record {
+      answer = none.lacks.answer;
+      answered = answered_allowed from to settings given none.before none.lacks.answer allows none.lacks.answered;
+      unreserved = none.lacks.unreserved;
+    };
+  },
+  same,
+)
 
 -- ---- results
 

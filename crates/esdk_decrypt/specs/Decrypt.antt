@@ -1,5 +1,5 @@
 -- What decrypting an input comes to. Standard: AWS Encryption SDK Specification, "Decrypt".
-use Rattle.std.specs.Prelude.{◌≡◌, ◌⊎◌, ℕ, List, ⊤, Option, Some, None, Result, Ok, Err}
+use Rattle.std.specs.Prelude.{◌≡◌, ◌⊎◌, ℕ, ◌≤◌, List, ◌++◌, length, true, false, Option, Some, None}
 use Rattle.std.specs.Io.KnownBytes.{Appends}
 use Rattle.esdk_fields.specs.Counts.{Rose}
 use Rattle.esdk_base.specs.Sink.{AppendsFront}
@@ -8,13 +8,10 @@ use Rattle.esdk_fields.specs.declared.faults.Fault.{Fault}
 use Rattle.esdk_fields.specs.declared.faults.Fault.TheVariants.{Truncated}
 use Rattle.esdk_fields.specs.declared.refusals.Outside.{Outside}
 use Rattle.esdk_fields.specs.declared.refusals.Outside.TheVariants as outsides
-use Rattle.esdk_fields.specs.declared.stops.Stop.{Stop}
-use Rattle.esdk_fields.specs.declared.stops.Stop.TheVariants as stops
 use Rattle.esdk_fields.specs.Place.{start}
 use Rattle.esdk_fields.specs.Reading.{Reading, Read, Refused, Wanting}
 use Rattle.header_codec.specs.declared.settings.Settings.{Settings}
-use Rattle.header_codec.specs.Header.{HeaderValue}
-use Rattle.header_codec.specs.Table.{Head, header}
+use Rattle.header_codec.specs.Table.{Head, head, header}
 use Rattle.context_codec.specs.Context.{KeyValue}
 use Rattle.keyring_trait.specs.declared.manager_errors.ManagerError.{ManagerError}
 use Rattle.keyring_trait.specs.declared.manager_errors.ManagerError.TheVariants as managers
@@ -27,17 +24,14 @@ use Rattle.keyring_trait.specs.Wrapping.{WrapKeyValue}
 use Rattle.body_format.specs.declared.verdicts.Verdict.{Verdict}
 use Rattle.body_format.specs.declared.verdicts.Verdict.TheVariants as verdicts
 use Rattle.message_format.specs.Judgement.{content, header_of, judged}
-use Rattle.whole_input.specs.declared.taken.End.{End}
-use Rattle.whole_input.specs.declared.taken.End.TheVariants as ends
+use Rattle.stream_open.specs.Asking.{request_of}
+use Rattle.stream_open.specs.Session.{is_framed}
+use Rattle.whole_input.specs.Pieces.{most_piece}
 use Rattle.whole_input.specs.Taken.{Came, EndSeen, MostTaken}
 use Rattle.esdk_decrypt.specs.declared.errors.DecryptError.{DecryptError}
 use Rattle.esdk_decrypt.specs.declared.errors.DecryptError.TheVariants as errors
 
 -- ---- what a manager answers to a header
-
--- what is asked of a manager about this header, when the caller gives these pairs
-abbrev pub request_of : List KeyValue → HeaderValue → DecRequestValue
-request_of given h = record { suite = h.suite; stored = h.stored; given = given; entries = h.entries }
 
 -- What a manager may answer: the materials that it finds, or why it finds none.
 pub record Answering : Type 1 where
@@ -97,6 +91,10 @@ pub record Asked : Type 1 where
   pub settings : Settings
   pub given : List KeyValue
 
+-- the run that began when the manager was so, and has come to where it is so now
+abbrev pub asked_from : ManagerMeaning → ManagerMeaning → (List WrapKeyValue → Type 0) → Type 0 → (DecRequestValue → ℕ → DecMaterialsValue → Type 0) → ℕ → Settings → List KeyValue → Asked
+asked_from old new tells exact found now settings given = record { manager = answering_of old new tells exact found now; settings = settings; given = given }
+
 -- These bytes were taken, the manager answered so to their header, and the output gained what their judgement releases then.
 pub record Releases (asked : Asked) (input taken : SourceState) (output put : SinkState) (bytes : List ℕ) (answer : Unlocking) : Type 0 where
   pub came : Came input taken bytes
@@ -150,10 +148,19 @@ pub record ManagerFails (asked : Asked) (input taken : SourceState) : Type 0 whe
   pub came : Came input taken bytes
   pub failed : FailsTo asked.manager asked.settings asked.given bytes
 
--- Bytes were taken, and memory ran out before anything was written.
-pub record HasNoMemory (input taken : SourceState) : Type 0 where
-  pub bytes : List ℕ
-  pub came : Came input taken bytes
+-- The manager answered so to the header of these bytes, and they don't reach behind the unlocked header of a framed message, from where on no memory is taken.
+pub record MayLackMemory (asked : Asked) (bytes : List ℕ) : Type 0 where
+  pub answer : Unlocking
+  pub answered : AnswersTo asked.manager asked.settings asked.given bytes answer
+  pub unreserved : (judged bytes asked.settings answer).unlocked ≡ true → is_framed (head asked.settings bytes) ≡ false
+
+-- These bytes were taken, the last of them by the last read, and memory may run out behind those before.
+pub record HasNoMemory (asked : Asked) (input taken : SourceState) : Type 0 where
+  pub before : List ℕ
+  pub last : List ℕ
+  pub came : Came input taken (before ++ last)
+  pub few : length last ≤ most_piece
+  pub lacks : MayLackMemory asked before
 
 -- Why an outside object ended the run, and what it left; `unwritten` says that the output is as before.
 abbrev pub FailsOutside : Asked → SourceState → SourceState → SinkState → SinkState → Type 0 → Outside → Type 0
@@ -163,40 +170,12 @@ FailsOutside asked input taken output put unwritten outsides.KeyringFault = Mana
 FailsOutside asked input taken output put unwritten outsides.InputTooLong = IsTooLong asked input taken output put
 FailsOutside asked input taken output put unwritten outside = ⊥
 
--- Why an input wasn't decrypted, and what that left. Want of memory is free.
+-- Why an input wasn't decrypted, and what that left. Where memory ran out nothing was written.
 abbrev pub EndsSo : Asked → SourceState → SourceState → SinkState → SinkState → Type 0 → DecryptError → Type 0
 EndsSo asked input taken output put unwritten (errors.Fault fault) = HasFault asked input taken output put fault
 EndsSo asked input taken output put unwritten (errors.Outside outside) = FailsOutside asked input taken output put unwritten outside
-EndsSo asked input taken output put unwritten errors.Memory = (HasNoMemory input taken × unwritten) ⊎ ReleasesFront asked input taken output put
-
--- ---- the steps of a run
-
--- the answer where the search for a header stopped so
-abbrev pub StandsFor : Stop → Unlocking → Type 0
-StandsFor (stops.Fault fault at) answer = answer ≡ Refuses fault
-StandsFor stops.Wanting answer = answer ≡ Refuses Truncated
-StandsFor stops.Memory answer = ⊥
-
--- why there is no answer: the manager failed, or memory ran out
-abbrev pub NoAnswer : Type 0 → DecryptError → Type 0
-NoAnswer failed (errors.Outside outsides.KeyringFault) = failed
-NoAnswer failed errors.Memory = ⊤
-NoAnswer failed error = ⊥
-
--- the answer has a data key
-abbrev pub HasKey : Unlocking → Type 0
-HasKey (Unlocks whole only key) = ⊤
-HasKey (Refuses fault) = ⊥
+EndsSo asked input taken output put unwritten errors.Memory = HasNoMemory asked input taken × unwritten
 
 -- the answer has this whole context
 abbrev pub HasContext : Unlocking → List KeyValue → Type 0
 HasContext answer context = (only : List KeyValue) × (key : List ℕ) × (answer ≡ Unlocks context only key)
-
--- how a run ends whose input was judged so and ended so
-abbrev pub Concludes : {T : Type 0} → Verdict → End → Result T DecryptError → Type 0
-Concludes verdict end (Ok done) = (verdict ≡ verdicts.Whole) × (end ≡ ends.Seen)
-Concludes verdict end (Err (errors.Fault fault)) =
-    (fault_of verdict ≡ Some fault) ⊎ ((end ≡ ends.Seen) × (fault_at_end verdict ≡ Some fault))
-Concludes verdict end (Err (errors.Outside outsides.SourceFault)) = (fault_of verdict ≡ None) × (end ≡ ends.Failed)
-Concludes verdict end (Err (errors.Outside outsides.InputTooLong)) = (fault_of verdict ≡ None) × (end ≡ ends.TooLong)
-Concludes verdict end (Err error) = ⊥

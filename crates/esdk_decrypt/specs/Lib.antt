@@ -1,3 +1,4 @@
 pub mod Decrypt
 pub mod Told
 pub mod Laws
+pub mod Underway

@@ -1,44 +1,41 @@
 //! The decryption of an input.
-ghost use Rattle.std.specs.Prelude.{◌≡◌, ◌+◌, ◌≤◌, ◌^◌, true, List, IfOk, IfErr};
+
+ghost use Rattle.std.specs.Prelude.{◌≡◌, ◌+◌, ◌≤◌, ◌^◌, ℕ, true, List, IfOk, IfErr};
 ghost use Rattle.esdk_fields.specs.Counts.{Stayed};
-ghost use Rattle.esdk_base.specs.Streams.{SourceState};
+ghost use Rattle.context_codec.specs.Context.{KeyValue};
+ghost use Rattle.header_codec.specs.declared.settings.Settings.{Settings};
 ghost use Rattle.keyring_trait.specs.Manager.{ManagerGoes, TellsOn};
 ghost use Rattle.keyring_trait.specs.Wrapping.{WrapKeyValue};
-ghost use Rattle.body_format.specs.declared.verdicts.Verdict.TheVariants.{Whole};
-ghost use Rattle.message_format.specs.Answers.{unlocking_of};
-ghost use Rattle.whole_input.specs.Taken.{TakesAll};
-ghost use Rattle.esdk_decrypt.specs.Decrypt.{Concludes, Decrypts, EndsSo, HasContext, HasKey, answering_of};
+ghost use Rattle.stream_open.specs.Feeding.{GoesOn};
+ghost use Rattle.stream_open.specs.Session.{OpeningValue, opened};
+ghost use Rattle.stream_open.specs.Stands.{Stands};
+ghost use Rattle.esdk_decrypt.specs.Decrypt.{Decrypts, EndsSo, asked_from};
 ghost use Rattle.esdk_decrypt.specs.Told.{asked_by};
+ghost use Rattle.esdk_decrypt.specs.Underway.{Concludes, ConcludesWhole, IsFedWhole, IsGoing, KeepsManager};
 
-use crate::answer::answer_to;
 use crate::errors::DecryptError;
-use crate::units::put_units;
-use body_format::Verdict;
+use crate::feeding::{feed, named};
 use context_codec::Context;
 use esdk_base::{Sink, Source};
-use esdk_fields::{Fault, Outside};
+use esdk_fields::Outside;
 use header_codec::Settings;
 use keyring_trait::Manager;
-use message_format::{Answer, judge};
 use std::alloc::Global;
-use whole_input::{End, Taken, take_all};
+use stream_open::Opener;
+use whole_input::{End, Pieces};
 
-/// Takes the whole input, and writes the contents of its frames, or of its one block, that open.
-/// The materials manager is asked for the data key at the moment `now`, in seconds, and is told the
-/// pairs that the caller gives beside those that the header stores.
+/// Reads the input piece by piece, and writes the contents of its frames, or of its one block, that open, each before more is read.
+/// The materials manager is asked for the data key at the moment `now`, in seconds, and is told the pairs that the caller gives beside those that the header stores.
 ///
-/// The message is judged in order: the first fault ends the judgement, and what was released before
-/// is written. Nothing is written before the bytes that were taken are judged.
+/// The message is judged in order: the first fault ends the judgement, and what was released before is written. Nothing is written before it is judged.
 ///
-/// Ok: the input is a whole message, all of its text was written, and this is its whole context:
-/// the pairs that its header stores and those that are only authenticated. Else:
+/// Ok: the input is a whole message, all of its text was written, and this is its whole context: the pairs that its header stores and those that are only
+/// authenticated. Else:
 ///
-/// - `Fault`: the input has this fault, which is its first, and what was released before it was
-///   written. Where a read failed or the input is too long, the bytes taken have it.
-/// - `Outside`: a read failed, or 2^62 bytes came and more may follow, and the bytes taken have no
-///   fault; what they release was written. Or a keyring failed when the manager was asked: nothing
-///   was written. Or the output failed: a front of what the bytes taken release was written.
-/// - `Memory`: nothing was written, or a front of what the bytes taken release.
+/// - `Fault`: the input has this fault, which is its first, and what was released before it was written. Where the input's end wasn't seen, the bytes taken have it.
+/// - `Outside`: a read failed, or 2^62 bytes came and more may follow, and the bytes taken have no fault; what they release was written. Or a keyring failed when the
+///   manager was asked: nothing was written. Or the output failed: a front of what the bytes taken release was written.
+/// - `Memory`: nothing was written. It doesn't come once a piece, of at most 65,536 bytes, was read behind the unlocked header of a framed message.
 pub fn decrypt<M: Manager, S: Source, O: Sink>(
     alloc: Global,
     manager: &mut M,
@@ -48,24 +45,20 @@ pub fn decrypt<M: Manager, S: Source, O: Sink>(
     input: &mut S,
     output: &mut O,
 ) -> Result<Context, DecryptError>
-    ensures done { IfOk result (λ context. Decrypts
-        (record { manager = answering_of (M.meaning manager.old) (M.meaning manager.new) (M.tells manager.old) (M.exact manager.old) (M.found manager.new) now; settings = settings; given = given.now })
-        (S.state input.old) (S.state input.new)
-        (O.state output.old) (O.state output.new) context) }
-    ensures ends { IfErr result (λ error. EndsSo
-        (record { manager = answering_of (M.meaning manager.old) (M.meaning manager.new) (M.tells manager.old) (M.exact manager.old) (M.found manager.new) now; settings = settings; given = given.now })
-        (S.state input.old) (S.state input.new)
-        (O.state output.old) (O.state output.new) (output.new ≡ output.old) error) }
+    ensures done { IfOk result (Decrypts
+        (asked_from (M.meaning manager.old) (M.meaning manager.new) (M.tells manager.old) (M.exact manager.old) (M.found manager.new) now settings given.now)
+        (S.state input.old) (S.state input.new) (O.state output.old) (O.state output.new)) }
+    ensures ends { IfErr result (EndsSo
+        (asked_from (M.meaning manager.old) (M.meaning manager.new) (M.tells manager.old) (M.exact manager.old) (M.found manager.new) now settings given.now)
+        (S.state input.old) (S.state input.new) (O.state output.old) (O.state output.new) (output.new ≡ output.old)) }
     ensures reads { (keys : List WrapKeyValue) → M.tells manager.old keys → M.exact manager.old → Stayed (M.meaning manager.old).faults (M.meaning manager.new).faults
-        → IfOk result (λ context. Decrypts
+        → IfOk result (Decrypts
         (asked_by (record { keys = keys; settings = settings; given = given.now; required = (M.meaning manager.old).demands }))
-        (S.state input.old) (S.state input.new)
-        (O.state output.old) (O.state output.new) context) }
+        (S.state input.old) (S.state input.new) (O.state output.old) (O.state output.new)) }
     ensures stops { (keys : List WrapKeyValue) → M.tells manager.old keys → M.exact manager.old → Stayed (M.meaning manager.old).faults (M.meaning manager.new).faults
         → IfErr result (EndsSo
         (asked_by (record { keys = keys; settings = settings; given = given.now; required = (M.meaning manager.old).demands }))
-        (S.state input.old) (S.state input.new)
-        (O.state output.old) (O.state output.new) (output.new ≡ output.old)) }
+        (S.state input.old) (S.state input.new) (O.state output.old) (O.state output.new) (output.new ≡ output.old)) }
     ensures goes { ManagerGoes (M.meaning manager.old) (M.meaning manager.new) }
     ensures tells { TellsOn (M.tells manager.old) (M.tells manager.new) }
     ensures same { (M.meaning manager.old).plain ≡ true → TellsOn (M.tells manager.new) (M.tells manager.old) }
@@ -74,64 +67,67 @@ pub fn decrypt<M: Manager, S: Source, O: Sink>(
 {
     // Where the manager isn't asked, it stays as it is: `wraps` says so of a steady one's count.
     let _wraps = manager.wraps();
-    let taken = take_all(alloc, input)?;
-    decrypt_taken(alloc, manager, now, settings, given, taken, output)
+    let mut opener = Opener::new(alloc, settings, given.copy(alloc)?);
+    let end = feed_input(alloc, manager, now, input, &mut opener, output)?;
+    conclude(opener, end)
 }
 
-/// Decrypts what was taken of an input.
-#[tactic(auto, using(crate::proofs::Answering::whole_opens))]
-fn decrypt_taken<M: Manager, O: Sink>(
+/// Feeds the opener, which has taken nothing, all pieces of the input, and says why no more came. The buffer is taken before the first read.
+fn feed_input<M: Manager, S: Source, O: Sink>(
     alloc: Global,
     manager: &mut M,
     now: u64,
-    settings: Settings,
-    given: &Context,
-    taken: Taken,
+    input: &mut S,
+    opener: &mut Opener,
     output: &mut O,
-) -> Result<Context, DecryptError>
-    requires { ManagerGoes (M.meaning manager.old) (M.meaning manager.old) }
-    ensures done { (first after : SourceState) → TakesAll first after taken → IfOk result (λ context. Decrypts
-        (record { manager = answering_of (M.meaning manager.old) (M.meaning manager.new) (M.tells manager.old) (M.exact manager.old) (M.found manager.new) now; settings = settings; given = given.now })
-        first after (O.state output.old) (O.state output.new) context) }
-    ensures ends { (first after : SourceState) → TakesAll first after taken → IfErr result (λ error. EndsSo
-        (record { manager = answering_of (M.meaning manager.old) (M.meaning manager.new) (M.tells manager.old) (M.exact manager.old) (M.found manager.new) now; settings = settings; given = given.now })
-        first after (O.state output.old) (O.state output.new) (output.new ≡ output.old) error) }
-    ensures goes { ManagerGoes (M.meaning manager.old) (M.meaning manager.new) }
-    ensures tells { TellsOn (M.tells manager.old) (M.tells manager.new) }
-    ensures same { (M.meaning manager.old).plain ≡ true → TellsOn (M.tells manager.new) (M.tells manager.old) }
-    ensures exact { M.exact manager.old → M.exact manager.new }
+) -> Result<End, DecryptError>
+    requires manager { ManagerGoes (M.meaning manager.old) (M.meaning manager.old) }
+    requires going { IsGoing opener.old }
+    ensures fed { (settings : Settings) (given : List KeyValue) → Stands opener.old (opened settings given) → IfOk result (λ end. IsFedWhole
+        (asked_from (M.meaning manager.old) (M.meaning manager.new) (M.tells manager.old) (M.exact manager.old) (M.found manager.new) now settings given)
+        (manager.new ≡ manager.old) (S.state input.old) (S.state input.new) (O.state output.old) (O.state output.new) (output.new ≡ output.old) end opener.new) }
+    ensures ends { (settings : Settings) (given : List KeyValue) → Stands opener.old (opened settings given) → IfErr result (EndsSo
+        (asked_from (M.meaning manager.old) (M.meaning manager.new) (M.tells manager.old) (M.exact manager.old) (M.found manager.new) now settings given)
+        (S.state input.old) (S.state input.new) (O.state output.old) (O.state output.new) (output.new ≡ output.old)) }
+    ensures going { IfOk result (λ _. IsGoing opener.new) }
+    ensures manager { KeepsManager (M.meaning manager.old) (M.meaning manager.new) (M.tells manager.old) (M.tells manager.new) (M.exact manager.old) (M.exact manager.new) }
+    ensures taken { (S.state input.new).given ≤ (S.state input.old).given + 2 ^ 62 }
 {
-    let bytes = taken.bytes.bytes();
-    let answer = answer_to(alloc, manager, now, settings, given, bytes)?;
-    let judgement = judge(alloc, bytes, &settings, &answer)?;
-    match put_units(&judgement.units, output) {
-        Ok(()) => conclude(judgement.verdict, taken.end, answer),
-        Err(_) => Err(DecryptError::Outside(Outside::SinkFault)),
+    let mut pieces = Pieces::new(alloc)?;
+    'reads: loop {
+        match pieces.next(input) {
+            Ok(()) => match feed(alloc, manager, now, opener, pieces.piece(), output) {
+                Ok(()) => {}
+                Err(error) => return Err(error),
+            },
+            Err(end) => return Ok(end),
+        }
     }
 }
 
-/// Says how a run ends whose input was answered so, judged so and ended so.
-fn conclude(verdict: Verdict, end: End, answer: Answer) -> Result<Context, DecryptError>
-    requires { verdict ≡ Whole → HasKey (unlocking_of answer) }
-    ensures concludes { Concludes verdict end result }
-    ensures context { IfOk result (HasContext (unlocking_of answer)) }
+/// Says how a decryption ends whose opener took all bytes that came.
+fn conclude(opener: Opener, end: End) -> Result<Context, DecryptError>
+    requires { IsGoing opener }
+    ensures { (v : OpeningValue) → Stands opener v → GoesOn v → Concludes v end result }
 {
-    match (verdict, end) {
-        (Verdict::Faulty(fault), _) => Err(DecryptError::Fault(fault)),
-        (_, End::Failed) => Err(DecryptError::Outside(Outside::SourceFault)),
-        (_, End::TooLong) => Err(DecryptError::Outside(Outside::InputTooLong)),
-        (Verdict::Going, End::Seen) => Err(DecryptError::Fault(Fault::Truncated)),
-        (Verdict::Whole, End::Seen) => Ok(whole_context(answer)),
+    match end {
+        End::Seen => whole_context(opener),
+        End::Failed => Err(DecryptError::Outside(Outside::SourceFault)),
+        End::TooLong => Err(DecryptError::Outside(Outside::InputTooLong)),
     }
 }
 
-/// The whole context of what is unlocked.
-fn whole_context(answer: Answer) -> Context
-    requires { HasKey (unlocking_of answer) }
-    ensures { HasContext (unlocking_of answer) result }
+/// The whole context of the message, where it is whole.
+fn whole_context(opener: Opener) -> Result<Context, DecryptError>
+    requires { IsGoing opener }
+    ensures { (v : OpeningValue) → Stands opener v → GoesOn v → ConcludesWhole v result }
 {
-    match answer {
-        Answer::Unlocked { whole, .. } => whole,
-        Answer::Refused(_) => unreachable!(),
+    let mut opener = opener;
+    if let Err(error) = opener.finish() {
+        return Err(named(error));
+    }
+    match opener.into_context() {
+        Some(context) => Ok(context),
+        None => unreachable!(),
     }
 }

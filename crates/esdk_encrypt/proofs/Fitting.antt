@@ -13,9 +13,10 @@ use Rattle.context_codec.specs.Context.{IsContext}
 use Rattle.context_codec.specs.Parts.{stored_of}
 use Rattle.context_codec.proofs.Parts.{IsContext-stored_of}
 use Rattle.edk_codec.specs.Entry.{Entry, IsEntry, edk_text}
-use Rattle.header_codec.specs.Header.{latest_end}
+use Rattle.header_codec.specs.Header.{Opening, latest_end}
 use Rattle.header_codec.specs.Table.{is_over}
-use Rattle.header_codec.specs.Written.{keys_end, longest_entry}
+use Rattle.header_codec.specs.Written.{committing, keys_end, longest_entry}
+use Rattle.header_codec.proofs.Spelled.{version_short}
 use Rattle.header_codec.proofs.WrittenHeaders.{entry_text_len, keys_end_is}
 use Rattle.keyring_trait.specs.declared.manager_errors.ManagerError.{ManagerError}
 use Rattle.keyring_trait.specs.declared.manager_errors.ManagerError.TheVariants as managers
@@ -25,7 +26,8 @@ use Rattle.keyring_trait.proofs.Made.{length-made}
 use Rattle.whole_input.specs.Taken.{Came}
 use Rattle.esdk_encrypt.specs.declared.errors.EncryptError.{EncryptError}
 use Rattle.esdk_encrypt.specs.declared.errors.EncryptError.TheVariants as errors
-use Rattle.esdk_encrypt.specs.Encrypt.{Asked, EndsSo, RefusesStart, drawn_id, drawn_rest, start_refusal}
+use Rattle.stream_seal.specs.Start.{start_refusal}
+use Rattle.esdk_encrypt.specs.Encrypt.{Asked, EndsSo, RefusesStart, drawn_id, drawn_rest}
 use Rattle.esdk_encrypt.specs.Laws.{FitsMessage, IsWithin, NothingFails}
 use Rattle.esdk_encrypt.specs.Told.{NoneFor, Writer, asked_by, materials_of, wraps_of}
 
@@ -49,8 +51,9 @@ few_begin : (m : EncMaterialsValue) (id : List ℕ) (max_keys : Option ℕ) → 
 few_begin m id max_keys long is_context each few allowed =
     let stored = stored_of m.required m.context in
     let stored_is : IsContext stored = IsContext-stored_of m.required m.context is_context in
-    let end : ℕ = keys_end id stored m.entries in
-    let short : end ≤ latest_end = omega (arith, keys_end_is id stored m.entries long, stored_is.short, short_entries m.entries each, few) in
+    let opening : Opening = committing id in
+    let end : ℕ = keys_end opening stored m.entries in
+    let short : end ≤ latest_end = omega (arith, keys_end_is opening stored m.entries, version_short opening.suite, long, stored_is.short, short_entries m.entries each, few) in
     rw (few_allowed max_keys (length m.entries) allowed, le-ltb latest_end end short) refl
 
 -- ---- bytes that came are no more than those that were left
@@ -93,16 +96,16 @@ only_memory_ends asked text input taken output put entropy spent untouched unask
 only_memory_ends asked text input taken output put entropy spent untouched unasked (errors.Outside outsides.KeyringFault) granted fits nothing ends =
     absurd (let is : managers.KeyringFault ≡ managers.Memory = granted.none managers.KeyringFault ends.cause in cc)
 only_memory_ends asked text input taken output put entropy spent untouched unasked (errors.Outside outsides.SourceFault) granted fits nothing ends =
-    absurd (omega (arith, nothing.source, ends.stops.because.rose))
+    absurd (omega (arith, nothing.source, ends.stops.rose))
 only_memory_ends asked text input taken output put entropy spent untouched unasked (errors.Outside outsides.SinkFault) granted fits nothing ends =
-    absurd (omega (arith, nothing.sink, ends.stops.because))
+    absurd (omega (arith, nothing.sink, ends.stops.rose))
 only_memory_ends asked text input taken output put entropy spent untouched unasked (errors.Outside outsides.InputTooLong) granted fits nothing ends =
     let stops = ends.stops in
-    absurd (omega (arith, stops.because.most.count, few_came input taken stops.text text fits.told stops.written.came, fits.few))
+    absurd (omega (arith, stops.most.count, few_came input taken stops.text text fits.told stops.came, fits.few))
 only_memory_ends asked text input taken output put entropy spent untouched unasked (errors.Outside outside) granted fits nothing ends = absurd ends.stops
 only_memory_ends asked text input taken output put entropy spent untouched unasked (errors.Refusal refusals.TooManyFrames) granted fits nothing ends =
     let stops = ends.stops in
-    absurd (omega (arith, stops.because, few_came input taken stops.text text fits.told stops.written.came, fits.room))
+    absurd (omega (arith, stops.many, few_came input taken stops.text text fits.told stops.came, fits.room))
 only_memory_ends asked text input taken output put entropy spent untouched unasked (errors.Refusal (refusals.TooManyDataKeys n)) granted fits nothing ends =
     absurd (start_not_refused asked entropy spent (refusals.TooManyDataKeys n) untouched granted ends)
 only_memory_ends asked text input taken output put entropy spent untouched unasked (errors.Refusal (refusals.HeaderTooLong n)) granted fits nothing ends =

@@ -3,7 +3,8 @@ use Rattle.std.proofs.Common.{◌≡◌, ◌∙◌, ℕ, List, ◌++◌, length,
 use Rattle.std.specs.Io.KnownBytes.{Appends, Consumes, IsAtEnd}
 use Rattle.esdk_base.specs.Streams.{EntropyState, OnTold, SinkState, SourceState}
 use Rattle.esdk_fields.specs.declared.refusals.Refusal.{Refusal}
-use Rattle.esdk_encrypt.specs.Encrypt.{Encrypts, drawn_id, message_of}
+use Rattle.stream_seal.specs.Start.{message_of}
+use Rattle.esdk_encrypt.specs.Encrypt.{Encrypts, drawn_id}
 use Rattle.esdk_encrypt.specs.Laws.{GainsMessage}
 use Rattle.esdk_encrypt.specs.Told.{Writer, asked_by, message_by}
 

@@ -1,7 +1,9 @@
-mod Ending
+pub mod EarlyEnds
+pub mod Ending
 pub mod Fitting
 pub mod Gaining
-mod Laying
-mod Starting
+pub mod Input
+pub mod Messages
+pub mod Sessions
+pub mod Steps
 pub mod Telling
-mod Writing

@@ -1,6 +1,5 @@
 -- A run over an exact and plain manager that tells its keys: what is so over any manager, and what these keys make of it.
 use Rattle.std.proofs.Common.{◌≡◌, ◌∙◌, ℕ, true, List, length, take, drop, Option, Result, OnOk, IfErr, refl, sym, subst}
-use Rattle.std.proofs.Math.Logic.{⊎_map}
 use Rattle.std.proofs.lemmas.Result.{on_ok_weaker, IfErr-weaker}
 use Rattle.esdk_base.specs.Streams.{EntropyState, SinkState, SourceState}
 use Rattle.esdk_fields.specs.declared.refusals.Outside.TheVariants as outsides
@@ -16,7 +15,7 @@ use Rattle.keyring_trait.specs.Requests.{EncRequestValue}
 use Rattle.keyring_trait.specs.Wrapping.{WrapKeyValue, active, ivs_of, made}
 use Rattle.esdk_encrypt.specs.declared.errors.EncryptError.{EncryptError}
 use Rattle.esdk_encrypt.specs.declared.errors.EncryptError.TheVariants as errors
-use Rattle.esdk_encrypt.specs.Encrypt.{Asked, Begins, Drew, Encrypts, EndsAfter, EndsSo, GivesNothing, HasNoMemory, RefusesStart, StopsSo, Writes, asked_of, drawn_id, drawn_rest, message_of}
+use Rattle.esdk_encrypt.specs.Encrypt.{Asked, Begins, Drew, Encrypts, EndsAfter, EndsSo, GivesNothing, HasNoMemory, RefusesStart, StopsSo, Writes, asked_of, drawn_id, drawn_rest}
 use Rattle.esdk_encrypt.specs.Told.{asked_told, materials_of, writer_of}
 
 -- ---- runs about the same, of which one says more
@@ -46,7 +45,7 @@ encrypts_more a b input taken output put entropy spent more encrypts = record {
   drawn = encrypts.drawn;
   materials = encrypts.materials;
   started = begins_more a b entropy spent encrypts.drawn encrypts.materials more encrypts.started;
-  writes = subst (λ (n : ℕ). Writes (message_of encrypts.materials n (drawn_id encrypts.drawn)) n input taken output put) more.size encrypts.writes;
+  writes = subst (λ (n : ℕ). Writes encrypts.materials n (drawn_id encrypts.drawn) input taken output put) more.size encrypts.writes;
 }
 
 -- it was not, or not whole
@@ -56,7 +55,7 @@ after_more a b input taken output put entropy spent error more ends = record {
   drawn = ends.drawn;
   materials = ends.materials;
   started = begins_more a b entropy spent ends.drawn ends.materials more ends.started;
-  stops = subst (λ (n : ℕ). StopsSo (message_of ends.materials n (drawn_id ends.drawn)) n input taken output put error) more.size ends.stops;
+  stops = subst (λ (n : ℕ). StopsSo ends.materials n (drawn_id ends.drawn) input taken output put error) more.size ends.stops;
 }
 
 nothing_more : (a b : Asked) (entropy spent : EntropyState) (error : ManagerError) (untouched : Type 0) → SaysMore a b
@@ -98,8 +97,7 @@ ends_more a b input taken output put entropy spent untouched unasked (errors.Ref
 ends_more a b input taken output put entropy spent untouched unasked (errors.Refusal (refusals.HeaderTooLong n)) more ends =
     start_more a b entropy spent (refusals.HeaderTooLong n) untouched more ends
 ends_more a b input taken output put entropy spent untouched unasked (errors.Refusal refusal) more ends = nothing_more a b entropy spent (managers.Refusal refusal) untouched more ends
-ends_more a b input taken output put entropy spent untouched unasked errors.Memory more ends =
-    ⊎_map (memory_more a b entropy spent untouched more) (after_more a b input taken output put entropy spent errors.Memory more) ends
+ends_more a b input taken output put entropy spent untouched unasked errors.Memory more ends = memory_more a b entropy spent untouched more ends
 
 -- ---- keys that are told
 

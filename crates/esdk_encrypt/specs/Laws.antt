@@ -2,11 +2,16 @@
 use Rattle.std.specs.Prelude.{◌≡◌, ℕ, ◌^◌, ◌<◌, ◌≤◌, List, ◌++◌, length, take, ⊤, IfSome, None, Option, Some}
 use Rattle.esdk_fields.specs.Counts.{Stayed}
 use Rattle.esdk_fields.specs.declared.refusals.Refusal.{Refusal}
+use Rattle.esdk_base.specs.Sink.{AppendsFront}
 use Rattle.esdk_base.specs.Streams.{EntropyState, OnTold, SinkState, SourceState}
 use Rattle.context_codec.specs.Context.{IsContext}
+use Rattle.keyring_trait.specs.Materials.{EncMaterialsValue}
+use Rattle.stream_seal.specs.Feeding.{IsLeast, frames_given}
+use Rattle.stream_seal.specs.Start.{message_of, most_text}
+use Rattle.whole_input.specs.Taken.{Came}
 use Rattle.esdk_encrypt.specs.declared.errors.EncryptError.{EncryptError}
 use Rattle.esdk_encrypt.specs.declared.errors.EncryptError.TheVariants.{Memory}
-use Rattle.esdk_encrypt.specs.Encrypt.{Encrypts, EndsSo, draws, most_text}
+use Rattle.esdk_encrypt.specs.Encrypt.{Encrypts, EndsSo, StopsSo, draws}
 use Rattle.esdk_encrypt.specs.Told.{Writer, asked_by, message_by, wraps_of}
 
 -- ---- what is written
@@ -50,3 +55,20 @@ abbrev pub EncryptsWhatFits : Type 0
 EncryptsWhatFits = (writer : Writer) (old new : ℕ) (text : List ℕ) (input taken : SourceState) (output put : SinkState) (entropy spent : EntropyState) (error : EncryptError)
     → IsWithin writer → FitsMessage writer.size input text → Stayed old new → NothingFails input taken output put entropy spent
     → EndsSo (asked_by writer None old new) input taken output put entropy spent ⊤ ⊤ error → error ≡ Memory
+
+-- ---- what is left where it ends early
+
+-- These bytes were taken, and the output gained a front of their message, as far as a message has room for them.
+pub record GainsFront (m : EncMaterialsValue) (size : ℕ) (id : List ℕ) (input taken : SourceState) (output put : SinkState) : Type 0 where
+  pub text : List ℕ
+  pub came : Came input taken text
+  pub front : AppendsFront output.written put.written (message_of m size id (take (most_text size) text))
+
+-- Whatever ends the writing of a message, a front of it is left.
+abbrev pub LeavesAFront : Type 0
+LeavesAFront = (m : EncMaterialsValue) (size : ℕ) (id : List ℕ) (input taken : SourceState) (output put : SinkState) (error : EncryptError) → 1 ≤ size
+    → StopsSo m size id input taken output put error → GainsFront m size id input taken output put
+
+-- What is written while the input goes on are m frames, m being the least number for which m frames of so many bytes and one more have room for the text.
+abbrev pub WritesAllButTheLast : Type 0
+WritesAllButTheLast = (count size : ℕ) → 1 ≤ size → IsLeast count size (frames_given count size)

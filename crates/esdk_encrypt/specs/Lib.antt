@@ -1,3 +1,4 @@
 pub mod Encrypt
+pub mod Feeding
 pub mod Told
 pub mod Laws

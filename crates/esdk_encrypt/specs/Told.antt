@@ -11,7 +11,8 @@ use Rattle.keyring_trait.specs.Manager.{ManagerMeaning, request_refusal}
 use Rattle.keyring_trait.specs.Materials.{EncMaterialsValue}
 use Rattle.keyring_trait.specs.Requests.{EncRequestValue}
 use Rattle.keyring_trait.specs.Wrapping.{WrapKeyValue, active, ivs_of, made}
-use Rattle.esdk_encrypt.specs.Encrypt.{Asked, drawn_id, drawn_rest, message_of}
+use Rattle.stream_seal.specs.Start.{message_of}
+use Rattle.esdk_encrypt.specs.Encrypt.{Asked, drawn_id, drawn_rest}
 
 -- The wrapping keys; the context, and the keys of it that are required of the reader; the frame length, and the limit on entries.
 pub record Writer : Type 0 where

@@ -1,43 +1,43 @@
 //! The encryption of an input.
 
-ghost use Rattle.std.specs.Prelude.{◌≡◌, ◌+◌, ◌≤◌, ◌^◌, ◌++◌, true, List, length, IfErr, OnErr, OnOk};
-ghost use Rattle.std.specs.Io.KnownBytes.{Appends};
-ghost use Rattle.body_format.specs.Written.{framed_body};
-ghost use Rattle.esdk_base.specs.Sink.{AppendsFront};
+ghost use Rattle.std.specs.Prelude.{◌≡◌, ◌+◌, ◌≤◌, ◌^◌, ℕ, true, List, [], IfErr, OnOk};
 ghost use Rattle.keyring_trait.specs.Manager.{ManagerGoes, TellsOn};
+ghost use Rattle.keyring_trait.specs.Materials.{EncMaterialsValue};
 ghost use Rattle.keyring_trait.specs.Wrapping.{WrapKeyValue};
-ghost use Rattle.message_format.specs.Message.{under};
-ghost use Rattle.esdk_encrypt.specs.Encrypt.{asked_of, Encrypts, EndsSo, Fits, GivesNot, IsNoFault, PutCause, StartsNot, StopsSo, Writes, most_text};
+ghost use Rattle.stream_seal.specs.Stands.{Stands};
+ghost use Rattle.esdk_encrypt.specs.Encrypt.{asked_of, Encrypts, EndsSo, GivesNot, IsNoFault, StopsSo, Writes};
+ghost use Rattle.esdk_encrypt.specs.Feeding.{IsNewSealer, session_of};
 ghost use Rattle.esdk_encrypt.specs.Told.{asked_told};
 
+use crate::beginning::begin;
 use crate::draws::draw;
 use crate::errors::EncryptError;
-use crate::frames::{put, put_frames};
+use crate::feeding::{feed_input, put, put_out};
 use crate::options::EncryptOptions;
-use crate::start::message_start;
-use aes_core::Key256;
-use context_codec::PairError;
 use esdk_base::{Entropy, Sink, Source};
-use esdk_fields::{Blob, Outside, Refusal};
-use keyring_trait::{DataKey, EncRequest, Manager, ManagerError};
+use esdk_fields::Outside;
+use keyring_trait::{EncRequest, Manager, ManagerError};
 use std::alloc::Global;
-use suite_table::{Suite, derived};
-use whole_input::{End, take_all};
-
-/// How many frames a message has at the most.
-const MOST_FRAMES: u64 = 0xffff_ffff;
+use stream_seal::Sealer;
+use whole_input::Pieces;
 
 /// Encrypts the whole input with materials of the manager, as the request asks for them, and writes the message.
 ///
-/// First 64 bytes and 12 for each of the manager's wraps are drawn by one fill: 32 are the message id, and the manager is asked with the others, at the moment of the options. Of its materials the
-/// header is made: it stores the pairs of the context whose keys aren't required, and its tag authenticates the others too. Then the whole input is taken, and then
-/// the message is written, the header first and each frame by itself.
+/// First 64 bytes and 12 for each of the manager's wraps are drawn by one fill: 32 are the message id, and the manager is asked with the others, at the
+/// moment of the options. Of its materials the header is made: it stores the pairs of the context whose keys aren't required, and its tag authenticates the
+/// others too. Then memory is taken for one frame and for one piece of the input, and no more after that. The header is written, and the input is taken in
+/// pieces of at most 65,536 bytes: a frame is written once it is full and more of the input came, and the final frame once the input's end was seen. Each of
+/// them is one put.
 ///
-/// `EntropyFault` leaves the manager, the input and the output as they were, and the bytes to come undrawn. The next errors leave the input and the output as they
-/// were: `RequiredAbsent` (Q4), `ReservedPrefix` (Q1), `NoGenerator` (Q5) and `GeneratorHasKey` (Q6), where the manager refuses the request, in this order where it is
-/// exact; `KeyringFault`, where one of its keyrings failed; then `TooManyDataKeys` (Q7), where it gives more entries than `max_keys`, and `HeaderTooLong` (Q8). After
-/// every other error the output has gained a front of the message of the bytes taken: `TooManyFrames` (Q9), where a message has no room for them; `SourceFault`, where
-/// a read failed; `InputTooLong`, where they are 2^62; `SinkFault`, where a write failed. `Memory` may come at any time, and no other error comes.
+/// `EntropyFault` leaves the manager, the input and the output as they were, and the bytes to come undrawn. The next errors leave the input and the output as
+/// they were: `RequiredAbsent` (Q4), `ReservedPrefix` (Q1), `NoGenerator` (Q5) and `GeneratorHasKey` (Q6), where the manager refuses the request, in this
+/// order where it is exact; `KeyringFault`, where one of its keyrings failed; then `TooManyDataKeys` (Q7), where it gives more entries than `max_keys`, and
+/// `HeaderTooLong` (Q8); and `Memory`, where memory runs out, which comes only there.
+///
+/// After the other errors the output has gained a front of the message of the bytes taken, as far as a message has room for them. After `TooManyFrames` (Q9),
+/// where more came than have room in 2^32 - 1 frames, `SourceFault`, where a read failed, and `InputTooLong`, where 2^62 came, these are all frames but the
+/// last, so that no input that failed is sealed as a whole message. After `SinkFault`, where a write failed, it is any front, also of the final frame where
+/// the end was seen.
 /// AWS Encryption SDK Specification, "Encrypt".
 pub fn encrypt<M: Manager, S: Source, O: Sink, W: Entropy>(
     alloc: Global,
@@ -94,19 +94,9 @@ pub fn encrypt<M: Manager, S: Source, O: Sink, W: Entropy>(
         Err(error) => return Err(ungiven(error)),
     };
     let id = draws.message_id();
-    let start = match message_start(alloc, &materials, options, &id) {
-        Ok(start) => start,
-        Err(error) => return Err(unstarted(error)),
-    };
-    put_input(
-        alloc,
-        &start,
-        options.frame_length,
-        materials.key(),
-        &id,
-        input,
-        output,
-    )
+    let mut sealer = begin(alloc, &materials, options, &id)?;
+    let mut pieces = Pieces::new(alloc)?;
+    put_message(&mut sealer, &mut pieces, input, output)
 }
 
 /// Why a run ends whose manager gives no materials.
@@ -123,91 +113,26 @@ fn ungiven(error: ManagerError) -> EncryptError
     }
 }
 
-/// Why a run ends whose message can't be begun.
-fn unstarted(error: PairError) -> EncryptError
-    ensures { StartsNot error result }
-{
-    match error {
-        PairError::Refusal(refusal) => EncryptError::Refusal(refusal),
-        PairError::Memory => EncryptError::Memory,
-    }
-}
-
-/// Takes the whole input, and writes the start of a message and the input in frames.
-fn put_input<S: Source, O: Sink>(
-    alloc: Global,
-    start: &Blob,
-    frame_length: u32,
-    key: &DataKey,
-    message_id: &[u8; 32],
+/// Writes a message: its header, a frame where one is full and more of the input came, and at the end of the input the final frame.
+fn put_message<S: Source, O: Sink>(
+    sealer: &mut Sealer,
+    pieces: &mut Pieces,
     input: &mut S,
     output: &mut O,
 ) -> Result<(), EncryptError>
-    requires some { 1 ≤ frame_length }
-    ensures done { OnOk result (Writes (λ text. start.now ++ framed_body (under frame_length key.now message_id.now) text) frame_length
-        (S.state input.old) (S.state input.new)
-        (O.state output.old) (O.state output.new)) }
-    ensures stops { IfErr result (StopsSo (λ text. start.now ++ framed_body (under frame_length key.now message_id.now) text) frame_length
-        (S.state input.old) (S.state input.new)
-        (O.state output.old) (O.state output.new)) }
+    requires begins { IsNewSealer sealer.old }
+    requires none { pieces.old.taken ≡ 0 }
+    ensures writes { (m : EncMaterialsValue) (size : ℕ) (id : List ℕ) → 1 ≤ size → Stands sealer.old (session_of m size id [])
+        → OnOk result (Writes m size id (S.state input.old) (S.state input.new) (O.state output.old) (O.state output.new)) }
+    ensures stops { (m : EncMaterialsValue) (size : ℕ) (id : List ℕ) → 1 ≤ size → Stands sealer.old (session_of m size id [])
+        → IfErr result (StopsSo m size id (S.state input.old) (S.state input.new) (O.state output.old) (O.state output.new)) }
     ensures taken { (S.state input.new).given ≤ (S.state input.old).given + 2 ^ 62 }
 {
-    let taken = match take_all(alloc, input) {
-        Ok(taken) => taken,
-        Err(_) => return Err(EncryptError::Memory),
-    };
-    match fits(taken.bytes.bytes(), taken.end, frame_length) {
-        Ok(()) => put_message(
-            alloc,
-            start,
-            frame_length,
-            key,
-            message_id,
-            taken.bytes.bytes(),
-            output,
-        ),
-        Err(error) => Err(error),
+    put(sealer.header(), output)?;
+    feed_input(sealer, pieces, input, output)?;
+    match sealer.finish() {
+        Ok(()) => put_out(sealer, output),
+        // The session goes on.
+        Err(_) => unreachable!(),
     }
-}
-
-/// Says why the bytes taken of an input aren't written: a message has no room for them, or they
-/// aren't all of the input.
-fn fits(text: &[u8], end: End, frame_length: u32) -> Result<(), EncryptError>
-    ensures { Fits frame_length (length text.now) end result }
-{
-    if text.len() as u64 > MOST_FRAMES * u64::from(frame_length) {
-        return Err(EncryptError::Refusal(Refusal::TooManyFrames));
-    }
-    match end {
-        End::Seen => Ok(()),
-        End::Failed => Err(EncryptError::Outside(Outside::SourceFault)),
-        End::TooLong => Err(EncryptError::Outside(Outside::InputTooLong)),
-    }
-}
-
-/// Writes the start of a message, and its text in frames.
-fn put_message<O: Sink>(
-    alloc: Global,
-    start: &Blob,
-    frame_length: u32,
-    key: &DataKey,
-    message_id: &[u8; 32],
-    text: &[u8],
-    output: &mut O,
-) -> Result<(), EncryptError>
-    requires some { 1 ≤ frame_length }
-    requires short { length text.now ≤ most_text frame_length }
-    ensures whole { OnOk result (Appends (O.state output.old).written (O.state output.new).written
-        (start.now ++ framed_body (under frame_length key.now message_id.now) text.now)) }
-    ensures front { OnErr result (AppendsFront (O.state output.old).written (O.state output.new).written
-        (start.now ++ framed_body (under frame_length key.now message_id.now) text.now)) }
-    ensures cause { IfErr result (PutCause (O.state output.old).faults (O.state output.new).faults) }
-{
-    match put(start, output) {
-        Ok(()) => {}
-        Err(error) => return Err(error),
-    }
-    let derived_key = derived(Suite::Committing, key.bytes(), message_id);
-    let cipher_key = Key256::new(&derived_key);
-    put_frames(alloc, &cipher_key, message_id, frame_length, text, output)
 }

@@ -1,3 +1,3 @@
 mod Adding
+pub mod Coming
 pub mod Fronts
-mod Coming

@@ -1,12 +1,11 @@
-//! An input or a file, taken into memory as a whole.
+//! An input that is taken piece by piece, and a small file of a shelf that is taken whole.
 //!
-//! `take_all` takes the bytes of a source up to its end, and says what ended the taking; `take_file`
-//! takes a small file of a shelf.
+//! `Pieces` reads a source into one buffer, again and again, and says why no more came; `take_file` takes a small file of a shelf into memory.
 #![tactic(auto)]
 
 mod buffer;
 mod file;
-mod taken;
+mod pieces;
 
 pub use file::{FileError, take_file};
-pub use taken::{End, Taken, take_all};
+pub use pieces::{End, Pieces};

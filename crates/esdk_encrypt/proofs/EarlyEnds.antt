@@ -1,0 +1,72 @@
+-- A front of the message is left where its writing ends early.
+use Rattle.std.proofs.Common.{◌≡◌, ℕ, ◌-◌, ◌<◌, ◌≤◌, List, ◌++◌, length, take, Option, inl, inr, refl, sym, ap, subst, ◌∙◌, arith, length-take}
+use Rattle.std.proofs.lemmas.List.{take_all}
+use Rattle.std.specs.Io.KnownBytes.{Appends}
+use Rattle.esdk_fields.specs.declared.refusals.Outside.TheVariants as outsides
+use Rattle.esdk_fields.specs.declared.refusals.Refusal.TheVariants as refusals
+use Rattle.esdk_base.specs.Sink.{AppendsFront}
+use Rattle.esdk_base.specs.Streams.{SinkState, SourceState}
+use Rattle.keyring_trait.specs.Materials.{EncMaterialsValue}
+use Rattle.stream_seal.specs.Feeding.{frames_given, given_so_far}
+use Rattle.stream_seal.specs.Start.{message_of, most_frames, most_text}
+use Rattle.stream_seal.proofs.Feeding.{last_held}
+use Rattle.stream_seal.proofs.GivenFrames.{frames_of_most}
+use Rattle.whole_input.proofs.Fronts.{front_longer}
+use Rattle.esdk_encrypt.specs.declared.errors.EncryptError.{EncryptError}
+use Rattle.esdk_encrypt.specs.declared.errors.EncryptError.TheVariants as errors
+use Rattle.esdk_encrypt.specs.Encrypt.{StopsSo, header_and_frames, written_so_far}
+use Rattle.esdk_encrypt.specs.Feeding.{session_of}
+use Rattle.esdk_encrypt.specs.Laws.{GainsFront}
+
+-- all of some bytes is a front of them
+front_all : (a b : Option (List ℕ)) (xs : List ℕ) → Appends a b xs → AppendsFront a b xs
+front_all a b xs gained = (length xs, subst (λ (ys : List ℕ). Appends a b ys) (sym (take_all (length xs) xs (omega arith))) gained)
+
+module _ (m : EncMaterialsValue) (size : ℕ) (id : List ℕ) (wide : 1 ≤ size) where
+  -- the final frame follows what is written while the input goes on
+  more_follows : (text : List ℕ) → (more : List ℕ) × (message_of m size id text ≡ written_so_far m size id text ++ more)
+  unfolding given_so_far
+  more_follows text = (_, last_held (session_of m size id text) wide refl)
+
+  begins : (text : List ℕ) (a b : Option (List ℕ)) → AppendsFront a b (written_so_far m size id text) → AppendsFront a b (message_of m size id text)
+  begins text a b front =
+      let follows = more_follows text in
+      subst (λ (g : List ℕ). AppendsFront a b g) (sym follows.1) (front_longer a b (written_so_far m size id text) follows.0 front)
+
+  -- where a message has room for all of the text
+  all_fits : (text : List ℕ) (a b : Option (List ℕ)) → length text ≤ most_text size → AppendsFront a b (message_of m size id text) → AppendsFront a b (message_of m size id (take (most_text size) text))
+  all_fits text a b short front = subst (λ (t : List ℕ). AppendsFront a b (message_of m size id t)) (sym (take_all (most_text size) text short)) front
+
+  -- where it hasn't, all regular frames are what is written
+  all_frames : (text : List ℕ) → most_text size < length text → header_and_frames m size id (take (most_text size) text) (most_frames - 1) ≡ written_so_far m size id (take (most_text size) text)
+  all_frames text many =
+      let long : length (take (most_text size) text) ≡ most_text size = omega (arith, length-take (most_text size) text, many) in
+      ap (header_and_frames m size id (take (most_text size) text)) (sym (ap (λ (n : ℕ). frames_given n size) long ∙ frames_of_most size wide))
+
+  module _ (input taken : SourceState) (output put : SinkState) where
+    pub leaves_front : (error : EncryptError) → StopsSo m size id input taken output put error → GainsFront m size id input taken output put
+    leaves_front (errors.Outside outsides.SourceFault) stops = record {
+      text = stops.text;
+      came = stops.came;
+      front = all_fits stops.text output.written put.written stops.short (begins stops.text output.written put.written (front_all output.written put.written _ stops.gained));
+    }
+    leaves_front (errors.Outside outsides.InputTooLong) stops = record {
+      text = stops.text;
+      came = stops.came;
+      front = all_fits stops.text output.written put.written stops.short (begins stops.text output.written put.written (front_all output.written put.written _ stops.gained));
+    }
+    leaves_front (errors.Refusal refusals.TooManyFrames) stops = record {
+      text = stops.text;
+      came = stops.came;
+      front = begins (take (most_text size) stops.text) output.written put.written
+          (front_all output.written put.written _ (subst (λ (g : List ℕ). Appends output.written put.written g) (all_frames stops.text stops.many) stops.gained));
+    }
+    leaves_front (errors.Outside outsides.SinkFault) stops = record {
+      text = stops.text;
+      came = stops.came;
+      front = elim stops.front [
+        | inl front ↦ begins (take (most_text size) stops.text) output.written put.written front
+        | inr whole ↦ all_fits stops.text output.written put.written whole.short whole.front
+      ];
+    }
+    leaves_front error stops = absurd stops

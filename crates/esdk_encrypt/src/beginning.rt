@@ -1,0 +1,52 @@
+//! The sealer of a message that begins.
+
+ghost use Rattle.std.specs.Prelude.{◌≡◌, ◌≤◌, [], None, All, IfErr, IfOk, OnOk};
+ghost use Rattle.edk_codec.specs.Entry.{IsEntry};
+ghost use Rattle.stream_seal.specs.Stands.{Stands};
+ghost use Rattle.stream_seal.specs.Start.{start_refusal};
+ghost use Rattle.esdk_encrypt.specs.Encrypt.{StartsNot};
+ghost use Rattle.esdk_encrypt.specs.Feeding.{session_of};
+
+use crate::errors::EncryptError;
+use crate::options::EncryptOptions;
+use edk_codec::DataKeyEntry;
+use keyring_trait::EncMaterials;
+use std::alloc::Global;
+use stream_seal::{SealError, Sealer};
+
+/// The sealer of a message with these materials, under this id, which takes any length of text.
+///
+/// Q7 `TooManyDataKeys`, where there are more entries than the limit; Q8 `HeaderTooLong`, where the header would be too long; `Memory`, where memory runs
+/// out.
+pub(crate) fn begin(
+    alloc: Global,
+    materials: &EncMaterials,
+    options: EncryptOptions,
+    message_id: &[u8; 32],
+) -> Result<Sealer, EncryptError>
+    requires some { 1 ≤ options.frame_length }
+    ensures stands { IfOk result (λ sealer. Stands sealer (session_of materials.now options.frame_length message_id.now [])) }
+    ensures taken { OnOk result (start_refusal materials.now options.max_keys message_id.now ≡ None) }
+    ensures cause { IfErr result (StartsNot (start_refusal materials.now options.max_keys message_id.now)) }
+    ensures each { All IsEntry materials.now.entries }
+{
+    are_entries(materials.entries());
+    let length = options.frame_length;
+    match Sealer::begin(alloc, materials, None, length, options.max_keys, message_id) {
+        Ok(sealer) => Ok(sealer),
+        Err(SealError::Refusal(refusal)) => Err(EncryptError::Refusal(refusal)),
+        Err(SealError::Memory) => Err(EncryptError::Memory),
+        // A new sealer hasn't stopped.
+        Err(SealError::Stopped) => unreachable!(),
+    }
+}
+
+/// Says of entries what their type keeps: no part of one has more than 65,535 bytes.
+fn are_entries(entries: &[DataKeyEntry])
+    ensures { All IsEntry entries.now }
+{
+    for entry in entries {
+        // Called for its clause alone.
+        let _provider = entry.provider();
+    }
+}
