@@ -1,6 +1,6 @@
 -- From the members of a multi-keyring to the multi-keyring.
 use Rattle.std.proofs.Common.{◌≡◌, ℕ, ◌+◌, ◌*◌, ◌≤◌, min, nat_lt, Bool, true, false, List, [], ◌∷◌, ◌++◌, length, take, drop, map, Option, Some, None, sym, ◌∙◌, subst, arith}
-use Rattle.std.specs.Prelude.{is_some, IfSome, Result, Ok, Err, if◌then◌else◌}
+use Rattle.std.specs.Prelude.{is_some, IfOk, IfSome, Result, Ok, Err, if◌then◌else◌}
 use Rattle.std.proofs.lemmas.List.{take-append-le, drop-append-le, length-drop, take-append-drop}
 use Rattle.context_codec.specs.Context.{KeyValue}
 use Rattle.edk_codec.specs.Entry.{Entry}
@@ -111,6 +111,16 @@ generator_wraps {P = P} leaf members o c random own others handed drawn made has
     rw (none, all_is)
     (joined_wraps (is_some members.generator) (tree_meaning leaf o ∷ map (tree_meaning leaf) members.children.items) c random None made little key
     (subst (λ (k : List ℕ). Appends (tree_meaning leaf o ∷ map (tree_meaning leaf) members.children.items) c k (drop 32 random) [] made.entries) (sym same) together))
+
+-- the same of what the children answer
+pub generator_answers : {P E : Type 0} (leaf : P → KeyringMeaning) (members : Members P) (o : Node P) (c : List KeyValue) (random own others : List ℕ) (handed : Option (List ℕ)) (drawn : WrappedValue)
+    (answer : Result WrappedValue E) → members.generator ≡ Some o → AllCounted (map (tree_meaning leaf) (all_of members)) → all_wraps (map (tree_meaning leaf) (all_of members)) ≤ 64 → handed ≡ None
+    → random ≡ own ++ others → length own ≡ 32 + 12 * (tree_meaning leaf o).wraps → Wraps (tree_meaning leaf o) c own None drawn
+    → IfOk answer (λ wrapped. Appends (map (tree_meaning leaf) members.children.items) c drawn.key others drawn.entries wrapped.entries) → IfOk answer (λ wrapped. wrapped.key ≡ drawn.key)
+    → IfOk answer (Wraps (joined (is_some members.generator) (map (tree_meaning leaf) (all_of members))) c random handed)
+generator_answers leaf members o c random own others handed drawn (Ok wrapped) has counted few none random_is long wraps appends same =
+    generator_wraps leaf members o c random own others handed drawn wrapped has counted few none random_is long wraps appends same
+generator_answers leaf members o c random own others handed drawn (Err error) has counted few none random_is long wraps appends same = tt
 
 -- a generator that fails leaves the children as they were
 pub generator_kept : {P : Type 0} (leaf : P → KeyringMeaning) (members : Members P) (o n : Node P) → members.generator ≡ Some o → Kept leaf o n

@@ -13,7 +13,6 @@ use crate::making::MAX_WRAPS;
 use crate::tree::{Members, Multi, Node};
 use crate::wraps::entry_count_of;
 use context_codec::Context;
-use edk_codec::DataKeyEntry;
 use keyring_trait::{DataKey, Keyring, RingError, RingRefusal, Wrapped};
 use std::alloc::Global;
 
@@ -100,33 +99,15 @@ impl<P: Keyring> Members<P> {
         }
         match key {
             Some(key) => {
-                let mut entries = Vec::new(alloc);
-                wrap_with_all(
-                    &mut self.children,
-                    alloc,
-                    context,
-                    random,
-                    key,
-                    &mut entries,
-                )?;
-                Ok(Wrapped::new(*key, entries))
+                let begun = Wrapped::new(*key, Vec::new(alloc));
+                wrap_with_all(&mut self.children, alloc, context, random, begun)
             }
             None => match &mut self.generator {
                 Some(generator) => {
                     let own = 32 + 12 * generator.entry_count() as usize;
                     let (own, others) = random.split_at(own);
-                    let (key, mut entries) = generator
-                        .encrypt(alloc, context, own, None)?
-                        .into_parts();
-                    wrap_with_all(
-                        &mut self.children,
-                        alloc,
-                        context,
-                        others,
-                        &key,
-                        &mut entries,
-                    )?;
-                    Ok(Wrapped::new(key, entries))
+                    let begun = generator.encrypt(alloc, context, own, None)?;
+                    wrap_with_all(&mut self.children, alloc, context, others, begun)
                 }
                 None => Err(RingError::Refused(RingRefusal::NoGenerator)),
             },
@@ -134,35 +115,36 @@ impl<P: Keyring> Members<P> {
     }
 }
 
-/// Has each of these trees wrap the data key, with the next random bytes as IVs, and appends what they make.
+/// Has each of these trees wrap the data key, with the next random bytes as IVs, and puts what they make behind the entries there are.
 #[cycle(encrypt)]
 fn wrap_with_all<P: Keyring>(
     nodes: &mut Vec<Node<P>>,
     alloc: Global,
     context: &Context,
     random: &[u8],
-    key: &DataKey,
-    entries: &mut Vec<DataKeyEntry>,
-) -> Result<(), RingError>
+    begun: Wrapped,
+) -> Result<Wrapped, RingError>
     requires few { length nodes.old.items < 2 ^ 32 }
     requires takes { first_refusal (map (tree_meaning P.meaning) nodes.old.items) ≡ None }
     requires room { length random.now ≡ 12 * all_wraps (map (tree_meaning P.meaning) nodes.old.items) }
     ensures stays { Stays P.meaning nodes.old.items nodes.new.items }
-    ensures appends { OnOk result
-        (Appends (map (tree_meaning P.meaning) nodes.old.items) context.now key.now random.now entries.old.items entries.new.items) }
+    ensures key { IfOk result (λ wrapped. wrapped.key ≡ begun.key) }
+    ensures appends { IfOk result
+        (λ wrapped. Appends (map (tree_meaning P.meaning) nodes.old.items) context.now begun.key random.now begun.entries wrapped.entries) }
     ensures cause { IfErr result
         (WrapCause None (all_faults (map (tree_meaning P.meaning) nodes.old.items)) (all_faults (map (tree_meaning P.meaning) nodes.new.items))) }
 {
     // Called for its clauses alone: a tree that isn't asked goes on as it is.
     let _count = entry_count_of(nodes);
+    let (key, mut entries) = begun.into_parts();
     let mut rest = random;
     for i in 0..nodes.len() {
         let node = &mut nodes[i];
         let (own, others) = rest.split_at(12 * node.entry_count() as usize);
-        let wrapped = node.encrypt(alloc, context, own, Some(key))?;
+        let wrapped = node.encrypt(alloc, context, own, Some(&key))?;
         let (_, mut made) = wrapped.into_parts();
         entries.append(&mut made)?;
         rest = others;
     }
-    Ok(())
+    Ok(Wrapped::new(key, entries))
 }

@@ -10,7 +10,7 @@ use Rattle.multi_keyring.proofs.Meanings.{meanings-forest, row_is, joined_row}
 use Rattle.multi_keyring.proofs.Finding.{stays_same}
 use Rattle.multi_keyring.proofs.Appending.{begins, err_is, kept_here, cause_here, step_here}
 use Rattle.multi_keyring.proofs.Unvisited.{still_unvisited}
-use Rattle.multi_keyring.proofs.Multis.{value_of, height_stays, value_height, multi_goes, split_is, generator_wraps, generator_kept}
+use Rattle.multi_keyring.proofs.Multis.{value_of, height_stays, value_height, multi_goes, split_is, generator_answers, generator_kept}
 use Rattle.multi_keyring.proofs.+encrypt.Goals as goal
 
 pub tree::Members::encrypt-returns-in-Some-clause-stays :
@@ -21,19 +21,20 @@ pub tree::Members::encrypt-returns-then-wraps-gt-MAX_WRAPS-clause-stays :
     goal.tree::Members::encrypt-returns-then-wraps-gt-MAX_WRAPS-clause-stays
 tree::Members::encrypt-returns-then-wraps-gt-MAX_WRAPS-clause-stays g t c = stays_same g.P.Keyring.meaning (all_of c.args.self.now) c.entry_count-wraps.ensures.counted
 
-pub tree::Members::encrypt-returns-in_err-encrypt-in-Some-generator-clause-stays :
-    goal.tree::Members::encrypt-returns-in_err-encrypt-in-Some-generator-clause-stays
-tree::Members::encrypt-returns-in_err-encrypt-in-Some-generator-clause-stays g t c =
+pub tree::Members::encrypt-returns-in_err-begun-in-Some-generator-clause-stays :
+    goal.tree::Members::encrypt-returns-in_err-begun-in-Some-generator-clause-stays
+tree::Members::encrypt-returns-in_err-begun-in-Some-generator-clause-stays g t c =
     generator_kept g.P.Keyring.meaning c.args.self.now c.in-Some-generator.generator c.encrypt.new.self c.in-Some-generator.is
     (record { height = c.encrypt.ensures.height; goes = c.encrypt.ensures.goes }) c.entry_count-wraps.ensures.counted
 
-pub tree::Members::encrypt-returns-in_ok-wrap_with_all-in-Some-generator-clause-wraps :
-    goal.tree::Members::encrypt-returns-in_ok-wrap_with_all-in-Some-generator-clause-wraps
-tree::Members::encrypt-returns-in_ok-wrap_with_all-in-Some-generator-clause-wraps g t c =
-    generator_wraps g.P.Keyring.meaning c.args.self.now c.in-Some-generator.generator c.args.context.now c.args.random.now c.split_at.result.0.now c.split_at.result.1.now (option_copied c.args.key)
-    c.in_ok-encrypt-in-Some-generator.field-0 c.new-in-Some-generator.result c.in-Some-generator.is c.entry_count-wraps.ensures.counted (search rules) (ap option_copied c.in-None.is)
+pub tree::Members::encrypt-returns-in_ok-begun-in-Some-generator-clause-wraps :
+    goal.tree::Members::encrypt-returns-in_ok-begun-in-Some-generator-clause-wraps
+tree::Members::encrypt-returns-in_ok-begun-in-Some-generator-clause-wraps g t c =
+    generator_answers g.P.Keyring.meaning c.args.self.now c.in-Some-generator.generator c.args.context.now c.args.random.now c.split_at.result.0.now c.split_at.result.1.now (option_copied c.args.key)
+    c.in_ok-begun-in-Some-generator.begun c.wrap_with_all-in-Some-generator.result c.in-Some-generator.is c.entry_count-wraps.ensures.counted (search rules) (ap option_copied c.in-None.is)
     (split_is _ c.args.random.now c.split_at.result.0.now c.split_at.result.1.now c.split_at.ensures.front c.split_at.ensures.back)
-    (omega (arith, c.split_at.ensures.front_len, c.entry_count.ensures.value)) c.in_ok-encrypt-in-Some-generator.ensures.wraps (search rules) (search rules)
+    (omega (arith, c.split_at.ensures.front_len, c.entry_count.ensures.value)) c.in_ok-begun-in-Some-generator.ensures.wraps c.wrap_with_all-in-Some-generator.ensures.appends
+    c.wrap_with_all-in-Some-generator.ensures.key
 
 pub tree::Multi::encrypt-encrypt-requires : goal.tree::Multi::encrypt-encrypt-requires
 tree::Multi::encrypt-encrypt-requires g t c κs within = (
@@ -78,8 +79,9 @@ tree::Multi::encrypt-returns-clause-cause g t c =
 pub wrapping::wrap_with_all-loop-i-init : goal.wrapping::wrap_with_all-loop-i-init
 wrapping::wrap_with_all-loop-i-init g t c = (
   search rules,
-  begins g.P.Keyring.meaning c.args.nodes.now.items c.deref.result.now c.args.context.now c.args.key.now c.args.random.now c.args.entries.now.items c.deref.ensures.value
-      c.entry_count_of-count.ensures.counted c.requires.takes c.requires.room,
+  rw c.into_parts-key.ensures.entries (begins g.P.Keyring.meaning c.args.nodes.now.items c.deref.result.now c.args.context.now c.args.begun.key c.args.random.now c.args.begun.entries
+      c.deref.ensures.value c.entry_count_of-count.ensures.counted c.requires.takes c.requires.room),
+  c.into_parts-key.ensures.key,
 )
 
 pub wrapping::wrap_with_all-returns-in_err-wrapped-clause-cause :
@@ -89,29 +91,30 @@ wrapping::wrap_with_all-returns-in_err-wrapped-clause-cause g t c =
     (WrapCause None (all_faults (map (tree_meaning g.P.Keyring.meaning) c.args.nodes.now.items))
     (all_faults (map (tree_meaning g.P.Keyring.meaning) (slice_set c.loop-i.nodes.items c.loop-i.i c.encrypt.new.self))))
     (search rules)
-    (cause_here g.P.Keyring.meaning c.args.nodes.now.items c.loop-i.nodes.items c.loop-i.i c.args.context.now c.args.key.now c.args.random.now c.loop-i.rest.now c.args.entries.now.items
+    (cause_here g.P.Keyring.meaning c.args.nodes.now.items c.loop-i.nodes.items c.loop-i.i c.args.context.now c.args.begun.key c.args.random.now c.loop-i.rest.now c.args.begun.entries
     c.loop-i.entries.items c.index_mut-node.result.now c.encrypt.new.self c.in_err-wrapped.field-0.0 c.loop-i.invariant.1 (search rules) (search rules) c.in_err-wrapped.ensures.cause)
 
 pub wrapping::wrap_with_all-returns-in_err-append-clause-stays :
     goal.wrapping::wrap_with_all-returns-in_err-append-clause-stays
 wrapping::wrap_with_all-returns-in_err-append-clause-stays g t c =
-    kept_here g.P.Keyring.meaning c.args.nodes.now.items c.loop-i.nodes.items c.loop-i.i c.args.context.now c.args.key.now c.args.random.now c.loop-i.rest.now c.args.entries.now.items
+    kept_here g.P.Keyring.meaning c.args.nodes.now.items c.loop-i.nodes.items c.loop-i.i c.args.context.now c.args.begun.key c.args.random.now c.loop-i.rest.now c.args.begun.entries
     c.loop-i.entries.items c.index_mut-node.result.now c.encrypt.new.self c.loop-i.invariant.1 (search rules) (search rules) (record { height = c.encrypt.ensures.height; goes = c.encrypt.ensures.goes })
 
 pub wrapping::wrap_with_all-returns-in_err-wrapped-clause-stays :
     goal.wrapping::wrap_with_all-returns-in_err-wrapped-clause-stays
 wrapping::wrap_with_all-returns-in_err-wrapped-clause-stays g t c =
-    kept_here g.P.Keyring.meaning c.args.nodes.now.items c.loop-i.nodes.items c.loop-i.i c.args.context.now c.args.key.now c.args.random.now c.loop-i.rest.now c.args.entries.now.items
+    kept_here g.P.Keyring.meaning c.args.nodes.now.items c.loop-i.nodes.items c.loop-i.i c.args.context.now c.args.begun.key c.args.random.now c.loop-i.rest.now c.args.begun.entries
     c.loop-i.entries.items c.index_mut-node.result.now c.encrypt.new.self c.loop-i.invariant.1 (search rules) (search rules) (record { height = c.encrypt.ensures.height; goes = c.encrypt.ensures.goes })
 
 pub wrapping::wrap_with_all-loop-i-preserved : goal.wrapping::wrap_with_all-loop-i-preserved
 wrapping::wrap_with_all-loop-i-preserved g t c = (
   still_unvisited c.loop-i.nodes.items c.args.nodes.now.items c.loop-i.i c.encrypt.new.self c.loop-i.invariant.0,
-  step_here g.P.Keyring.meaning c.args.nodes.now.items c.loop-i.nodes.items c.loop-i.i c.args.context.now c.args.key.now c.args.random.now c.loop-i.rest.now c.split_at.result.0.now
-      c.split_at.result.1.now c.args.entries.now.items c.loop-i.entries.items c.append.new.self.items c.index_mut-node.result.now c.encrypt.new.self c.in_ok-wrapped.wrapped c.loop-i.invariant.1
+  step_here g.P.Keyring.meaning c.args.nodes.now.items c.loop-i.nodes.items c.loop-i.i c.args.context.now c.args.begun.key c.args.random.now c.loop-i.rest.now c.split_at.result.0.now
+      c.split_at.result.1.now c.args.begun.entries c.loop-i.entries.items c.append.new.self.items c.index_mut-node.result.now c.encrypt.new.self c.in_ok-wrapped.wrapped c.loop-i.invariant.1
       (search rules) (search rules)
       (split_is _ c.loop-i.rest.now c.split_at.result.0.now c.split_at.result.1.now c.split_at.ensures.front c.split_at.ensures.back)
       (omega (arith, c.split_at.ensures.front_len, c.entry_count.ensures.value))
-      (record { kept = record { height = c.encrypt.ensures.height; goes = c.encrypt.ensures.goes }; wraps = c.in_ok-wrapped.ensures.wraps })
+      (record { kept = record { height = c.encrypt.ensures.height; goes = c.encrypt.ensures.goes }; wraps = rw c.loop-i.invariant.2 at c.in_ok-wrapped.ensures.wraps })
       (search rules),
+  c.loop-i.invariant.2,
 )

@@ -1,4 +1,5 @@
 -- Between two calls some trees have wrapped the data key, and the others stand as they did.
+use Rattle.std.proofs.Common.{◌≡◌}
 use Rattle.multi_keyring.proofs.Appending.{Midway}
 use Rattle.multi_keyring.proofs.+encrypt.Given as goal
 
@@ -6,4 +7,5 @@ abbrev pub invariant-wrapping::wrap_with_all-loop-i :
     goal.invariant-wrapping::wrap_with_all-loop-i
 invariant-wrapping::wrap_with_all-loop-i g l =
     goal.unvisited-wrapping::wrap_with_all-loop-i g l
-    × Midway g.P.Keyring.meaning l.initial.nodes.items l.nodes.items l.i l.context l.key l.random l.rest l.initial.entries.items l.entries.items
+    × Midway g.P.Keyring.meaning l.initial.nodes.items l.nodes.items l.i l.context l.fn.begun.key l.random l.rest l.fn.begun.entries l.entries.items
+    × (l.key ≡ l.fn.begun.key)
