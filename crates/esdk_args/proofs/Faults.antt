@@ -24,7 +24,7 @@ StepsFail command options fault = HasFault (number_given (first_of command) opti
 step_named : (command : Command) (words : List (List ℕ)) (options : OptionsValue) (fault : WordsFault) → AreForm command words options → StepsFail command options fault → words_of words ≡ Err fault
 step_named command words options fault form fails =
     command_words command words options form
-    ∙ steps_fail (number_given (first_of command) options.first) (number_given (second_of command) options.second) (pairs_of options.pairs) (made command options.keyring) fault fails
+    ∙ steps_fail (number_given (first_of command) options.first) (number_given (second_of command) options.second) (pairs_of options.pairs) (made command options.keyring options.uncommitted) fault fails
 
 -- the fault that words of a command have
 data HaveFault (words : List (List ℕ)) (fault : WordsFault) : Type 0 where
@@ -53,7 +53,7 @@ by_step command words options fault form (in_pairs one two first second e) =
 fault_of : (command : Command) (words : List (List ℕ)) (options : OptionsValue) (fault : WordsFault) → AreForm command words options → request_with command options ≡ Err fault → HaveFault words fault
 fault_of command words options fault form e =
     by_step command words options fault form
-    (faulty (number_given (first_of command) options.first) (number_given (second_of command) options.second) (pairs_of options.pairs) (made command options.keyring) fault e)
+    (faulty (number_given (first_of command) options.first) (number_given (second_of command) options.second) (pairs_of options.pairs) (made command options.keyring options.uncommitted) fault e)
 
 -- the fault of a migration is that of its number
 retire_fault : (words : List (List ℕ)) (migration : MigrationValue) (fault : WordsFault) → AreMigration words migration → migrate_of migration ≡ Err fault → HaveFault words fault
@@ -75,7 +75,7 @@ are_faulty : (words : List (List ℕ)) (fault : WordsFault) → words_of words �
 are_faulty words fault e = by_kind (kind words)
   where
     by_kind : Kind words → AreFaulty words fault
-    by_kind (of_list are is) = absurd cc
+    by_kind (of_list uncommitted are is) = absurd cc
     by_kind (of_command command options form is) = built (fault_of command words options fault form (sym is ∙ e))
     by_kind (of_migration migration form is) = built (retire_fault words migration fault form (sym is ∙ e))
     by_kind (of_none none is) = not_built none (cc (sym is ∙ e))
@@ -87,7 +87,7 @@ none_read words form none some = cc
 
 no_form : (words : List (List ℕ)) → form_of words ≡ None → AreNoForm words
 no_form words none = (
-  λ is. none_read words list none (form_read words list is),
+  λ uncommitted is. none_read words (list uncommitted) none (form_read words (list uncommitted) is),
   λ command options form. none_read words (form_with command options) none (form_read words (form_with command options) (with_command command words options form)),
   λ migration form. none_read words (migrate migration) none (form_read words (migrate migration) form),
 )
@@ -104,7 +104,7 @@ pub not_built_when : (words : List (List ℕ)) → AreNoForm words → words_of 
 not_built_when words other = by_kind (kind words)
   where
     by_kind : Kind words → words_of words ≡ Err NotBuilt
-    by_kind (of_list are is) = absurd (other.0 are)
+    by_kind (of_list uncommitted are is) = absurd (other.0 uncommitted are)
     by_kind (of_command command options form is) = absurd (other.1 command options form)
     by_kind (of_migration migration form is) = absurd (other.2 migration form)
     by_kind (of_none none is) = is

@@ -10,9 +10,9 @@ use Rattle.std.proofs.lemmas.List.Sums.{AllPass-from_list_all, list_all-from_All
 use Rattle.std.proofs.lemmas.Slice.Eq.{bytes_eq-Decides}
 use Rattle.esdk_args.specs.declared.options.OptionName.{OptionName}
 use Rattle.esdk_args.specs.declared.options.OptionName.TheVariants.{Frame, MaxKeys, MaxUnit, Retire}
-use Rattle.esdk_args.specs.Options.{option_text}
-use Rattle.esdk_args.specs.Form.{OptionsValue, MigrationValue, FormValue, list, encrypt, decrypt, migrate, is_value, gives, option_at, options_of, migration_of, list_form, form_of}
-use Rattle.esdk_args.specs.Spelling.{AreForm, AreMigration, Command, IsValue, command_text, decryption, encryption, first_of, option_words, second_of}
+use Rattle.esdk_args.specs.Options.{option_text, flag_text}
+use Rattle.esdk_args.specs.Form.{OptionsValue, MigrationValue, FormValue, list, encrypt, decrypt, migrate, is_value, gives, option_at, flag_at, flag_of, options_of, migration_of, list_form, form_of}
+use Rattle.esdk_args.specs.Spelling.{AreForm, AreMigration, Command, IsValue, command_text, decryption, encryption, first_of, flag_words, has_flag, option_words, second_of}
 
 -- ---- words and their values
 
@@ -95,6 +95,51 @@ unlike_options : (command : Command) → option_text (first_of command) ≢ opti
 unlike_options encryption e = absurd (omega (arith, ap (λ l. get_or l 2 0) e))
 unlike_options decryption e = absurd (omega (arith, ap (λ l. get_or l 6 0) e))
 
+-- ---- the flag
+
+-- the words are the flag, if it stands there, and the words behind it; only a command that has the flag is given it
+record FlagStands (has : Bool) (words : List (List ℕ)) (found : Bool × List (List ℕ)) : Type 0 where
+  are : words ≡ flag_words found.0 ++ found.1
+  may : found.0 ≡ true → has ≡ true
+
+flag_word : (word : List ℕ) (rest : List (List ℕ)) (b : Bool) → bytes_eq word flag_text ≡ b → FlagStands true (word ∷ rest) (if b then (true, rest) else (false, word ∷ rest))
+flag_word word rest true e = record { are = ap (λ w. w ∷ rest) (same_word word flag_text e); may = λ given. refl }
+flag_word word rest false e = record { are = refl; may = λ given. refl }
+
+flag_found : (words : List (List ℕ)) → FlagStands true words (flag_at words)
+flag_found [] = record { are = refl; may = λ given. refl }
+flag_found (word ∷ rest) = flag_word word rest (bytes_eq word flag_text) refl
+
+flag_stands : (has : Bool) (words : List (List ℕ)) → FlagStands has words (flag_of has words)
+flag_stands true words = flag_found words
+flag_stands false words = record { are = refl; may = λ given. given }
+
+-- pair words don't begin with the flag
+no_flag : (words : List (List ℕ)) → All IsValue words → flag_at words ≡ (false, words)
+no_flag [] values = refl
+no_flag (word ∷ rest) values = rw (false_from_ne_true (bytes_eq word flag_text) (λ e. values 0 [] (omega arith) (drop 1 flag_text) (same_word word flag_text e))) refl
+
+-- the flag is read back
+flag_front : (given : Bool) (words : List (List ℕ)) → All IsValue words → flag_at (flag_words given ++ words) ≡ (given, words)
+flag_front true words values = rw ((bytes_eq-Decides flag_text flag_text).1 refl) refl
+flag_front false words values = no_flag words values
+
+flag_read : (has given : Bool) (words : List (List ℕ)) → (given ≡ true → has ≡ true) → All IsValue words → flag_of has (flag_words given ++ words) ≡ (given, words)
+flag_read true given words may values = flag_front given words values
+flag_read false true words may values = let never = may refl in absurd cc
+flag_read false false words may values = refl
+
+unlike_flag : (name : OptionName) → flag_text ≢ option_text name
+unlike_flag Frame e = absurd (omega (arith, ap (λ l. get_or l 2 0) e))
+unlike_flag MaxKeys e = absurd (omega (arith, ap (λ l. get_or l 2 0) e))
+unlike_flag MaxUnit e = absurd (omega (arith, ap (λ l. get_or l 2 0) e))
+unlike_flag Retire e = absurd (omega (arith, ap (λ l. get_or l 2 0) e))
+
+-- the flag and pair words begin with no option
+other_flag : (name : OptionName) (given : Bool) (words : List (List ℕ)) → All IsValue words → IsOther (option_text name) (flag_words given ++ words)
+other_flag name true words values = λ rest is. unlike_flag name (ap (λ l. get_or l 0 []) is)
+other_flag name false words values = no_option name words values
+
 -- ---- the options of a command
 
 abbrev keyring_text : List ℕ
@@ -103,14 +148,15 @@ keyring_text = codes "--keyring"
 -- the words behind the value of `--keyring`
 abbrev behind_keyring : Command → OptionsValue → List (List ℕ)
 behind_keyring command options =
-    option_words (option_text (first_of command)) options.first ++ option_words (option_text (second_of command)) options.second ++ options.pairs
+    option_words (option_text (first_of command)) options.first ++ option_words (option_text (second_of command)) options.second ++ flag_words options.uncommitted ++ options.pairs
 
 -- what the value of `--keyring` and the words behind it are read as
 abbrev options_with : Command → Option (List ℕ) → List (List ℕ) → Option OptionsValue
 options_with command keyring behind =
     let one = option_at (option_text (first_of command)) behind in
     let two = option_at (option_text (second_of command)) one.1 in
-    if list_all is_value two.1 then option_map (λ name. record { keyring = name; first = one.0; second = two.0; pairs = two.1 }) keyring else None
+    let flag = flag_of (has_flag command) two.1 in
+    if list_all is_value flag.1 then option_map (λ name. record { keyring = name; first = one.0; second = two.0; uncommitted = flag.0; pairs = flag.1 }) keyring else None
 
 picked : {A : Type 0} → (b : Bool) (found : Option A) (value : A) → (if b then found else None) ≡ Some value → (b ≡ true) × (found ≡ Some value)
 picked true found value e = (refl, e)
@@ -125,23 +171,27 @@ found_behind command words behind None options at e = absurd (none (picked _ Non
 found_behind command words behind (Some name) options at e =
     let one = option_at (option_text (first_of command)) behind in
     let two = option_at (option_text (second_of command)) one.1 in
-    let read : OptionsValue = record { keyring = name; first = one.0; second = two.0; pairs = two.1 } in
-    let t = picked (list_all is_value two.1) (Some read) options e in
+    let flag = flag_of (has_flag command) two.1 in
+    let read : OptionsValue = record { keyring = name; first = one.0; second = two.0; uncommitted = flag.0; pairs = flag.1 } in
+    let t = picked (list_all is_value flag.1) (Some read) options e in
     let first = stands (option_text (first_of command)) behind in
     let second = stands (option_text (second_of command)) one.1 in
+    let given = flag_stands (has_flag command) two.1 in
     let one_words = option_words (option_text (first_of command)) one.0 in
     let two_words = option_words (option_text (second_of command)) two.0 in
     subst (AreForm command (command_text command ∷ words)) (cc t.1) (record {
       are = ap (λ l. command_text command ∷ l) (at.are
-          ∙ ap (λ l. keyring_text ∷ name ∷ l) (first.are ∙ ap (λ l. one_words ++ l) second.are ∙ sym (append_assoc one_words two_words two.1)));
+          ∙ ap (λ l. keyring_text ∷ name ∷ l) (first.are ∙ ap (λ l. one_words ++ l) second.are ∙ sym (append_assoc one_words two_words two.1)
+          ∙ ap (λ l. one_words ++ two_words ++ l) given.are ∙ sym (append_assoc (one_words ++ two_words) (flag_words flag.0) flag.1)));
       keyring = at.value;
       first = first.value;
       second = second.value;
-      pairs = values_of two.1 t.0;
+      flag = given.may;
+      pairs = values_of flag.1 t.0;
     })
 
 -- what the words behind a command are read as is what stands there
-options_found : (command : Command) (words : List (List ℕ)) (options : OptionsValue) → options_of (first_of command) (second_of command) words ≡ Some options
+options_found : (command : Command) (words : List (List ℕ)) (options : OptionsValue) → options_of (first_of command) (second_of command) (has_flag command) words ≡ Some options
     → AreForm command (command_text command ∷ words) options
 unfolding options_of
 options_found command words options e =
@@ -150,15 +200,21 @@ options_found command words options e =
 
 -- the words of options are read as these
 options_read : (command : Command) (words : List (List ℕ)) (options : OptionsValue) → AreForm command words options
-    → options_of (first_of command) (second_of command) (keyring_text ∷ options.keyring ∷ behind_keyring command options) ≡ Some options
+    → options_of (first_of command) (second_of command) (has_flag command) (keyring_text ∷ options.keyring ∷ behind_keyring command options) ≡ Some options
 unfolding options_of
 options_read command words options form =
     let first = option_text (first_of command) in
     let second = option_text (second_of command) in
-    let behind = option_words second options.second ++ options.pairs in
-    let one = at_front first options.first behind form.first (other_option first second options.second options.pairs (unlike_options command) (no_option (first_of command) options.pairs form.pairs)) in
-    let two = at_front second options.second options.pairs form.second (no_option (second_of command) options.pairs form.pairs) in
-    rw (gives_value keyring_text options.keyring form.keyring, append_assoc (option_words first options.first) (option_words second options.second) options.pairs, one, two, values_are options.pairs form.pairs) refl
+    let rest = flag_words options.uncommitted ++ options.pairs in
+    let behind = option_words second options.second ++ rest in
+    let one = at_front first options.first behind form.first
+    (other_option first second options.second rest (unlike_options command) (other_flag (first_of command) options.uncommitted options.pairs form.pairs)) in
+    let two = at_front second options.second rest form.second (other_flag (second_of command) options.uncommitted options.pairs form.pairs) in
+    let three = flag_read (has_flag command) options.uncommitted options.pairs form.flag form.pairs in
+    let joined : behind_keyring command options ≡ option_words first options.first ++ behind =
+    append_assoc (option_words first options.first ++ option_words second options.second) (flag_words options.uncommitted) options.pairs
+    ∙ append_assoc (option_words first options.first) (option_words second options.second) rest in
+    rw (gives_value keyring_text options.keyring form.keyring, joined, one, two, three, values_are options.pairs form.pairs) refl
 
 -- ---- the options of `migrate`
 
@@ -220,24 +276,26 @@ form_with decryption options = decrypt options
 
 -- the words are of this form
 abbrev pub IsFormOf : List (List ℕ) → FormValue → Type 0
-IsFormOf words list = words ≡ codes "list" ∷ []
+IsFormOf words (list uncommitted) = words ≡ codes "list" ∷ flag_words uncommitted
 IsFormOf words (encrypt options) = AreForm encryption words options
 IsFormOf words (decrypt options) = AreForm decryption words options
 IsFormOf words (migrate migration) = AreMigration words migration
 
 at_list : (word : List ℕ) (rest : List (List ℕ)) (form : FormValue) → word ≡ codes "list" → list_form rest ≡ Some form → IsFormOf (word ∷ rest) form
-at_list word [] list is e = ap (λ w. w ∷ []) is
-at_list word [] (encrypt options) is e = absurd cc
-at_list word [] (decrypt options) is e = absurd cc
-at_list word [] (migrate migration) is e = absurd cc
-at_list word (next ∷ rest) form is e = absurd cc
+at_list word rest form is e =
+    let flag = flag_at rest in
+    let t = picked (length flag.1 == 0) (Some (list flag.0)) form e in
+    let same : list flag.0 ≡ form = cc t.1 in
+    let alone : rest ≡ flag_words flag.0 =
+    (flag_found rest).are ∙ ap (λ l. flag_words flag.0 ++ l) (no_words flag.1 t.0) ∙ append-nil (flag_words flag.0) in
+    subst (IsFormOf (word ∷ rest)) same (ap (λ w. w ∷ rest) is ∙ ap (λ l. codes "list" ∷ l) alone)
 
 pub with_command : (command : Command) (words : List (List ℕ)) (options : OptionsValue) → AreForm command words options → IsFormOf words (form_with command options)
 with_command encryption words options form = form
 with_command decryption words options form = form
 
 at_command : (command : Command) (word : List ℕ) (rest : List (List ℕ)) (found : Option OptionsValue) (form : FormValue) → word ≡ command_text command
-    → options_of (first_of command) (second_of command) rest ≡ found → option_map (form_with command) found ≡ Some form → IsFormOf (word ∷ rest) form
+    → options_of (first_of command) (second_of command) (has_flag command) rest ≡ found → option_map (form_with command) found ≡ Some form → IsFormOf (word ∷ rest) form
 at_command command word rest None form is f e = absurd cc
 at_command command word rest (Some options) form is f e =
     let same : form_with command options ≡ form = cc in
@@ -252,11 +310,11 @@ at_migrate word rest (Some migration) form is f e =
     subst (IsFormOf (word ∷ rest)) same (subst (λ w. AreMigration (w ∷ rest) migration) (sym is) (migration_found rest migration f))
 
 by_word : (word : List ℕ) (rest : List (List ℕ)) (form : FormValue) (a b c d : Bool) → bytes_eq word (codes "list") ≡ a → bytes_eq word (codes "encrypt") ≡ b → bytes_eq word (codes "decrypt") ≡ c → bytes_eq word (codes "migrate") ≡ d
-    → (if a then list_form rest else if b then option_map encrypt (options_of Frame MaxKeys rest) else if c then option_map decrypt (options_of MaxKeys MaxUnit rest) else if d then option_map migrate (migration_of rest) else None) ≡ Some form
+    → (if a then list_form rest else if b then option_map encrypt (options_of Frame MaxKeys false rest) else if c then option_map decrypt (options_of MaxKeys MaxUnit true rest) else if d then option_map migrate (migration_of rest) else None) ≡ Some form
     → IsFormOf (word ∷ rest) form
 by_word word rest form true b c d is_a is_b is_c is_d e = at_list word rest form (same_word word (codes "list") is_a) e
-by_word word rest form false true c d is_a is_b is_c is_d e = at_command encryption word rest (options_of Frame MaxKeys rest) form (same_word word (codes "encrypt") is_b) refl e
-by_word word rest form false false true d is_a is_b is_c is_d e = at_command decryption word rest (options_of MaxKeys MaxUnit rest) form (same_word word (codes "decrypt") is_c) refl e
+by_word word rest form false true c d is_a is_b is_c is_d e = at_command encryption word rest (options_of Frame MaxKeys false rest) form (same_word word (codes "encrypt") is_b) refl e
+by_word word rest form false false true d is_a is_b is_c is_d e = at_command decryption word rest (options_of MaxKeys MaxUnit true rest) form (same_word word (codes "decrypt") is_c) refl e
 by_word word rest form false false false true is_a is_b is_c is_d e = at_migrate word rest (migration_of rest) form (same_word word (codes "migrate") is_d) refl e
 by_word word rest form false false false false is_a is_b is_c is_d e = absurd cc
 
@@ -266,11 +324,12 @@ unfolding form_of
 form_found [] form e = absurd cc
 form_found (word ∷ rest) form e = by_word word rest form (bytes_eq word (codes "list")) (bytes_eq word (codes "encrypt")) (bytes_eq word (codes "decrypt")) (bytes_eq word (codes "migrate")) refl refl refl refl e
 
-list_read : form_of (codes "list" ∷ []) ≡ Some list
+list_read : (uncommitted : Bool) → form_of (codes "list" ∷ flag_words uncommitted) ≡ Some (list uncommitted)
 unfolding form_of
-list_read = refl
+list_read true = refl
+list_read false = refl
 
-command_read : (command : Command) (rest : List (List ℕ)) → form_of (command_text command ∷ rest) ≡ option_map (form_with command) (options_of (first_of command) (second_of command) rest)
+command_read : (command : Command) (rest : List (List ℕ)) → form_of (command_text command ∷ rest) ≡ option_map (form_with command) (options_of (first_of command) (second_of command) (has_flag command) rest)
 unfolding form_of
 command_read encryption rest = refl
 command_read decryption rest = refl
@@ -285,7 +344,7 @@ options_form command words options form =
 
 -- words of a form are read as that form
 pub form_read : (words : List (List ℕ)) (form : FormValue) → IsFormOf words form → form_of words ≡ Some form
-form_read words list is = ap form_of is ∙ list_read
+form_read words (list uncommitted) is = ap form_of is ∙ list_read uncommitted
 form_read words (encrypt options) is = options_form encryption words options is
 form_read words (decrypt options) is = options_form decryption words options is
 form_read words (migrate migration) is = ap form_of is.are ∙ migrate_read (keyring_text ∷ migration.keyring ∷ option_words retire_text migration.retire) ∙ ap (option_map migrate) (migration_read words migration is)

@@ -1,5 +1,5 @@
 -- What words are read as: their form, and for a command two numbers and the pairs.
-use Rattle.std.proofs.Common.{◌≡◌, ℕ, List, [], ◌∷◌, refl, ap, ◌∙◌}
+use Rattle.std.proofs.Common.{◌≡◌, ℕ, Bool, List, ◌∷◌, refl, ap, ◌∙◌}
 use Rattle.std.specs.Prelude.{Option, Some, None, Result, Ok, Err, codes}
 use Rattle.std.specs.Option.{unwrap_or}
 use Rattle.esdk_args.specs.declared.options.OptionName.TheVariants.{Frame, MaxKeys}
@@ -13,7 +13,7 @@ use Rattle.esdk_args.specs.PairWords.{pairs_of}
 use Rattle.esdk_args.specs.Faults.{◌>>=◌}
 use Rattle.esdk_args.specs.Numbers.{frame_given, number_given}
 use Rattle.esdk_args.specs.Words.{migrate_of, request_of, words_of}
-use Rattle.esdk_args.specs.Spelling.{AreForm, AreMigration, Command, decryption, encryption, first_of, second_of}
+use Rattle.esdk_args.specs.Spelling.{AreForm, AreMigration, Command, decryption, encryption, first_of, flag_words, second_of}
 use Rattle.esdk_args.proofs.Given.{frame_number}
 use Rattle.esdk_args.proofs.Forms.{form_found, form_read, form_with, with_command}
 
@@ -79,14 +79,14 @@ steps_fail first second pairs make fault (in_pairs one two first_is second_is is
 -- ---- the request of a command
 
 -- what a command makes of them
-abbrev pub made : Command → List ℕ → Making
-made encryption keyring one two named = requests.Encrypt (record { keyring = keyring; frame = unwrap_or one 4096; max_keys = two; pairs = named })
-made decryption keyring one two named = requests.Decrypt (record { keyring = keyring; max_keys = one; max_unit = two; pairs = named })
+abbrev pub made : Command → List ℕ → Bool → Making
+made encryption keyring uncommitted one two named = requests.Encrypt (record { keyring = keyring; frame = unwrap_or one 4096; max_keys = two; pairs = named })
+made decryption keyring uncommitted one two named = requests.Decrypt (record { keyring = keyring; max_keys = one; max_unit = two; uncommitted = uncommitted; pairs = named })
 
 -- the request of a command with these options
 abbrev pub request_with : Command → OptionsValue → Result Request WordsFault
 request_with command options =
-    steps (number_given (first_of command) options.first) (number_given (second_of command) options.second) (pairs_of options.pairs) (made command options.keyring)
+    steps (number_given (first_of command) options.first) (number_given (second_of command) options.second) (pairs_of options.pairs) (made command options.keyring options.uncommitted)
 
 -- it is that of the command's form
 command_request : (command : Command) (options : OptionsValue) → request_of (Some (form_with command options)) ≡ request_with command options
@@ -114,14 +114,14 @@ migration_words words migration form = reads words (Some (migrate migration)) (f
 
 -- what words are
 pub data Kind (words : List (List ℕ)) : Type 0 where
-  of_list : words ≡ codes "list" ∷ [] → words_of words ≡ Ok requests.List → Kind words
+  of_list : (uncommitted : Bool) → words ≡ codes "list" ∷ flag_words uncommitted → words_of words ≡ Ok (requests.List (record { uncommitted = uncommitted })) → Kind words
   of_command : (command : Command) (options : OptionsValue) → AreForm command words options → words_of words ≡ request_with command options → Kind words
   of_migration : (migration : MigrationValue) → AreMigration words migration → words_of words ≡ migrate_of migration → Kind words
   of_none : form_of words ≡ None → words_of words ≡ Err NotBuilt → Kind words
 
 kind_with : (words : List (List ℕ)) (form : Option FormValue) → form_of words ≡ form → Kind words
 kind_with words None is = of_none is (reads words None is)
-kind_with words (Some list) is = of_list (form_found words list is) (reads words (Some list) is)
+kind_with words (Some (list uncommitted)) is = of_list uncommitted (form_found words (list uncommitted) is) (reads words (Some (list uncommitted)) is)
 kind_with words (Some (encrypt options)) is = let form = form_found words (encrypt options) is in of_command encryption options form (command_words encryption words options form)
 kind_with words (Some (decrypt options)) is = let form = form_found words (decrypt options) is in of_command decryption options form (command_words decryption words options form)
 kind_with words (Some (migrate migration)) is = let form = form_found words (migrate migration) is in of_migration migration form (migration_words words migration form)

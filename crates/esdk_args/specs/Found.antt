@@ -10,14 +10,14 @@ use Rattle.esdk_args.specs.Form.{OptionsValue, MigrationValue, FormValue, list, 
 
 -- the options
 abbrev pub options_value : Options → OptionsValue
-options_value options = record { keyring = options.keyring.now; first = option_copied options.first; second = option_copied options.second; pairs = options.pairs.now }
+options_value options = record { keyring = options.keyring.now; first = option_copied options.first; second = option_copied options.second; uncommitted = options.uncommitted; pairs = options.pairs.now }
 
 abbrev pub migration_value : Migration → MigrationValue
 migration_value migration = record { keyring = migration.keyring.now; retire = option_copied migration.retire }
 
 -- the form
 abbrev pub form_value : Form → FormValue
-form_value found.List = list
+form_value (found.List uncommitted) = list uncommitted
 form_value (found.Encrypt options) = encrypt (options_value options)
 form_value (found.Decrypt options) = decrypt (options_value options)
 form_value (found.Migrate migration) = migrate (migration_value migration)

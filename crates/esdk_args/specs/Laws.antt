@@ -1,17 +1,18 @@
 -- What the laws of this crate say of words.
-use Rattle.std.specs.Prelude.{◌≡◌, ◌≢◌, ◌↔◌, ◌≤◌, ◌<◌, ◌+◌, ◌^◌, ℕ, List, [], ◌∷◌, ◌++◌, length, replicate, codes, decimal, Ok, Err}
+use Rattle.std.specs.Prelude.{◌≡◌, ◌≢◌, ◌↔◌, ◌≤◌, ◌<◌, ◌+◌, ◌^◌, ℕ, List, ◌++◌, length, replicate, decimal, Ok, Err}
 use Rattle.esdk_args.specs.declared.options.OptionName.{OptionName}
 use Rattle.esdk_args.specs.declared.request.Request.TheVariants as requests
+use Rattle.esdk_args.specs.declared.request.ListWords.{ListWords}
 use Rattle.esdk_args.specs.declared.request.EncryptWords.{EncryptWords}
 use Rattle.esdk_args.specs.declared.request.DecryptWords.{DecryptWords}
 use Rattle.esdk_args.specs.declared.request.MigrateWords.{MigrateWords}
 use Rattle.esdk_args.specs.declared.request.WordsFault.TheVariants.{NotBuilt, BadNumber, BadPair, Memory}
 use Rattle.esdk_args.specs.Words.{words_of}
-use Rattle.esdk_args.specs.Spelling.{AsksEncrypt, AsksDecrypt, AsksMigrate, AreNoForm, HasBadNumber, HasBadPair, Writes}
+use Rattle.esdk_args.specs.Spelling.{AsksList, AsksEncrypt, AsksDecrypt, AsksMigrate, AreNoForm, HasBadNumber, HasBadPair, Writes}
 
--- The one word `list` asks for a listing, and no other words do.
+-- Words are read as a listing exactly where they ask for it.
 abbrev pub ReadsList : Type 0
-ReadsList = (words : List (List ℕ)) → (words_of words ≡ Ok requests.List) ↔ (words ≡ codes "list" ∷ [])
+ReadsList = (words : List (List ℕ)) (asked : ListWords) → (words_of words ≡ Ok (requests.List asked)) ↔ AsksList words asked
 
 -- Words are read as an encryption exactly where they ask for it.
 abbrev pub ReadsEncrypt : Type 0

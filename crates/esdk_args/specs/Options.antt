@@ -1,4 +1,4 @@
--- The options that take a number.
+-- The options that take a number, and the flag, which takes none.
 use Rattle.std.specs.Prelude.{ℕ, List, codes}
 use Rattle.esdk_args.specs.declared.options.OptionName.{OptionName}
 use Rattle.esdk_args.specs.declared.options.OptionName.TheVariants.{Frame, MaxKeys, MaxUnit, Retire}
@@ -9,6 +9,10 @@ option_text Frame = codes "--frame"
 option_text MaxKeys = codes "--max-keys"
 option_text MaxUnit = codes "--max-unit"
 option_text Retire = codes "--retire"
+
+-- the flag as it is written: messages without a commitment may be read
+abbrev pub flag_text : List ℕ
+flag_text = codes "--allow-uncommitted"
 
 -- the greatest number that it takes; the least is 1
 abbrev pub greatest : OptionName → ℕ

@@ -4,10 +4,11 @@ use Rattle.std.specs.Int.{IsInRange}
 use Rattle.esdk_args.specs.declared.options.OptionName.{OptionName}
 use Rattle.esdk_args.specs.declared.options.OptionName.TheVariants.{Frame, MaxKeys, MaxUnit, Retire}
 use Rattle.esdk_args.specs.declared.pair_words.PairWord.{PairWord}
+use Rattle.esdk_args.specs.declared.request.ListWords.{ListWords}
 use Rattle.esdk_args.specs.declared.request.EncryptWords.{EncryptWords}
 use Rattle.esdk_args.specs.declared.request.DecryptWords.{DecryptWords}
 use Rattle.esdk_args.specs.declared.request.MigrateWords.{MigrateWords}
-use Rattle.esdk_args.specs.Options.{option_text, greatest}
+use Rattle.esdk_args.specs.Options.{option_text, flag_text, greatest}
 use Rattle.esdk_args.specs.Form.{OptionsValue, MigrationValue}
 use Rattle.esdk_args.specs.Numbers.{decimal_value}
 
@@ -66,6 +67,15 @@ MayGive name words (Some n) = GivesNumber name words n
 abbrev pub GivesFrame : List (List ℕ) → ℕ → Type 0
 GivesFrame words frame = ((words ≡ []) × (frame ≡ 4096)) ⊎ GivesNumber Frame words frame
 
+-- nothing, or the flag
+abbrev pub flag_words : Bool → List (List ℕ)
+flag_words true = flag_text ∷ []
+flag_words false = []
+
+-- the words ask for this listing
+abbrev pub AsksList : List (List ℕ) → ListWords → Type 0
+AsksList words asked = words ≡ codes "list" ∷ flag_words asked.uncommitted
+
 -- The words ask for this encryption.
 pub record AsksEncrypt (words : List (List ℕ)) (asked : EncryptWords) : Type 0 where
   pub frame_words : List (List ℕ)
@@ -80,7 +90,7 @@ pub record AsksEncrypt (words : List (List ℕ)) (asked : EncryptWords) : Type 0
 pub record AsksDecrypt (words : List (List ℕ)) (asked : DecryptWords) : Type 0 where
   pub max_keys_words : List (List ℕ)
   pub max_unit_words : List (List ℕ)
-  pub are : words ≡ codes "decrypt" ∷ codes "--keyring" ∷ asked.keyring ∷ max_keys_words ++ max_unit_words ++ map pair_text asked.pairs
+  pub are : words ≡ codes "decrypt" ∷ codes "--keyring" ∷ asked.keyring ∷ max_keys_words ++ max_unit_words ++ flag_words asked.uncommitted ++ map pair_text asked.pairs
   pub keyring : IsValue asked.keyring
   pub max_keys : MayGive MaxKeys max_keys_words asked.max_keys
   pub max_unit : MayGive MaxUnit max_unit_words asked.max_unit
@@ -114,6 +124,11 @@ abbrev pub second_of : Command → OptionName
 second_of encryption = MaxKeys
 second_of decryption = MaxUnit
 
+-- whether the command has the flag
+abbrev pub has_flag : Command → Bool
+has_flag encryption = false
+has_flag decryption = true
+
 -- the option and its value, where it has one
 abbrev pub option_words : List ℕ → Option (List ℕ) → List (List ℕ)
 option_words option (Some value) = option ∷ value ∷ []
@@ -121,10 +136,12 @@ option_words option None = []
 
 -- The words are the command with these values of its options and these pair words.
 pub record AreForm (command : Command) (words : List (List ℕ)) (options : OptionsValue) : Type 0 where
-  pub are : words ≡ command_text command ∷ codes "--keyring" ∷ options.keyring ∷ option_words (option_text (first_of command)) options.first ++ option_words (option_text (second_of command)) options.second ++ options.pairs
+  pub are : words ≡ command_text command ∷ codes "--keyring" ∷ options.keyring ∷ option_words (option_text (first_of command)) options.first ++ option_words (option_text (second_of command)) options.second
+      ++ flag_words options.uncommitted ++ options.pairs
   pub keyring : IsValue options.keyring
   pub first : IfSome options.first IsValue
   pub second : IfSome options.second IsValue
+  pub flag : options.uncommitted ≡ true → has_flag command ≡ true
   pub pairs : All IsValue options.pairs
 
 -- The words are `migrate` with these values of its options.
@@ -135,7 +152,7 @@ pub record AreMigration (words : List (List ℕ)) (migration : MigrationValue) :
 
 -- the words are of no form
 abbrev pub AreNoForm : List (List ℕ) → Type 0
-AreNoForm words = (words ≢ codes "list" ∷ []) × ((command : Command) (options : OptionsValue) → ¬ (AreForm command words options))
+AreNoForm words = ((uncommitted : Bool) → words ≢ codes "list" ∷ flag_words uncommitted) × ((command : Command) (options : OptionsValue) → ¬ (AreForm command words options))
     × ((migration : MigrationValue) → ¬ (AreMigration words migration))
 
 -- the option has no value, or one that writes a number that it takes

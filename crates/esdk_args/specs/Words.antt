@@ -23,7 +23,7 @@ decrypt_of options = do
   max_keys ← number_given MaxKeys options.first
   max_unit ← number_given MaxUnit options.second
   pairs ← pairs_of options.pairs
-  Ok (requests.Decrypt (record { keyring = options.keyring; max_keys = max_keys; max_unit = max_unit; pairs = pairs }))
+  Ok (requests.Decrypt (record { keyring = options.keyring; max_keys = max_keys; max_unit = max_unit; uncommitted = options.uncommitted; pairs = pairs }))
 
 abbrev pub migrate_of : MigrationValue → Result Request WordsFault
 migrate_of migration = do
@@ -33,7 +33,7 @@ migrate_of migration = do
 -- the request of a form
 abbrev pub request_of : Option FormValue → Result Request WordsFault
 request_of None = Err NotBuilt
-request_of (Some list) = Ok requests.List
+request_of (Some (list uncommitted)) = Ok (requests.List (record { uncommitted = uncommitted }))
 request_of (Some (encrypt options)) = encrypt_of options
 request_of (Some (decrypt options)) = decrypt_of options
 request_of (Some (migrate migration)) = migrate_of migration
@@ -44,7 +44,7 @@ words_of words = request_of (form_of words)
 
 -- A frame length is at least 1.
 abbrev pub HasFrame : Request → Type 0
-HasFrame requests.List = Unit {0}
+HasFrame (requests.List asked) = Unit {0}
 HasFrame (requests.Encrypt asked) = 1 ≤ asked.frame
 HasFrame (requests.Decrypt asked) = Unit {0}
 HasFrame (requests.Migrate asked) = Unit {0}

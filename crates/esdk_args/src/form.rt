@@ -3,28 +3,30 @@
 ghost use Rattle.std.specs.Prelude.{◌≡◌};
 ghost use Rattle.std.specs.List.{list_all};
 ghost use Rattle.std.specs.Option.{option_map, option_copied};
-ghost use Rattle.esdk_args.specs.Form.{form_of, migration_of, options_of, option_at, gives, is_value};
+ghost use Rattle.esdk_args.specs.Form.{form_of, list_form, migration_of, options_of, option_at, flag_at, flag_of, gives, is_value};
 ghost use Rattle.esdk_args.specs.Found.{form_value, migration_value, options_value};
 
 use crate::options::OptionName::{Frame, MaxKeys, MaxUnit, Retire};
-use crate::options::{OptionName, option_text};
+use crate::options::{FLAG, OptionName, option_text};
 use esdk_fields::Text;
 
-/// A command and what stands behind it.
+/// A command and what stands behind it; behind `list`, whether the flag is given.
 #[derive(Clone, Copy)]
 pub(crate) enum Form<'a> {
-    List,
+    List(bool),
     Encrypt(Options<'a>),
     Decrypt(Options<'a>),
     Migrate(Migration<'a>),
 }
 
-/// What stands behind a command with pairs: the value of `--keyring`, the words of its two numbers where their options are given, and the pair words.
+/// What stands behind a command with pairs: the value of `--keyring`, the words of its two numbers where their options are given, whether the flag is given,
+/// and the pair words.
 #[derive(Clone, Copy)]
 pub(crate) struct Options<'a> {
     pub(crate) keyring: &'a Text,
     pub(crate) first: Option<&'a Text>,
     pub(crate) second: Option<&'a Text>,
+    pub(crate) uncommitted: bool,
     pub(crate) pairs: &'a [Text],
 }
 
@@ -42,23 +44,40 @@ pub(crate) fn form_of(words: &[Text]) -> Option<Form<'_>>
 {
     let (command, rest) = words.split_first()?;
     match command.as_str() {
-        "list" if rest.is_empty() => Some(Form::List),
-        "encrypt" => Some(Form::Encrypt(options_of(Frame, MaxKeys, rest)?)),
-        "decrypt" => Some(Form::Decrypt(options_of(MaxKeys, MaxUnit, rest)?)),
+        "list" => list_form(rest),
+        "encrypt" => Some(Form::Encrypt(options_of(Frame, MaxKeys, false, rest)?)),
+        "decrypt" => Some(Form::Decrypt(options_of(MaxKeys, MaxUnit, true, rest)?)),
         "migrate" => Some(Form::Migrate(migration_of(rest)?)),
         _ => None,
     }
 }
 
-/// What stands behind a command with pairs: `--keyring` with its value, then nothing or these two options with their values, then pair words. None exactly where other
-/// words stand there.
+/// A listing, with nothing or the flag behind its command. None exactly where other words stand there.
+fn list_form(words: &[Text]) -> Option<Form<'_>>
+    ensures { option_map form_value result ≡ list_form words.now }
+{
+    let (uncommitted, behind) = flag_at(words);
+    if !behind.is_empty() {
+        return None;
+    }
+    Some(Form::List(uncommitted))
+}
+
+/// What stands behind a command with pairs: `--keyring` with its value, then nothing or these two options with their values, then, where the command has
+/// the flag, nothing or the flag, then pair words. None exactly where other words stand there.
 #[tactic(auto, unfolding(crate::specs::Form::options_of))]
-fn options_of(first: OptionName, second: OptionName, words: &[Text]) -> Option<Options<'_>>
-    ensures { option_map options_value result ≡ options_of first second words.now }
+fn options_of(
+    first: OptionName,
+    second: OptionName,
+    has_flag: bool,
+    words: &[Text],
+) -> Option<Options<'_>>
+    ensures { option_map options_value result ≡ options_of first second has_flag words.now }
 {
     let (keyring, behind) = option_at("--keyring", words);
     let (first, behind) = option_at(option_text(first), behind);
-    let (second, pairs) = option_at(option_text(second), behind);
+    let (second, behind) = option_at(option_text(second), behind);
+    let (uncommitted, pairs) = flag_of(has_flag, behind);
     if !are_values(pairs) {
         return None;
     }
@@ -66,6 +85,7 @@ fn options_of(first: OptionName, second: OptionName, words: &[Text]) -> Option<O
         keyring: keyring?,
         first,
         second,
+        uncommitted,
         pairs,
     })
 }
@@ -94,6 +114,29 @@ fn option_at<'a>(option: &str, words: &'a [Text]) -> (Option<&'a Text>, &'a [Tex
     match words {
         [word, value, behind @ ..] if gives(option, word, value) => (Some(value), behind),
         _ => (None, words),
+    }
+}
+
+/// Whether the flag stands at the front of the words, and the words behind it; for a command that has no flag, false and the words.
+fn flag_of(has_flag: bool, words: &[Text]) -> (bool, &[Text])
+    ensures given { result.0 ≡ (flag_of has_flag words.now).0 }
+    ensures behind { result.1.now ≡ (flag_of has_flag words.now).1 }
+{
+    if has_flag {
+        flag_at(words)
+    } else {
+        (false, words)
+    }
+}
+
+/// Whether the flag stands at the front of the words, and the words behind it.
+fn flag_at(words: &[Text]) -> (bool, &[Text])
+    ensures given { result.0 ≡ (flag_at words.now).0 }
+    ensures behind { result.1.now ≡ (flag_at words.now).1 }
+{
+    match words {
+        [word, behind @ ..] if word.as_str() == FLAG => (true, behind),
+        _ => (false, words),
     }
 }
 

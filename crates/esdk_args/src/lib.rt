@@ -1,10 +1,10 @@
-//! The words of the command line: what they ask for. The words are read in one narrow form: the command, then its options in a fixed order, each as two words and
-//! at most once, and then, where the command has them, pair words.
+//! The words of the command line: what they ask for. The words are read in one narrow form: the command, then its options in a fixed order, each at most
+//! once, and then, where the command has them, pair words. An option is two words, its name and its value, but the flag is one.
 //!
 //! ```text
-//! list
+//! list [--allow-uncommitted]
 //! encrypt --keyring NAME [--frame N] [--max-keys N] PAIR..
-//! decrypt --keyring NAME [--max-keys N] [--max-unit N] PAIR..
+//! decrypt --keyring NAME [--max-keys N] [--max-unit N] [--allow-uncommitted] PAIR..
 //! migrate --keyring NAME [--retire N]
 //! ```
 //!
@@ -27,5 +27,5 @@ pub use laws::{
 };
 pub use options::{OptionName, option_text};
 pub use pair_words::{PairWord, PairWords};
-pub use request::{DecryptWords, EncryptWords, MigrateWords, Request, WordsFault};
+pub use request::{DecryptWords, EncryptWords, ListWords, MigrateWords, Request, WordsFault};
 pub use words::read_words;

@@ -1,7 +1,10 @@
-//! The options that take a number.
+//! The options that take a number, and the flag, which takes none.
 
 ghost use Rattle.std.specs.Prelude.{◌≡◌};
 ghost use Rattle.esdk_args.specs.Options.{option_text, greatest};
+
+/// The flag of `list` and `decrypt`: messages without a commitment may be read.
+pub(crate) const FLAG: &str = "--allow-uncommitted";
 
 /// An option that takes a number.
 #[derive(Debug, Clone, Copy, PartialEq, Eq)]

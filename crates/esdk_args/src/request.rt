@@ -11,13 +11,20 @@ use std::fmt;
 #[derive(Drop)]
 pub enum Request {
     /// A listing of the header.
-    List,
+    List(ListWords),
     /// An encryption.
     Encrypt(EncryptWords),
     /// A decryption.
     Decrypt(DecryptWords),
     /// A migration of a keyring file to version 2.
     Migrate(MigrateWords),
+}
+
+/// What the words say of a listing.
+#[derive(Clone, Copy)]
+pub struct ListWords {
+    /// Whether a message without a commitment may be read.
+    pub uncommitted: bool,
 }
 
 /// What the words say of an encryption.
@@ -42,6 +49,8 @@ pub struct DecryptWords {
     pub max_keys: Option<u16>,
     /// The greatest length in bytes of a frame or a single block, 1 to 68,719,476,704; None where the words give none.
     pub max_unit: Option<u64>,
+    /// Whether a message without a commitment may be read.
+    pub uncommitted: bool,
     /// The given pairs of the context, and the keys that are required.
     pub pairs: PairWords,
 }

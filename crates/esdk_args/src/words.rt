@@ -8,16 +8,16 @@ ghost use Rattle.esdk_args.specs.Words.{words_of, encrypt_of, decrypt_of, migrat
 use crate::form::{Form, Migration, Options, form_of};
 use crate::numbers::{frame_given, max_keys_given, max_unit_given, retire_given};
 use crate::pair_words::pairs_of;
-use crate::request::{DecryptWords, EncryptWords, MigrateWords, Request, WordsFault};
+use crate::request::{DecryptWords, EncryptWords, ListWords, MigrateWords, Request, WordsFault};
 use esdk_fields::Text;
 use std::alloc::Global;
 
 /// What the words ask for. The program's own name isn't among them.
 ///
 /// ```text
-/// list
+/// list [--allow-uncommitted]
 /// encrypt --keyring NAME [--frame N] [--max-keys N] PAIR..
-/// decrypt --keyring NAME [--max-keys N] [--max-unit N] PAIR..
+/// decrypt --keyring NAME [--max-keys N] [--max-unit N] [--allow-uncommitted] PAIR..
 /// migrate --keyring NAME [--retire N]
 /// ```
 ///
@@ -31,7 +31,7 @@ pub fn read_words(alloc: Global, words: &[Text]) -> Result<Request, WordsFault>
 {
     match form_of(words) {
         None => Err(WordsFault::NotBuilt),
-        Some(Form::List) => Ok(Request::List),
+        Some(Form::List(uncommitted)) => Ok(Request::List(ListWords { uncommitted })),
         Some(Form::Encrypt(options)) => encrypt_words(alloc, options),
         Some(Form::Decrypt(options)) => decrypt_words(alloc, options),
         Some(Form::Migrate(migration)) => migrate_words(alloc, migration),
@@ -68,6 +68,7 @@ fn decrypt_words(alloc: Global, options: Options<'_>) -> Result<Request, WordsFa
         keyring,
         max_keys,
         max_unit,
+        uncommitted: options.uncommitted,
         pairs,
     }))
 }

@@ -1,190 +1,231 @@
 -- A reader that is fed from an input.
-use Rattle.std.proofs.Common.{◌≡◌, ◌<◌, ◌≤◌, ◌∙◌, ℕ, ◌+◌, ◌-◌, ◌^◌, List, [], ◌++◌, length, take, drop, Some, None, Ok, Err, Result, refl, sym, ap, subst, arith, append_assoc, append-nil, length-append, take-append-drop}
+use Rattle.std.proofs.Common.{◌≡◌, ◌<◌, ◌≤◌, ◌∙◌, ℕ, ◌+◌, ◌-◌, ◌^◌, Bool, true, false, List, [], ◌++◌, length, take, drop, Some, None, Ok, Err, Result, refl, sym, ap, subst, inl, inr, arith, append_assoc, append-nil, length-append, take-append-drop}
 use Rattle.std.proofs.Math.Seq.{take-length, take-append-add}
 use Rattle.std.proofs.lemmas.List.{length-drop}
-use Rattle.std.proofs.KnownBytes.{Consumes-trans, Consumes-nil}
 use Rattle.std.specs.declared.option.Option.{Option}
 use Rattle.std.specs.Io.KnownBytes.{Consumes, IsAtEnd}
-use Rattle.esdk_fields.specs.Counts.{counted}
+use Rattle.esdk_fields.specs.Counts.{Rose}
 use Rattle.esdk_fields.specs.declared.faults.Fault.{Fault}
 use Rattle.esdk_fields.specs.declared.faults.Fault.TheVariants.{Truncated}
 use Rattle.esdk_fields.specs.declared.refusals.FieldError.TheVariants as errors
 use Rattle.esdk_fields.specs.Place.{Place, start, cut}
 use Rattle.esdk_fields.specs.Reading.{Reading, Read, Refused, Wanting}
-use Rattle.esdk_fields.proofs.Fronts.{fault_stays, value_from, read_after, read_within}
+use Rattle.esdk_fields.proofs.Fronts.{fault_after_at, fault_stays, value_from, read_after, read_within}
 use Rattle.header_codec.specs.declared.session.HeaderReader.{HeaderReader}
 use Rattle.header_codec.specs.declared.session.HeaderStep.{HeaderStep}
+use Rattle.header_codec.specs.declared.settings.Settings.{Settings}
 use Rattle.header_codec.specs.Session.{answer, answer_to, stepped}
 use Rattle.header_codec.specs.Stands.{Stands}
 use Rattle.header_codec.specs.Table.{Head, header, opening}
 use Rattle.header_codec.proofs.Order.{IsSequential-header}
 use Rattle.esdk_report.specs.declared.failure.Failure.{Failure}
 use Rattle.esdk_report.specs.declared.failure.Failure.TheVariants as failures
-use Rattle.esdk_list.specs.List.{no_limits, input_fault, fault_at_end, IsInputCause, TooLong}
+use Rattle.esdk_list.specs.List.{limits_of, input_fault, fault_at_end, IsInputCause}
 use Rattle.esdk_base.specs.Streams.{OnTold, SourceState}
-use Rattle.esdk_list.specs.HeaderInput.{session_of, Waits, Holds, Ends, Feeds, Came, Grows, HoldsHeader}
+use Rattle.whole_input.specs.declared.pieces.End.{End}
+use Rattle.whole_input.specs.declared.pieces.End.TheVariants as ends
+use Rattle.whole_input.specs.Pieces.{NextPiece, PiecesValue}
+use Rattle.whole_input.specs.Taken.{Came, Piece}
+use Rattle.whole_input.proofs.Coming.{came_more, came_none, came_still}
+use Rattle.esdk_list.specs.HeaderInput.{session_of, failure_at, Waits, Holds, Ends, Feeds, HoldsHeader}
 
 -- ---- one step of the reader
 
 ok_is : {T E : Type 0} (x y : T) → ◌≡◌ {A = Result T E} (Ok x) (Ok y) → x ≡ y
 ok_is x y same = cc
 
-fed_read : (taken piece : List ℕ) (parts : Head) (end : Place) (reader : HeaderReader) → header no_limits (start (taken ++ piece)) ≡ Read parts end
-    → header no_limits (start taken) ≡ Wanting → Stands reader (session_of (taken ++ take (end.at - length taken) piece)) → Ends reader taken piece
-fed_read taken piece parts end reader read wanting stands =
+fed_read : (settings : Settings) (taken piece : List ℕ) (parts : Head) (end : Place) (reader : HeaderReader) → header settings (start (taken ++ piece)) ≡ Read parts end
+    → header settings (start taken) ≡ Wanting → Stands reader (session_of settings (taken ++ take (end.at - length taken) piece)) → Ends settings reader taken piece
+fed_read settings taken piece parts end reader read wanting stands =
+    let s = IsSequential-header settings in
     let used = end.at - length taken in
-    let after : length taken < end.at = read_after (header no_limits) taken piece parts end (IsSequential-header no_limits) wanting read in
+    let after : length taken < end.at = read_after (header settings) taken piece parts end s wanting read in
     let sum : length taken + used ≡ end.at = omega arith in
     let front : take end.at (taken ++ piece) ≡ taken ++ take used piece = ap (λ (n : ℕ). take n (taken ++ piece)) (sym sum) ∙ take-append-add taken piece used in
-    let within : end.at ≤ length (taken ++ piece) = read_within (header no_limits) (taken ++ piece) parts end (IsSequential-header no_limits) read in
-    let holds : Holds reader (taken ++ piece) =
+    let within : end.at ≤ length (taken ++ piece) = read_within (header settings) (taken ++ piece) parts end s read in
+    let holds : Holds settings reader (taken ++ piece) =
     record {
       taken = taken ++ take used piece;
       rest = drop used piece;
       parts = parts;
       end = cut end.at end;
       stands = stands;
-      read = ap (λ (b : List ℕ). header no_limits (start b)) (sym front) ∙ value_from (header no_limits) (taken ++ piece) parts end end.at (IsSequential-header no_limits) read (omega arith);
+      read = ap (λ (b : List ℕ). header settings (start b)) (sym front) ∙ value_from (header settings) (taken ++ piece) parts end end.at s read (omega arith);
       front = ap (λ (b : List ℕ). taken ++ b) (sym (take-append-drop used piece)) ∙ sym (append_assoc taken (take used piece) (drop used piece));
     } in
     record { holds = holds; few = omega (arith, length-drop used piece, length-append taken piece, within, after) }
 
-fed_cases : (taken piece : List ℕ) (step : HeaderStep) (reader : HeaderReader) (r : Reading Head) → header no_limits (start (taken ++ piece)) ≡ r
-    → answer_to (session_of taken) piece r ≡ Ok step → header no_limits (start taken) ≡ Wanting → Stands reader (stepped (session_of taken) piece (Ok step))
-    → Feeds taken piece reader (Ok step.ready)
-fed_cases taken piece step reader (Read parts end) judged answers wanting =
-    let P : HeaderStep → Type 0 = λ s. Stands reader (stepped (session_of taken) piece (Ok s)) → Feeds taken piece reader (Ok s.ready) in
-    subst P (ok_is _ step answers) (λ stands. fed_read taken piece parts end reader judged wanting stands)
-fed_cases taken piece step reader (Refused fault at) judged answers wanting = absurd (cc)
-fed_cases taken piece step reader Wanting judged answers wanting =
-    let P : HeaderStep → Type 0 = λ s. Stands reader (stepped (session_of taken) piece (Ok s)) → Feeds taken piece reader (Ok s.ready) in
-    let Q : List ℕ → Type 0 = λ b. Stands reader (session_of (taken ++ b)) in
+fed_cases : (settings : Settings) (taken piece : List ℕ) (step : HeaderStep) (reader : HeaderReader) (r : Reading Head) → header settings (start (taken ++ piece)) ≡ r
+    → answer_to (session_of settings taken) piece r ≡ Ok step → header settings (start taken) ≡ Wanting → Stands reader (stepped (session_of settings taken) piece (Ok step))
+    → Feeds settings taken piece reader (Ok step.ready)
+fed_cases settings taken piece step reader (Read parts end) judged answers wanting =
+    let P : HeaderStep → Type 0 = λ s. Stands reader (stepped (session_of settings taken) piece (Ok s)) → Feeds settings taken piece reader (Ok s.ready) in
+    subst P (ok_is _ step answers) (λ stands. fed_read settings taken piece parts end reader judged wanting stands)
+fed_cases settings taken piece step reader (Refused fault at) judged answers wanting = absurd (cc)
+fed_cases settings taken piece step reader Wanting judged answers wanting =
+    let P : HeaderStep → Type 0 = λ s. Stands reader (stepped (session_of settings taken) piece (Ok s)) → Feeds settings taken piece reader (Ok s.ready) in
+    let Q : List ℕ → Type 0 = λ b. Stands reader (session_of settings (taken ++ b)) in
     subst P (ok_is _ step answers) (λ stands. record { stands = subst Q (take-length piece) stands; wanting = judged })
 
 -- a step that takes all or some of a piece
-pub fed : (taken piece : List ℕ) (step : HeaderStep) (reader : HeaderReader) → answer (session_of taken) piece ≡ Ok step
-    → header no_limits (start taken) ≡ Wanting → Stands reader (stepped (session_of taken) piece (Ok step)) → Feeds taken piece reader (Ok step.ready)
-fed taken piece step reader answers wanting stands = fed_cases taken piece step reader (header no_limits (start (taken ++ piece))) refl answers wanting stands
+pub fed : (settings : Settings) (taken piece : List ℕ) (step : HeaderStep) (reader : HeaderReader) → answer (session_of settings taken) piece ≡ Ok step
+    → header settings (start taken) ≡ Wanting → Stands reader (stepped (session_of settings taken) piece (Ok step)) → Feeds settings taken piece reader (Ok step.ready)
+fed settings taken piece step reader answers wanting stands =
+    fed_cases settings taken piece step reader (header settings (start (taken ++ piece))) refl answers wanting stands
 
-fault_cases : (taken piece : List ℕ) (fault : Fault) (r : Reading Head) → header no_limits (start (taken ++ piece)) ≡ r
-    → answer_to (session_of taken) piece r ≡ Err (errors.Fault fault) → (at : ℕ) × (header no_limits (start (taken ++ piece)) ≡ Refused fault at)
-fault_cases taken piece fault (Read parts end) judged answers = absurd (cc)
-fault_cases taken piece fault (Refused f at) judged answers = (at, let same : f ≡ fault = cc in judged ∙ ap (λ (g : Fault). Refused g at) same)
-fault_cases taken piece fault Wanting judged answers = absurd (cc)
+fault_cases : (settings : Settings) (taken piece : List ℕ) (fault : Fault) (reader : HeaderReader) (r : Reading Head) → header settings (start (taken ++ piece)) ≡ r
+    → answer_to (session_of settings taken) piece r ≡ Err (errors.Fault fault) → header settings (start taken) ≡ Wanting
+    → Feeds settings taken piece reader (Err (failures.Fault fault))
+fault_cases settings taken piece fault reader (Read parts end) judged answers wanting = absurd (cc)
+fault_cases settings taken piece fault reader (Refused f at) judged answers wanting =
+    let same : f ≡ fault = cc in
+    let refused : header settings (start (taken ++ piece)) ≡ Refused fault at = judged ∙ ap (λ (g : Fault). Refused g at) same in
+    let after = fault_after_at (header settings) (start taken) piece fault at (IsSequential-header settings) wanting refused in
+    (at, refused, omega (arith, after))
+fault_cases settings taken piece fault reader Wanting judged answers wanting = absurd (cc)
 
 -- a step that finds a fault
-pub fed_fault : (taken piece : List ℕ) (fault : Fault) → answer (session_of taken) piece ≡ Err (errors.Fault fault)
-    → (at : ℕ) × (header no_limits (start (taken ++ piece)) ≡ Refused fault at)
-fed_fault taken piece fault answers = fault_cases taken piece fault (header no_limits (start (taken ++ piece))) refl answers
+pub fed_fault : (settings : Settings) (taken piece : List ℕ) (fault : Fault) (reader : HeaderReader) → answer (session_of settings taken) piece ≡ Err (errors.Fault fault)
+    → header settings (start taken) ≡ Wanting → Feeds settings taken piece reader (Err (failures.Fault fault))
+fed_fault settings taken piece fault reader answers wanting =
+    fault_cases settings taken piece fault reader (header settings (start (taken ++ piece))) refl answers wanting
 
-stopped_cases : (taken piece : List ℕ) (r : Reading Head) → answer_to (session_of taken) piece r ≡ Err errors.Stopped → ⊥
-stopped_cases taken piece (Read parts end) answers = cc
-stopped_cases taken piece (Refused f at) answers = cc
-stopped_cases taken piece Wanting answers = cc
+stopped_cases : (settings : Settings) (taken piece : List ℕ) (r : Reading Head) → answer_to (session_of settings taken) piece r ≡ Err errors.Stopped → ⊥
+stopped_cases settings taken piece (Read parts end) answers = cc
+stopped_cases settings taken piece (Refused f at) answers = cc
+stopped_cases settings taken piece Wanting answers = cc
 
 -- a reader that met no error isn't stopped
-pub fed_not_stopped : (taken piece : List ℕ) → answer (session_of taken) piece ≡ Err errors.Stopped → ⊥
-fed_not_stopped taken piece answers = stopped_cases taken piece (header no_limits (start (taken ++ piece))) answers
+pub fed_not_stopped : (settings : Settings) (taken piece : List ℕ) → answer (session_of settings taken) piece ≡ Err errors.Stopped → ⊥
+fed_not_stopped settings taken piece answers = stopped_cases settings taken piece (header settings (start (taken ++ piece))) answers
 
--- ---- one read and one step
+-- the same piece is fed
+pub fed_same : (settings : Settings) (taken piece same : List ℕ) (reader : HeaderReader) (r : Result Bool Failure) → piece ≡ same → Feeds settings taken piece reader r
+    → Feeds settings taken same reader r
+fed_same settings taken piece same reader r is = subst (λ (b : List ℕ). Feeds settings taken b reader r) is
 
--- bytes that were taken are the front of what was told
-pub front_told : (old new : Option (List ℕ)) (bytes : List ℕ) → Consumes old new bytes → OnTold old (λ told. (rest : List ℕ) × (told ≡ bytes ++ rest))
-front_told None new bytes consumed = tt
-front_told (Some told) None bytes consumed = absurd consumed
-front_told (Some told) (Some rest) bytes consumed = (rest, consumed)
-
--- The header that the reader holds came, with fewer bytes behind it than a read gives at most.
-pub came_whole : (first now : SourceState) (bytes piece : List ℕ) (reader : HeaderReader) (count room : ℕ) → Came first now (bytes ++ piece) → Ends reader bytes piece
-    → count ≡ length piece → count ≤ room → HoldsHeader reader first now room
-came_whole first now bytes piece reader count room came ends size fits =
-    record { bytes = bytes ++ piece; holds = ends.holds; came = came; few = omega (arith, ends.few, size, fits) }
-
--- the same where a read gives less at most
-pub more_room : (reader : HeaderReader) (first now : SourceState) (less room : ℕ) → less ≤ room → HoldsHeader reader first now less → HoldsHeader reader first now room
-more_room reader first now less room fits holds =
-    record { bytes = holds.bytes; holds = holds.holds; came = holds.came; few = omega (arith, holds.few, fits) }
+-- ---- what the bytes that came say of the input
 
 -- a fault of the bytes taken is the input's
-fault_told : (old new : Option (List ℕ)) (bytes : List ℕ) (fault : Fault) (at : ℕ) → Consumes old new bytes → header no_limits (start bytes) ≡ Refused fault at
-    → OnTold old (λ told. input_fault told ≡ Some fault)
-fault_told None new bytes fault at consumed refused = tt
-fault_told (Some told) None bytes fault at consumed refused = absurd consumed
-fault_told (Some told) (Some rest) bytes fault at consumed refused =
-    ap (λ (b : List ℕ). input_fault b) consumed ∙ ap fault_at_end (fault_stays (header no_limits) bytes rest fault at (IsSequential-header no_limits) refused)
+fault_told : (uncommitted : Bool) (old new : Option (List ℕ)) (bytes : List ℕ) (fault : Fault) (at : ℕ) → Consumes old new bytes
+    → header (limits_of uncommitted) (start bytes) ≡ Refused fault at → OnTold old (λ told. input_fault uncommitted told ≡ Some fault)
+fault_told uncommitted None new bytes fault at consumed refused = tt
+fault_told uncommitted (Some told) None bytes fault at consumed refused = absurd consumed
+fault_told uncommitted (Some told) (Some rest) bytes fault at consumed refused =
+    let limits = limits_of uncommitted in
+    ap (λ (b : List ℕ). input_fault uncommitted b) consumed ∙ ap fault_at_end (fault_stays (header limits) bytes rest fault at (IsSequential-header limits) refused)
 
 -- an input that ended while bytes were wanted is cut short
-pub truncated_told : (old new : Option (List ℕ)) (bytes : List ℕ) → Consumes old new bytes → IsAtEnd new → header no_limits (start bytes) ≡ Wanting
-    → OnTold old (λ told. input_fault told ≡ Some Truncated)
-truncated_told None new bytes consumed end wanting = tt
-truncated_told (Some told) None bytes consumed end wanting = absurd consumed
-truncated_told (Some told) (Some rest) bytes consumed end wanting =
-    ap (λ (b : List ℕ). input_fault b) (consumed ∙ ap (λ (r : List ℕ). bytes ++ r) end ∙ append-nil bytes) ∙ ap fault_at_end wanting
-
--- the bytes of a read join those that came before
-pub came_more : (first old new : SourceState) (bytes piece : List ℕ) → Came first old bytes → Consumes old.left new.left piece
-    → new.given ≡ counted old.given (length piece) → new.faults ≡ old.faults → Came first new (bytes ++ piece)
-came_more first old new bytes piece came consumed given faults = record {
-  consumed = Consumes-trans first.left old.left new.left bytes piece came.consumed consumed;
-  given = omega (arith, came.given, given, length-append bytes piece);
-  most = omega (arith, came.most, given, length-append bytes piece);
-  faults = faults ∙ came.faults;
-}
-
--- the same of the front of a buffer
-pub came_read : (first old new : SourceState) (bytes : List ℕ) (count : ℕ) (buffer : List ℕ) → Came first old bytes → count ≡ length (take count buffer)
-    → Consumes old.left new.left (take count buffer) → new.given ≡ counted old.given count → new.faults ≡ old.faults → Came first new (bytes ++ take count buffer)
-came_read first old new bytes count buffer came size consumed given faults =
-    came_more first old new bytes (take count buffer) came consumed (given ∙ ap (counted old.given) size) faults
-
--- what a refused piece says of the input
-pub feed_cause : (first now : SourceState) (bytes piece : List ℕ) (reader : HeaderReader) (failure : Failure) → Came first now (bytes ++ piece)
-    → Feeds bytes piece reader (Err failure) → IsInputCause failure first now
-feed_cause first now bytes piece reader failures.NotBuilt came feeds = absurd feeds
-feed_cause first now bytes piece reader (failures.BadNumber name) came feeds = absurd feeds
-feed_cause first now bytes piece reader (failures.BadPair number) came feeds = absurd feeds
-feed_cause first now bytes piece reader (failures.Fault fault) came feeds =
-    fault_told first.left now.left (bytes ++ piece) fault feeds.0 came.consumed feeds.1
-feed_cause first now bytes piece reader (failures.File refusal) came feeds = absurd feeds
-feed_cause first now bytes piece reader (failures.Outside outside) came feeds = absurd feeds
-feed_cause first now bytes piece reader (failures.Refusal refusal) came feeds = absurd feeds
-feed_cause first now bytes piece reader failures.Memory came feeds = tt
+truncated_told : (uncommitted : Bool) (old new : Option (List ℕ)) (bytes : List ℕ) → Consumes old new bytes → IsAtEnd new
+    → header (limits_of uncommitted) (start bytes) ≡ Wanting → OnTold old (λ told. input_fault uncommitted told ≡ Some Truncated)
+truncated_told uncommitted None new bytes consumed end wanting = tt
+truncated_told uncommitted (Some told) None bytes consumed end wanting = absurd consumed
+truncated_told uncommitted (Some told) (Some rest) bytes consumed end wanting =
+    ap (λ (b : List ℕ). input_fault uncommitted b) (consumed ∙ ap (λ (r : List ℕ). bytes ++ r) end ∙ append-nil bytes) ∙ ap fault_at_end wanting
 
 -- ---- the loop
 
--- So many bytes were taken and fed, and the reader waits for more.
-pub record Going (first now : SourceState) (taken : ℕ) (reader : HeaderReader) : Type 0 where
+-- So many bytes were taken and fed, no read failed, and the reader waits for more.
+pub record Going (uncommitted : Bool) (first now : SourceState) (taken : ℕ) (reader : HeaderReader) : Type 0 where
   pub bytes : List ℕ
   pub count : length bytes ≡ taken
+  pub most : taken ≤ 2 ^ 62
   pub came : Came first now bytes
-  pub waits : Waits reader bytes
+  pub faults : now.faults ≡ first.faults
+  pub waits : Waits (limits_of uncommitted) reader bytes
 
 -- before the first byte, bytes are wanted
-pub wanting_first : header no_limits (start []) ≡ Wanting
+pub wanting_first : (settings : Settings) → header settings (start []) ≡ Wanting
 unfolding header opening
-wanting_first = refl
+wanting_first settings = refl
 
-pub going_first : (first : SourceState) (reader : HeaderReader) → Waits reader [] → Going first first 0 reader
-going_first first reader waits = record {
+pub going_first : (uncommitted : Bool) (first : SourceState) (v : PiecesValue) (reader : HeaderReader) → v ≡ record { taken = 0; piece = [] }
+    → Stands reader (session_of (limits_of uncommitted) []) → Going uncommitted first first v.taken reader
+going_first uncommitted first v reader none stands = record {
   bytes = [];
-  count = refl;
-  came = record { consumed = Consumes-nil first.left; given = omega arith; most = omega arith; faults = refl };
-  waits = waits;
+  count = ap (λ (w : PiecesValue). w.taken) (sym none);
+  most = subst (λ (w : PiecesValue). w.taken ≤ 2 ^ 62) (sym none) (omega arith);
+  came = came_none first;
+  faults = refl;
+  waits = record { stands = stands; wanting = wanting_first (limits_of uncommitted) };
 }
 
-pub going_on : (first now new : SourceState) (taken count : ℕ) (reader grown : HeaderReader) (going : Going first now taken reader)
-    → Grows first new going.bytes grown count → Going first new (taken + count) grown
-going_on first now new taken count reader grown going grows = record {
-  bytes = going.bytes ++ grows.piece;
-  count = omega (arith, length-append going.bytes grows.piece, going.count, grows.size);
-  came = grows.came;
-  waits = grows.waits;
+-- a piece came, and it is fed
+pub going_on : (uncommitted : Bool) (first now new : SourceState) (taken : ℕ) (v : PiecesValue) (reader grown : HeaderReader) (going : Going uncommitted first now taken reader)
+    → Piece 65536 now new v.piece → v.taken ≡ taken + length v.piece → v.taken ≤ 2 ^ 62 → Feeds (limits_of uncommitted) going.bytes v.piece grown (Ok false)
+    → Going uncommitted first new v.taken grown
+going_on uncommitted first now new taken v reader grown going piece count most feeds = record {
+  bytes = going.bytes ++ v.piece;
+  count = omega (arith, length-append going.bytes v.piece, going.count, count);
+  most = most;
+  came = came_more first now new going.bytes v.piece going.came piece.came;
+  faults = piece.faults ∙ going.faults;
+  waits = feeds;
 }
 
-pub too_long : (first now : SourceState) (taken : ℕ) (reader : HeaderReader) → Going first now taken reader → taken ≡ 2 ^ 62 → TooLong first now
-too_long first now taken reader going end = record {
+-- the header ends in the piece
+pub going_whole : (uncommitted : Bool) (first now new : SourceState) (taken : ℕ) (piece : List ℕ) (reader grown : HeaderReader) (going : Going uncommitted first now taken reader)
+    → Piece 65536 now new piece → Feeds (limits_of uncommitted) going.bytes piece grown (Ok true) → HoldsHeader uncommitted grown first new
+going_whole uncommitted first now new taken piece reader grown going came feeds = record {
+  bytes = going.bytes ++ piece;
+  holds = feeds.holds;
+  came = came_more first now new going.bytes piece going.came came.came;
+  few = omega (arith, feeds.few, came.fits);
+  faults = came.faults ∙ going.faults;
+}
+
+-- the piece is refused
+pub going_refused : (uncommitted : Bool) (first now new : SourceState) (taken : ℕ) (piece : List ℕ) (reader grown : HeaderReader) (failure : Failure)
+    (going : Going uncommitted first now taken reader) → Piece 65536 now new piece → Feeds (limits_of uncommitted) going.bytes piece grown (Err failure)
+    → IsInputCause uncommitted failure first new
+going_refused uncommitted first now new taken piece reader grown (failures.Fault fault) going came feeds =
+    let bytes = going.bytes ++ piece in
+    let all : Came first new bytes = came_more first now new going.bytes piece going.came came.came in
+    record {
+      came = inl (record {
+        bytes = bytes;
+        at = feeds.0;
+        came = all;
+        refused = feeds.1;
+        few = omega (arith, length-append going.bytes piece, feeds.2, came.fits);
+        faults = came.faults ∙ going.faults;
+      });
+      told = fault_told uncommitted first.left new.left bytes fault feeds.0 all.consumed feeds.1;
+    }
+going_refused uncommitted first now new taken piece reader grown failures.NotBuilt going came feeds = absurd feeds
+going_refused uncommitted first now new taken piece reader grown (failures.BadNumber name) going came feeds = absurd feeds
+going_refused uncommitted first now new taken piece reader grown (failures.BadPair number) going came feeds = absurd feeds
+going_refused uncommitted first now new taken piece reader grown (failures.File refusal) going came feeds = absurd feeds
+going_refused uncommitted first now new taken piece reader grown (failures.Outside outside) going came feeds = absurd feeds
+going_refused uncommitted first now new taken piece reader grown (failures.Refusal refusal) going came feeds = absurd feeds
+going_refused uncommitted first now new taken piece reader grown failures.Memory going came feeds = tt
+
+-- no piece came
+pub going_ended : (T : Type 0) (uncommitted : Bool) (first now new : SourceState) (taken : ℕ) (v : PiecesValue) (reader : HeaderReader) (end : End) → Going uncommitted first now taken reader
+    → NextPiece {T = T} taken now new v (Err end) → IsInputCause uncommitted (failure_at end) first new
+going_ended T uncommitted first now new taken v reader ends.Seen going next =
+    let came : Came first new going.bytes = came_still first now new going.bytes going.came next.0 in
+    record {
+      came = inr (
+        refl,
+        record {
+          bytes = going.bytes;
+          came = came;
+          end = record { end = next.1; faults = next.2 ∙ going.faults; few = omega (arith, going.count, next.3) };
+          wanting = going.waits.wanting;
+        },
+      );
+      told = truncated_told uncommitted first.left new.left going.bytes came.consumed next.1 going.waits.wanting;
+    }
+going_ended T uncommitted first now new taken v reader ends.Failed going next = record {
   bytes = going.bytes;
-  came = record { consumed = going.came.consumed; given = going.came.given; most = going.came.most };
-  most = record { faults = going.came.faults; count = going.count ∙ end };
+  came = came_still first now new going.bytes going.came next.0;
+  wanting = going.waits.wanting;
+  rose = subst (λ (n : ℕ). Rose n new.faults) going.faults next.1;
+}
+going_ended T uncommitted first now new taken v reader ends.TooLong going next = record {
+  bytes = going.bytes;
+  came = subst (λ (s : SourceState). Came first s going.bytes) (sym next.0) going.came;
+  most = record { faults = ap (λ (s : SourceState). s.faults) next.0 ∙ going.faults; count = going.count ∙ next.1 };
   wanting = going.waits.wanting;
 }

@@ -1,16 +1,17 @@
 -- The header that a reader shows is the input's.
-use Rattle.std.proofs.Common.{◌≡◌, ℕ, List, [], length, None, Some, sym, ap, subst, arith, length-append}
+use Rattle.std.proofs.Common.{◌≡◌, ℕ, Bool, List, [], length, None, Some, sym, ap, subst, arith, length-append}
 use Rattle.std.specs.declared.option.Option.{Option}
 use Rattle.std.specs.Io.KnownBytes.{Appends, Consumes}
 use Rattle.esdk_base.specs.Sink.{AppendsFront}
 use Rattle.esdk_fields.specs.Place.{Place, start, followed}
 use Rattle.esdk_fields.specs.Reading.{Reading, Read, Wanting}
 use Rattle.header_codec.specs.declared.session.HeaderReader.{HeaderReader}
+use Rattle.header_codec.specs.declared.settings.Settings.{Settings}
 use Rattle.header_codec.specs.Header.{HeaderValue}
 use Rattle.header_codec.specs.Session.{ShowsHeader}
 use Rattle.header_codec.specs.Table.{header, BeginsWith}
 use Rattle.header_codec.proofs.Followed.{BeginsWith-append}
-use Rattle.esdk_list.specs.List.{no_limits, BeginsWithHeader, HeaderCame, Lists, ListsFront}
+use Rattle.esdk_list.specs.List.{limits_of, BeginsWithHeader, HeaderCame, Lists, ListsFront}
 use Rattle.esdk_base.specs.Streams.{OnTold, SourceState}
 use Rattle.esdk_list.specs.HeaderInput.{session_of, Holds, HoldsHeader}
 use Rattle.esdk_list.specs.Listing.{list_of}
@@ -19,42 +20,45 @@ read_not_wanting : {A : Type 0} (x : A) (end : Place) (r : Reading A) → r ≡ 
 read_not_wanting x end r read wanting = cc
 
 -- a reader that took a whole header shows one
-pub shows_some : (reader : HeaderReader) (bytes : List ℕ) (holds : Holds reader bytes) → ShowsHeader (session_of holds.taken) None → ⊥
-shows_some reader bytes holds wanting = read_not_wanting holds.parts holds.end (header no_limits (start holds.taken)) holds.read wanting
+pub shows_some : (settings : Settings) (reader : HeaderReader) (bytes : List ℕ) (holds : Holds settings reader bytes) → ShowsHeader (session_of settings holds.taken) None → ⊥
+shows_some settings reader bytes holds wanting = read_not_wanting holds.parts holds.end (header settings (start holds.taken)) holds.read wanting
 
 -- the header that it shows is the one with which the bytes that came begin, and the piece of its last byte was the last
-pub shows_came : (reader : HeaderReader) (first now : SourceState) (holds : HoldsHeader reader first now 65536) (h : HeaderValue)
-    → ShowsHeader (session_of holds.holds.taken) (Some h) → HeaderCame h first now
-shows_came reader first now holds h shows =
+pub shows_came : (uncommitted : Bool) (reader : HeaderReader) (first now : SourceState) (holds : HoldsHeader uncommitted reader first now) (h : HeaderValue)
+    → ShowsHeader (session_of (limits_of uncommitted) holds.holds.taken) (Some h) → HeaderCame uncommitted h first now
+shows_came uncommitted reader first now holds h shows =
+    let limits = limits_of uncommitted in
     let taken = holds.holds.taken in
     let rest = holds.holds.rest in
     let end : Place = followed (record { at = length taken; left = [] }) rest in
     record {
       bytes = holds.bytes;
       end = end;
-      came = record { consumed = holds.came.consumed; given = holds.came.given; most = holds.came.most };
-      begins = subst (λ (b : List ℕ). BeginsWith no_limits b h end) (sym holds.holds.front)
-          (BeginsWith-append no_limits taken rest h (record { at = length taken; left = [] }) shows);
+      came = holds.came;
+      begins = subst (λ (b : List ℕ). BeginsWith limits b h end) (sym holds.holds.front)
+          (BeginsWith-append limits taken rest h (record { at = length taken; left = [] }) shows);
       few = omega (arith, ap length holds.holds.front, length-append taken rest, holds.few);
+      faults = holds.faults;
     }
 
 -- where it is told, the input begins with it
-begins_told : (input left : Option (List ℕ)) (bytes : List ℕ) (h : HeaderValue) (end : Place) → Consumes input left bytes → BeginsWith no_limits bytes h end → OnTold input (BeginsWithHeader h)
-begins_told None left bytes h end consumed begins = tt
-begins_told (Some told) None bytes h end consumed begins = absurd consumed
-begins_told (Some told) (Some rest) bytes h end consumed begins =
-    subst (λ (b : List ℕ). BeginsWithHeader h b) (sym consumed) (followed end rest, BeginsWith-append no_limits bytes rest h end begins)
+begins_told : (uncommitted : Bool) (input left : Option (List ℕ)) (bytes : List ℕ) (h : HeaderValue) (end : Place) → Consumes input left bytes
+    → BeginsWith (limits_of uncommitted) bytes h end → OnTold input (BeginsWithHeader uncommitted h)
+begins_told uncommitted None left bytes h end consumed begins = tt
+begins_told uncommitted (Some told) None bytes h end consumed begins = absurd consumed
+begins_told uncommitted (Some told) (Some rest) bytes h end consumed begins =
+    subst (λ (b : List ℕ). BeginsWithHeader uncommitted h b) (sym consumed) (followed end rest, BeginsWith-append (limits_of uncommitted) bytes rest h end begins)
 
-header_told : (first now : SourceState) (h : HeaderValue) → HeaderCame h first now → OnTold first.left (BeginsWithHeader h)
-header_told first now h came = begins_told first.left now.left came.bytes h came.end came.came.consumed came.begins
+header_told : (uncommitted : Bool) (first now : SourceState) (h : HeaderValue) → HeaderCame uncommitted h first now → OnTold first.left (BeginsWithHeader uncommitted h)
+header_told uncommitted first now h came = begins_told uncommitted first.left now.left came.bytes h came.end came.came.consumed came.begins
 
 -- a put of the listing's text
-pub lists : (first now : SourceState) (old new : Option (List ℕ)) (h : HeaderValue) (text : List ℕ) → HeaderCame h first now → text ≡ list_of h → Appends old new text
-    → Lists first now old new
-lists first now old new h text came is gained =
-    record { header = h; begins = header_told first now h came; came = came; gained = subst (λ (b : List ℕ). Appends old new b) is gained }
+pub lists : (uncommitted : Bool) (first now : SourceState) (old new : Option (List ℕ)) (h : HeaderValue) (text : List ℕ) → HeaderCame uncommitted h first now → text ≡ list_of h
+    → Appends old new text → Lists uncommitted first now old new
+lists uncommitted first now old new h text came is gained =
+    record { header = h; begins = header_told uncommitted first now h came; came = came; gained = subst (λ (b : List ℕ). Appends old new b) is gained }
 
-pub lists_front : (first now : SourceState) (old new : Option (List ℕ)) (h : HeaderValue) (text : List ℕ) → HeaderCame h first now → text ≡ list_of h
-    → AppendsFront old new text → ListsFront first now old new
-lists_front first now old new h text came is gained =
-    record { header = h; begins = header_told first now h came; came = came; gained = subst (λ (b : List ℕ). AppendsFront old new b) is gained }
+pub lists_front : (uncommitted : Bool) (first now : SourceState) (old new : Option (List ℕ)) (h : HeaderValue) (text : List ℕ) → HeaderCame uncommitted h first now
+    → text ≡ list_of h → AppendsFront old new text → ListsFront uncommitted first now old new
+lists_front uncommitted first now old new h text came is gained =
+    record { header = h; begins = header_told uncommitted first now h came; came = came; gained = subst (λ (b : List ℕ). AppendsFront old new b) is gained }

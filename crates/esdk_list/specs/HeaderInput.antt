@@ -1,81 +1,64 @@
 -- A reader that is fed from an input until its header is whole.
-use Rattle.std.specs.Prelude.{◌≡◌, ◌≤◌, ◌<◌, ◌+◌, ℕ, List, ◌++◌, length, true, false, Bool, Result, Ok, Err}
-use Rattle.std.specs.Io.KnownBytes.{Consumes}
-use Rattle.esdk_fields.specs.Counts.{RoseBy}
+use Rattle.std.specs.Prelude.{◌≡◌, ◌<◌, ℕ, Bool, true, false, List, ◌++◌, length, Result, Ok, Err}
+use Rattle.esdk_fields.specs.declared.faults.Fault.TheVariants.{Truncated}
+use Rattle.esdk_fields.specs.declared.refusals.Outside.TheVariants as outsides
 use Rattle.esdk_fields.specs.Place.{Place, start}
 use Rattle.esdk_fields.specs.Reading.{Read, Refused, Wanting}
 use Rattle.header_codec.specs.declared.session.HeaderReader.{HeaderReader}
+use Rattle.header_codec.specs.declared.settings.Settings.{Settings}
 use Rattle.header_codec.specs.Session.{Session}
 use Rattle.header_codec.specs.Stands.{Stands}
 use Rattle.header_codec.specs.Table.{Head, header}
 use Rattle.esdk_report.specs.declared.failure.Failure.{Failure}
 use Rattle.esdk_report.specs.declared.failure.Failure.TheVariants as failures
-use Rattle.esdk_list.specs.declared.header_input.Progress.{Progress}
-use Rattle.esdk_list.specs.declared.header_input.Progress.TheVariants as progress
-use Rattle.esdk_list.specs.List.{no_limits, IsInputCause}
+use Rattle.esdk_list.specs.List.{limits_of}
 use Rattle.esdk_base.specs.Streams.{SourceState}
+use Rattle.whole_input.specs.declared.pieces.End.{End}
+use Rattle.whole_input.specs.declared.pieces.End.TheVariants as ends
+use Rattle.whole_input.specs.Taken.{Came}
 
 -- a session that took these bytes and met no error
-abbrev pub session_of : List ℕ → Session
-session_of taken = record { settings = no_limits; taken = taken; stopped = false }
+abbrev pub session_of : Settings → List ℕ → Session
+session_of settings taken = record { settings = settings; taken = taken; stopped = false }
 
 -- The reader took these bytes, and wants more.
-pub record Waits (reader : HeaderReader) (taken : List ℕ) : Type 0 where
-  pub stands : Stands reader (session_of taken)
-  pub wanting : header no_limits (start taken) ≡ Wanting
+pub record Waits (settings : Settings) (reader : HeaderReader) (taken : List ℕ) : Type 0 where
+  pub stands : Stands reader (session_of settings taken)
+  pub wanting : header settings (start taken) ≡ Wanting
 
--- The reader took a whole header with its tag, and these bytes begin with what it took.
-pub record Holds (reader : HeaderReader) (bytes : List ℕ) : Type 0 where
+-- The reader took a whole header with its authentication, and these bytes begin with what it took.
+pub record Holds (settings : Settings) (reader : HeaderReader) (bytes : List ℕ) : Type 0 where
   pub taken : List ℕ
   pub rest : List ℕ
   pub parts : Head
   pub end : Place
-  pub stands : Stands reader (session_of taken)
-  pub read : header no_limits (start taken) ≡ Read parts end
+  pub stands : Stands reader (session_of settings taken)
+  pub read : header settings (start taken) ≡ Read parts end
   pub front : bytes ≡ taken ++ rest
 
--- The reader took a whole header with its tag, with which the bytes and the piece behind them begin, and its end stands in the piece.
-pub record Ends (reader : HeaderReader) (bytes piece : List ℕ) : Type 0 where
-  pub holds : Holds reader (bytes ++ piece)
+-- The reader took a whole header, with which the bytes and the piece behind them begin, and its end stands in the piece.
+pub record Ends (settings : Settings) (reader : HeaderReader) (bytes piece : List ℕ) : Type 0 where
+  pub holds : Holds settings reader (bytes ++ piece)
   pub few : length holds.rest < length piece
 
--- what feeding a piece to a reader that waits comes to
-abbrev pub Feeds : List ℕ → List ℕ → HeaderReader → Result Bool Failure → Type 0
-Feeds taken piece reader (Ok true) = Ends reader taken piece
-Feeds taken piece reader (Ok false) = Waits reader (taken ++ piece)
-Feeds taken piece reader (Err (failures.Fault fault)) = (at : ℕ) × (header no_limits (start (taken ++ piece)) ≡ Refused fault at)
-Feeds taken piece reader (Err failures.Memory) = Unit {0}
-Feeds taken piece reader (Err failure) = ⊥
+-- what feeding a piece to a reader that waits comes to; a fault's field ends in the piece
+abbrev pub Feeds : Settings → List ℕ → List ℕ → HeaderReader → Result Bool Failure → Type 0
+Feeds settings taken piece reader (Ok true) = Ends settings reader taken piece
+Feeds settings taken piece reader (Ok false) = Waits settings reader (taken ++ piece)
+Feeds settings taken piece reader (Err (failures.Fault fault)) = (at : ℕ) × (header settings (start (taken ++ piece)) ≡ Refused fault at) × (length taken < at)
+Feeds settings taken piece reader (Err failures.Memory) = Unit {0}
+Feeds settings taken piece reader (Err failure) = ⊥
 
--- Since the first moment these bytes came from the input, and no fault.
-pub record Came (first now : SourceState) (bytes : List ℕ) : Type 0 where
-  pub consumed : Consumes first.left now.left bytes
-  pub given : RoseBy (length bytes) first.given now.given
-  pub most : now.given ≤ first.given + length bytes
+-- The bytes that came begin with what the reader took, a whole header with its authentication, fewer than a piece of 65,536 stand behind it, and no read failed.
+pub record HoldsHeader (uncommitted : Bool) (reader : HeaderReader) (first now : SourceState) : Type 0 where
+  pub bytes : List ℕ
+  pub holds : Holds (limits_of uncommitted) reader bytes
+  pub came : Came first now bytes
+  pub few : length holds.rest < 65536
   pub faults : now.faults ≡ first.faults
 
--- The bytes that came begin with what the reader took, a whole header with its tag, and fewer than so many stand behind it.
-pub record HoldsHeader (reader : HeaderReader) (first now : SourceState) (room : ℕ) : Type 0 where
-  pub bytes : List ℕ
-  pub holds : Holds reader bytes
-  pub came : Came first now bytes
-  pub few : length holds.rest < room
-
--- a piece of so many bytes came, and the reader still waits
-pub record Grows (first now : SourceState) (bytes : List ℕ) (reader : HeaderReader) (count : ℕ) : Type 0 where
-  pub piece : List ℕ
-  pub size : length piece ≡ count
-  pub some : 1 ≤ count
-  pub came : Came first now (bytes ++ piece)
-  pub waits : Waits reader (bytes ++ piece)
-
--- at most so many bytes were taken
-abbrev pub IsWithin : ℕ → Progress → Type 0
-IsWithin room progress.Whole = Unit {0}
-IsWithin room (progress.More count) = count ≤ room
-
--- what a read of at most so many bytes and a step come to
-abbrev pub Advances : ℕ → SourceState → SourceState → List ℕ → HeaderReader → Result Progress Failure → Type 0
-Advances room first now bytes reader (Ok progress.Whole) = HoldsHeader reader first now room
-Advances room first now bytes reader (Ok (progress.More count)) = Grows first now bytes reader count
-Advances room first now bytes reader (Err failure) = IsInputCause failure first now
+-- why there is no header where no more pieces come
+abbrev pub failure_at : End → Failure
+failure_at ends.Seen = failures.Fault Truncated
+failure_at ends.Failed = failures.Outside outsides.SourceFault
+failure_at ends.TooLong = failures.Outside outsides.InputTooLong

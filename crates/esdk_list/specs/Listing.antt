@@ -5,6 +5,9 @@ use Rattle.hex.specs.Hex.{encode_lower}
 use Rattle.esdk_fields.specs.Numbers.{to_big_endian}
 use Rattle.esdk_fields.specs.declared.contents.Content.{Content}
 use Rattle.esdk_fields.specs.declared.contents.Content.TheVariants.{Single, Framed}
+use Rattle.suite_table.specs.declared.suite.Suite.{Suite}
+use Rattle.suite_table.specs.declared.suite.Suite.TheVariants.{Committing, Uncommitted}
+use Rattle.suite_table.specs.Suites.{format_version, suite_id}
 use Rattle.edk_codec.specs.Entry.{Entry}
 use Rattle.header_codec.specs.Header.{HeaderValue, frame_length}
 use Rattle.esdk_report.specs.ContextLine.{context_json}
@@ -35,18 +38,23 @@ content_word (Framed n) = codes "framed"
 -- the lines before those of the data keys
 unfoldable pub opening_lines : HeaderValue → List ℕ
 opening_lines h =
-    line (codes "version") (codes "2")
-    ++ line (codes "suite") (encode_lower (to_big_endian w16 h.suite))
+    line (codes "version") (decimal (format_version h.suite))
+    ++ line (codes "suite") (encode_lower (to_big_endian w16 (suite_id h.suite)))
     ++ line (codes "message-id") (encode_lower h.message_id)
     ++ line (codes "context") (context_json h.stored)
     ++ line (codes "data-keys") (decimal (length h.entries))
+
+-- the line of what only one of the two formats has: the commitment to the data key, or the header's initialization vector
+abbrev pub key_line : Suite → HeaderValue → List ℕ
+key_line Committing h = line (codes "commitment") (encode_lower h.commitment)
+key_line Uncommitted h = line (codes "iv") (encode_lower h.iv)
 
 -- the lines behind them
 unfoldable pub closing_lines : HeaderValue → List ℕ
 closing_lines h =
     line (codes "content") (content_word h.content)
     ++ line (codes "frame-length") (decimal (frame_length h.content))
-    ++ line (codes "commitment") (encode_lower h.commitment)
+    ++ key_line h.suite h
     ++ line (codes "tag") (encode_lower h.tag)
 
 -- the whole listing

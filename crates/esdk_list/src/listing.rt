@@ -6,11 +6,11 @@ ghost use Rattle.std.specs.Int.{w16};
 ghost use Rattle.hex.specs.Hex.{encode_lower};
 ghost use Rattle.esdk_fields.specs.Numbers.{to_big_endian};
 ghost use Rattle.header_codec.specs.Header.{frame_length};
-ghost use Rattle.esdk_list.specs.Listing.{closing_lines, content_word, entry_line, entry_lines, entry_text, line, list_of, opening_lines};
+ghost use Rattle.esdk_list.specs.Listing.{closing_lines, content_word, entry_line, entry_lines, entry_text, key_line, line, list_of, opening_lines};
 
 use esdk_fields::{Blob, Content};
 use esdk_report::context_text;
-use header_codec::{DataKeyEntry, Header};
+use header_codec::{DataKeyEntry, Header, Suite};
 use std::alloc::{AllocError, Global};
 
 /// The listing of the header: ten lines or more, one for each data key among them.
@@ -32,12 +32,13 @@ pub fn list_text(alloc: Global, header: &Header) -> Result<Blob, AllocError>
 fn opening_text(alloc: Global, header: &Header) -> Result<Blob, AllocError>
     ensures { IfOk result (λ text. text ≡ opening_lines header.now) }
 {
+    let version = decimal_of(alloc, usize::from(header.version()))?;
     let suite = hex_of(alloc, &suite_bytes(header.suite()))?;
     let message_id = hex_of(alloc, header.message_id())?;
     let context = context_text(alloc, header.stored().pairs())?;
     let count = decimal_of(alloc, header.entries().len())?;
     let mut out = Blob::new(alloc);
-    push_line(&mut out, "version", b"2")?;
+    push_line(&mut out, "version", version.as_bytes())?;
     push_line(&mut out, "suite", suite.as_bytes())?;
     push_line(&mut out, "message-id", message_id.as_bytes())?;
     push_line(&mut out, "context", context.bytes())?;
@@ -51,14 +52,29 @@ fn closing_text(alloc: Global, header: &Header) -> Result<Blob, AllocError>
     ensures { IfOk result (λ text. text ≡ closing_lines header.now) }
 {
     let length = decimal_of(alloc, length_of(header.content()))?;
-    let commitment = hex_of(alloc, header.commitment())?;
     let tag = hex_of(alloc, header.tag())?;
     let mut out = Blob::new(alloc);
     push_line(&mut out, "content", word_of(header.content()).as_bytes())?;
     push_line(&mut out, "frame-length", length.as_bytes())?;
-    push_line(&mut out, "commitment", commitment.as_bytes())?;
+    push_key_line(alloc, &mut out, header)?;
     push_line(&mut out, "tag", tag.as_bytes())?;
     Ok(out)
+}
+
+/// The line of what only one of the two formats has: the commitment to the data key, or the header's initialization vector.
+fn push_key_line(alloc: Global, out: &mut Blob, header: &Header) -> Result<(), AllocError>
+    ensures { OnOk result (out.new ≡ out.old ++ key_line header.now.suite header.now) }
+{
+    match header.algorithm() {
+        Suite::Committing => {
+            let commitment = hex_of(alloc, header.commitment())?;
+            push_line(out, "commitment", commitment.as_bytes())
+        }
+        Suite::Uncommitted => {
+            let iv = hex_of(alloc, header.iv())?;
+            push_line(out, "iv", iv.as_bytes())
+        }
+    }
 }
 
 /// One line for each data key, numbered from 1.

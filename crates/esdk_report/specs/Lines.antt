@@ -50,6 +50,10 @@ fault_line (faults.FinalTooLong final) = codes "M19 FinalTooLong" ++ number_word
 fault_line (faults.UnitTag sequence) = codes "M20 UnitTag" ++ number_word sequence
 fault_line (faults.BlockTooLong block) = codes "M21 BlockTooLong" ++ number_word block
 fault_line faults.TrailingBytes = codes "M22 TrailingBytes"
+fault_line (faults.Uncommitted suite) = codes "M23 Uncommitted" ++ hex_word suite
+fault_line (faults.BadType kind) = codes "M24 BadType" ++ number_word kind
+fault_line (faults.BadReserved reserved) = codes "M25 BadReserved" ++ number_word reserved
+fault_line (faults.BadIvLength length) = codes "M26 BadIvLength" ++ number_word length
 
 -- the line of a refused request
 unfoldable pub refusal_line : Refusal → List ℕ

@@ -47,6 +47,10 @@ pub fn fault_text(alloc: Global, fault: &Fault) -> Result<Blob, AllocError>
         Fault::UnitTag(sequence) => with_number(alloc, "M20 UnitTag", u64::from(*sequence)),
         Fault::BlockTooLong(length) => with_number(alloc, "M21 BlockTooLong", *length),
         Fault::TrailingBytes => alone(alloc, "M22 TrailingBytes"),
+        Fault::Uncommitted(suite) => with_hex(alloc, "M23 Uncommitted", *suite),
+        Fault::BadType(kind) => with_number(alloc, "M24 BadType", u64::from(*kind)),
+        Fault::BadReserved(reserved) => with_number(alloc, "M25 BadReserved", u64::from(*reserved)),
+        Fault::BadIvLength(length) => with_number(alloc, "M26 BadIvLength", u64::from(*length)),
     }
 }
 

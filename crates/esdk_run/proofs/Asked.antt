@@ -38,7 +38,7 @@ migrate_asked trees words asked before after entropy spent untouched unwritten u
 pub comes_back : (trees : Trees) (words : Result Request WordsFault) (before after : Objects) (entropy spent : EntropyState) (untouched unwritten unread undrawn : Type 0) (code : ℕ)
     (report reported : SinkState) → RunsAs trees words before after entropy spent untouched unwritten unread undrawn code report reported
     → IfSome (keyring_asked words) (λ asked. ComesBack trees asked.0 asked.1 before.shelf after.shelf code)
-comes_back trees (Ok requests.List) before after entropy spent untouched unwritten unread undrawn code report reported runs = tt
+comes_back trees (Ok (requests.List asked)) before after entropy spent untouched unwritten unread undrawn code report reported runs = tt
 comes_back trees (Ok (requests.Encrypt asked)) before after entropy spent untouched unwritten unread undrawn code report reported runs =
     encrypt_comes_back trees asked before after entropy spent untouched unread undrawn code report reported runs
 comes_back trees (Ok (requests.Decrypt asked)) before after entropy spent untouched unwritten unread undrawn code report reported runs =

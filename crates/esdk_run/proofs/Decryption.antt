@@ -1,5 +1,5 @@
 -- What `decrypt` says over the tree that it gives back.
-use Rattle.std.proofs.Common.{◌≡◌, ℕ, List, Some, inl, inr, ap, subst, arith}
+use Rattle.std.proofs.Common.{◌≡◌, ℕ, List, Some, inl, inr, refl, ap, subst, arith}
 use Rattle.esdk_args.specs.declared.request.DecryptWords.{DecryptWords}
 use Rattle.esdk_fields.specs.Counts.{Stayed}
 use Rattle.esdk_base.specs.Streams.{SinkState}
@@ -18,8 +18,8 @@ use Rattle.esdk_decrypt.proofs.WholeInputs.{all_decrypted, first_fault, memory_a
 use Rattle.esdk_report.specs.declared.failure.Failure.TheVariants as failures
 use Rattle.esdk_run.specs.Decrypt.{asked_of, limits_of, reader_of}
 use Rattle.esdk_run.specs.Objects.{Objects}
-use Rattle.esdk_report.specs.Report.{ShowsContext, TellsContext}
-use Rattle.esdk_run.specs.Run.{DecryptRuns}
+use Rattle.esdk_report.specs.Report.{ShowsContext}
+use Rattle.esdk_run.specs.Run.{DecryptRuns, TellsOrLacksMemory}
 use Rattle.esdk_run.specs.Told.{DecryptsWholeMessages, GivesBack, IfNoneFailed, IsDoneOrMemory, NamesFault, NothingFails, Reads, ReadsBack, SaysTheJudgement, SaysWhatItReads, ShowsWhole}
 use Rattle.esdk_run.specs.Trees.{Trees}
 use Rattle.esdk_run.proofs.Given.{one_context}
@@ -68,15 +68,16 @@ says_what_it_reads trees asked before after untouched unwritten unread code repo
 
 -- ---- only want of memory keeps a whole message from being decrypted
 
--- a report that doesn't fail shows the context
+-- a report that doesn't fail shows the context, unless memory is wanting for its line
 context_shown : (pairs : List KeyValue) (code : ℕ) (before after : Objects) (report reported : SinkState) → NothingFails before after report reported
-    → TellsContext pairs code report reported → code ≡ 0
-context_shown pairs code before after report reported nothing (inl shown) = shown.status
-context_shown pairs code before after report reported nothing (inr lost) = absurd (omega (arith, nothing.reporting, lost.rose))
+    → TellsOrLacksMemory pairs code report reported → IsDoneOrMemory code
+context_shown pairs code before after report reported nothing (inl (inl shown)) = inl shown.status
+context_shown pairs code before after report reported nothing (inl (inr lost)) = absurd (omega (arith, nothing.reporting, lost.rose))
+context_shown pairs code before after report reported nothing (inr lacking) = inr (memory_status failures.Memory code report reported refl lacking)
 
 whole_decrypted : (reader : Reader) (before after : Objects) (unwritten : Type 0) (code : ℕ) (report reported : SinkState) (bytes : List ℕ) → IsWholeInput reader before.input bytes
     → NothingFails before after report reported → Ending (asked_by reader) before after unwritten code report reported → IsDoneOrMemory code
-whole_decrypted reader before after unwritten code report reported bytes whole nothing (inl (context, done, told)) = inl (context_shown context code before after report reported nothing told)
+whole_decrypted reader before after unwritten code report reported bytes whole nothing (inl (context, done, told)) = context_shown context code before after report reported nothing told
 whole_decrypted reader before after unwritten code report reported bytes whole nothing (inr (error, ends, said)) =
     let memory : error ≡ errors.Memory =
     memory_alone reader before.input after.input before.output after.output unwritten bytes error whole nothing.reading nothing.writing ends in
@@ -91,14 +92,17 @@ decrypts_whole_messages trees asked before after untouched unwritten unread code
 -- ---- what is said is the judgement of all bytes
 
 -- status 0 shows the context
-zero_shows : (pairs : List KeyValue) (code : ℕ) (report reported : SinkState) → TellsContext pairs code report reported → code ≡ 0 → ShowsContext pairs code report reported
-zero_shows pairs code report reported (inl shown) zero = shown
-zero_shows pairs code report reported (inr lost) zero = absurd (omega (arith, lost.status, zero))
+zero_shows : (pairs : List KeyValue) (code : ℕ) (report reported : SinkState) → TellsOrLacksMemory pairs code report reported → code ≡ 0 → ShowsContext pairs code report reported
+zero_shows pairs code report reported (inl (inl shown)) zero = shown
+zero_shows pairs code report reported (inl (inr lost)) zero = absurd (omega (arith, lost.status, zero))
+zero_shows pairs code report reported (inr lacking) zero = absurd (not_done failures.Memory code report reported lacking zero)
 
 -- status 1 doesn't come with a context
-one_shows_none : (pairs : List KeyValue) (code : ℕ) (report reported : SinkState) → TellsContext pairs code report reported → code ≡ 1 → ⊥
-one_shows_none pairs code report reported (inl shown) one = omega (arith, shown.status, one)
-one_shows_none pairs code report reported (inr lost) one = omega (arith, lost.status, one)
+one_shows_none : (pairs : List KeyValue) (code : ℕ) (report reported : SinkState) → TellsOrLacksMemory pairs code report reported → code ≡ 1 → ⊥
+one_shows_none pairs code report reported (inl (inl shown)) one = omega (arith, shown.status, one)
+one_shows_none pairs code report reported (inl (inr lost)) one = omega (arith, lost.status, one)
+one_shows_none pairs code report reported (inr lacking) one =
+    let five : code ≡ 5 = memory_status failures.Memory code report reported refl lacking in omega (arith, five, one)
 
 -- an end that is called a fault is that fault
 fault_ended : (reader : Reader) (before after : Objects) (unwritten : Type 0) (fault : Fault) (error : DecryptError) → failure_of error ≡ failures.Fault fault

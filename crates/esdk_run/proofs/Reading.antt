@@ -1,7 +1,6 @@
 -- What is read of the bytes that a decryption took, with a reader's keys.
-use Rattle.std.proofs.Common.{◌≡◌, ◌⊎◌, ◌∙◌, ℕ, List, [], inl, inr, sym, ap, subst}
+use Rattle.std.proofs.Common.{◌≡◌, ◌⊎◌, ◌∙◌, ℕ, List, inl, inr, sym, ap, subst}
 use Rattle.std.specs.Io.KnownBytes.{Appends}
-use Rattle.std.proofs.KnownBytes.{Appends-nil}
 use Rattle.esdk_base.specs.Sink.{AppendsFront}
 use Rattle.esdk_base.specs.Streams.{SinkState}
 use Rattle.esdk_fields.specs.declared.faults.Fault.{Fault}
@@ -18,7 +17,8 @@ use Rattle.esdk_report.specs.declared.failure.Failure.{Failure}
 use Rattle.esdk_report.specs.declared.failure.Failure.TheVariants as failures
 use Rattle.esdk_run.specs.Objects.{Objects}
 use Rattle.esdk_run.specs.Read.{EndsAsRead, GainsFront, GainsRead, ReadsFault, ReadsWhole, SaysWhatIsRead}
-use Rattle.esdk_report.specs.Report.{Reports, TellsContext}
+use Rattle.esdk_report.specs.Report.{Reports}
+use Rattle.esdk_run.specs.Run.{TellsOrLacksMemory}
 
 -- what an error is called in the program
 abbrev pub failure_of : DecryptError → Failure
@@ -29,7 +29,7 @@ failure_of errors.Memory = failures.Memory
 -- how a decryption ended, and what was said of it
 abbrev pub Ending : Asked → Objects → Objects → Type 0 → ℕ → SinkState → SinkState → Type 0
 Ending asked before after unwritten code report reported =
-    ((context : List KeyValue) × Decrypts asked before.input after.input before.output after.output context × TellsContext context code report reported)
+    ((context : List KeyValue) × Decrypts asked before.input after.input before.output after.output context × TellsOrLacksMemory context code report reported)
     ⊎ ((error : DecryptError) × EndsSo asked before.input after.input before.output after.output unwritten error × Reports (failure_of error) code report reported)
 
 -- ---- what was released is what is read
@@ -62,7 +62,7 @@ reads_fault reader before after fault has =
     }
 
 reads_whole : (reader : Reader) (before after : Objects) (code : ℕ) (report reported : SinkState) (context : List KeyValue)
-    → Decrypts (asked_by reader) before.input after.input before.output after.output context → TellsContext context code report reported
+    → Decrypts (asked_by reader) before.input after.input before.output after.output context → TellsOrLacksMemory context code report reported
     → ReadsWhole reader before after code report reported
 reads_whole reader before after code report reported context done told =
     let answer : Unlocking = Unlocks context done.only done.key in
@@ -97,12 +97,14 @@ ends_as_read reader before after unwritten (errors.Outside outsides.InputTooLong
 ends_as_read reader before after unwritten (errors.Outside outsides.SinkFault) same fails = (gains_front reader before after fails.0, fails.1)
 ends_as_read reader before after unwritten (errors.Outside outsides.KeyringFault) same fails = absurd (never_fails reader fails.0.bytes fails.0.failed)
 ends_as_read reader before after unwritten (errors.Outside other) same none = absurd none
-ends_as_read reader before after unwritten errors.Memory same (inl lost) = record {
-  bytes = lost.0.bytes;
+ends_as_read reader before after unwritten errors.Memory same lost = record {
+  before = lost.0.before;
+  last = lost.0.last;
   came = lost.0.came;
-  front = (0, subst (λ (o : SinkState). Appends before.output.written o.written []) (sym (same lost.1)) (Appends-nil before.output.written));
+  few = lost.0.few;
+  unreserved = λ unlocked. lost.0.lacks.unreserved (ap (λ (j : Judged). j.unlocked) (judged_reader reader lost.0.before lost.0.lacks.answer lost.0.lacks.answered) ∙ unlocked);
+  unwritten = same lost.1;
 }
-ends_as_read reader before after unwritten errors.Memory same (inr front) = gains_front reader before after front
 
 pub says_what_is_read : (reader : Reader) (before after : Objects) (unwritten : Type 0) (code : ℕ) (report reported : SinkState) → (unwritten → after.output ≡ before.output)
     → Ending (asked_by reader) before after unwritten code report reported → SaysWhatIsRead reader before after code report reported

@@ -24,9 +24,9 @@ use Rattle.esdk_run.specs.Objects.{Objects}
 use Rattle.esdk_run.specs.Pairs.{RefusesWordPairs, required_in}
 use Rattle.esdk_run.specs.Trees.{HasNoTree, HasTree, IsUntouched, Trees}
 
--- the limits that the words set
+-- the limits that the words set, and whether they allow a message without a commitment
 abbrev pub limits_of : DecryptWords → Settings
-limits_of asked = record { max_keys = asked.max_keys; max_unit = asked.max_unit }
+limits_of asked = record { max_keys = asked.max_keys; max_unit = asked.max_unit; uncommitted = asked.uncommitted }
 
 -- ---- what is answered to a header
 

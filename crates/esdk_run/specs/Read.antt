@@ -1,5 +1,5 @@
 -- What a run of `decrypt` says of the bytes that it took: what a reader reads of them, where the run had the reader's keys and none of its keyrings failed.
-use Rattle.std.specs.Prelude.{◌≡◌, ◌⊎◌, ℕ, List, Some, None}
+use Rattle.std.specs.Prelude.{◌≡◌, ◌⊎◌, ℕ, ◌≤◌, List, ◌++◌, length, true, false, Some, None}
 use Rattle.std.specs.Io.KnownBytes.{Appends}
 use Rattle.esdk_fields.specs.Counts.{Rose}
 use Rattle.esdk_base.specs.Sink.{AppendsFront}
@@ -7,17 +7,19 @@ use Rattle.esdk_base.specs.Streams.{SinkState}
 use Rattle.esdk_fields.specs.declared.faults.Fault.{Fault}
 use Rattle.esdk_fields.specs.declared.refusals.Outside.TheVariants as outsides
 use Rattle.context_codec.specs.Context.{KeyValue}
+use Rattle.header_codec.specs.Table.{head}
 use Rattle.body_format.specs.declared.verdicts.Verdict.TheVariants.{Whole}
 use Rattle.message_format.specs.Judgement.{content}
 use Rattle.message_format.specs.Reading.{unlocking}
+use Rattle.stream_open.specs.Session.{is_framed}
+use Rattle.whole_input.specs.Pieces.{most_piece}
 use Rattle.whole_input.specs.Taken.{Came, EndSeen, MostTaken}
 use Rattle.esdk_decrypt.specs.Decrypt.{HasContext, fault_at_end, fault_of}
 use Rattle.esdk_decrypt.specs.Told.{Reader, judged_by}
 use Rattle.esdk_report.specs.declared.failure.Failure.{Failure}
 use Rattle.esdk_report.specs.declared.failure.Failure.TheVariants as failures
 use Rattle.esdk_run.specs.Objects.{Objects}
-use Rattle.esdk_report.specs.Report.{TellsContext}
-use Rattle.esdk_run.specs.Run.{Fails}
+use Rattle.esdk_run.specs.Run.{Fails, TellsOrLacksMemory}
 
 -- These bytes were taken, and the output gained what is read of them.
 pub record GainsRead (reader : Reader) (before after : Objects) (bytes : List ℕ) : Type 0 where
@@ -30,7 +32,7 @@ pub record GainsFront (reader : Reader) (before after : Objects) : Type 0 where
   pub came : Came before.input after.input bytes
   pub front : AppendsFront before.output.written after.output.written (content (judged_by reader bytes))
 
--- The whole input was taken and is a whole message, the output gained its content, and the report was told its whole context.
+-- The whole input was taken and is a whole message, the output gained its content, and the report was told its whole context, or that memory was wanting for it.
 pub record ReadsWhole (reader : Reader) (before after : Objects) (code : ℕ) (report reported : SinkState) : Type 0 where
   pub bytes : List ℕ
   pub context : List KeyValue
@@ -38,7 +40,7 @@ pub record ReadsWhole (reader : Reader) (before after : Objects) (code : ℕ) (r
   pub end : EndSeen before.input after.input bytes
   pub whole : (judged_by reader bytes).verdict ≡ Whole
   pub unlocked : HasContext (unlocking bytes reader.settings reader.given reader.required reader.keys) context
-  pub told : TellsContext context code report reported
+  pub told : TellsOrLacksMemory context code report reported
 
 -- The bytes that were taken have this fault, or they are the whole input and it has it. The output gained what is read of them.
 pub record ReadsFault (reader : Reader) (before after : Objects) (fault : Fault) : Type 0 where
@@ -54,13 +56,22 @@ pub record ReadsNoFault (reader : Reader) (before after : Objects) (cause : List
   pub sound : fault_of (judged_by reader bytes).verdict ≡ None
   pub because : cause bytes
 
+-- Memory ran out, and nothing was written. What came before the last piece doesn't reach behind the unlocked header of a framed message, from where on no memory is taken.
+pub record ReadsNothing (reader : Reader) (old new : Objects) : Type 0 where
+  pub before : List ℕ
+  pub last : List ℕ
+  pub came : Came old.input new.input (before ++ last)
+  pub few : length last ≤ most_piece
+  pub unreserved : (judged_by reader before).unlocked ≡ true → is_framed (head reader.settings before) ≡ false
+  pub unwritten : new.output ≡ old.output
+
 -- why it wasn't decrypted, by what is read of it
 abbrev pub EndsAsRead : Reader → Objects → Objects → Failure → Type 0
 EndsAsRead reader before after (failures.Fault fault) = ReadsFault reader before after fault
 EndsAsRead reader before after (failures.Outside outsides.SourceFault) = ReadsNoFault reader before after (λ bytes. Rose before.input.faults after.input.faults)
 EndsAsRead reader before after (failures.Outside outsides.InputTooLong) = ReadsNoFault reader before after (λ bytes. MostTaken before.input after.input bytes)
 EndsAsRead reader before after (failures.Outside outsides.SinkFault) = GainsFront reader before after × Rose before.output.faults after.output.faults
-EndsAsRead reader before after failures.Memory = GainsFront reader before after
+EndsAsRead reader before after failures.Memory = ReadsNothing reader before after
 EndsAsRead reader before after failure = ⊥
 
 -- All was decrypted, or a failure ended the run: a fault (status 1), X1, X2 or X6 (4), or want of memory (5); each as is read.

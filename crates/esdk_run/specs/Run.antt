@@ -2,6 +2,7 @@
 use Rattle.std.specs.Prelude.{◌≡◌, ◌≢◌, ◌⊎◌, ◌==◌, ◌||◌, ℕ, List, Bool, true, false, Option, Some, None, Result, Ok, Err}
 use Rattle.esdk_args.specs.declared.request.DecryptWords.{DecryptWords}
 use Rattle.esdk_args.specs.declared.request.EncryptWords.{EncryptWords}
+use Rattle.esdk_args.specs.declared.request.ListWords.{ListWords}
 use Rattle.esdk_args.specs.declared.request.MigrateWords.{MigrateWords}
 use Rattle.esdk_args.specs.declared.request.Request.{Request}
 use Rattle.esdk_args.specs.declared.request.Request.TheVariants as requests
@@ -34,7 +35,7 @@ reads_input (Err fault) = false
 
 -- the command reads from the shelf
 abbrev pub reads_shelf : Result Request WordsFault → Bool
-reads_shelf (Ok requests.List) = false
+reads_shelf (Ok (requests.List words)) = false
 reads_shelf (Ok request) = true
 reads_shelf (Err fault) = false
 
@@ -70,10 +71,10 @@ RefusesWords fault code report reported =
     Reports (words_failure fault) code report reported ⊎ Reports failures.Memory code report reported
 
 -- of `list`
-abbrev pub ListRuns : SourceState → SourceState → SinkState → SinkState → Type 0 → ℕ → SinkState → SinkState → Type 0
-ListRuns input taken output put same code report reported =
-    (IsDone code report reported × Lists input taken output.written put.written)
-    ⊎ Fails (λ failure. IsListCause failure input taken output put × LeavesOutput failure input taken output put same) code report reported
+abbrev pub ListRuns : ListWords → SourceState → SourceState → SinkState → SinkState → Type 0 → ℕ → SinkState → SinkState → Type 0
+ListRuns asked input taken output put same code report reported =
+    (IsDone code report reported × Lists asked.uncommitted input taken output.written put.written)
+    ⊎ Fails (λ failure. IsListCause asked.uncommitted failure input taken output put × LeavesOutput asked.uncommitted failure input taken output put same) code report reported
 
 -- of `encrypt`
 abbrev pub EncryptRuns : Trees → EncryptWords → Objects → Objects → EntropyState → EntropyState → Type 0 → Type 0 → Type 0 → ℕ → SinkState → SinkState → Type 0
@@ -81,11 +82,15 @@ EncryptRuns trees asked before after entropy spent untouched unread undrawn code
     (IsDone code report reported × EncryptsInput trees asked before after entropy spent)
     ⊎ Fails (EncryptFails trees asked before after entropy spent untouched unread undrawn) code report reported
 
--- The input was decrypted, and the report was told its whole context.
+-- the report was told the whole context; or memory was wanting for its line, and the report was told that
+abbrev pub TellsOrLacksMemory : List KeyValue → ℕ → SinkState → SinkState → Type 0
+TellsOrLacksMemory context code report reported = TellsContext context code report reported ⊎ Reports failures.Memory code report reported
+
+-- The input was decrypted, and the report was told its whole context, or that memory was wanting for it.
 pub record DecryptsAndTells (trees : Trees) (asked : DecryptWords) (before after : Objects) (code : ℕ) (report reported : SinkState) : Type 0 where
   pub context : List KeyValue
   pub done : DecryptsInput trees asked before after context
-  pub told : TellsContext context code report reported
+  pub told : TellsOrLacksMemory context code report reported
 
 -- of `decrypt`
 abbrev pub DecryptRuns : Trees → DecryptWords → Objects → Objects → Type 0 → Type 0 → Type 0 → ℕ → SinkState → SinkState → Type 0
@@ -109,8 +114,8 @@ AgreesWith code (Some fault) = code ≢ 0
 -- What a run comes to, by what its words ask for. It gives a tree back only where it read one. `untouched` says that input and output are as before, `unwritten` that the
 -- output is, `unread` that the shelf is, and `undrawn` that the entropy is.
 abbrev pub RunsAs : Trees → Result Request WordsFault → Objects → Objects → EntropyState → EntropyState → Type 0 → Type 0 → Type 0 → Type 0 → ℕ → SinkState → SinkState → Type 0
-RunsAs trees (Ok requests.List) before after entropy spent untouched unwritten unread undrawn code report reported =
-    (trees.kept ≡ None) × ListRuns before.input after.input before.output after.output unwritten code report reported
+RunsAs trees (Ok (requests.List asked)) before after entropy spent untouched unwritten unread undrawn code report reported =
+    (trees.kept ≡ None) × ListRuns asked before.input after.input before.output after.output unwritten code report reported
 RunsAs trees (Ok (requests.Encrypt asked)) before after entropy spent untouched unwritten unread undrawn code report reported =
     EncryptRuns trees asked before after entropy spent untouched unread undrawn code report reported
 RunsAs trees (Ok (requests.Decrypt asked)) before after entropy spent untouched unwritten unread undrawn code report reported =

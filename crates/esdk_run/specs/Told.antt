@@ -68,7 +68,7 @@ pub record ComesBack (trees : Trees) (words : List PairWord) (name : List ℕ) (
 abbrev pub keyring_asked : Result Request WordsFault → Option (List PairWord × List ℕ)
 keyring_asked (Ok (requests.Encrypt asked)) = Some (asked.pairs, asked.keyring)
 keyring_asked (Ok (requests.Decrypt asked)) = Some (asked.pairs, asked.keyring)
-keyring_asked (Ok requests.List) = None
+keyring_asked (Ok (requests.List asked)) = None
 keyring_asked (Ok (requests.Migrate asked)) = None
 keyring_asked (Err fault) = None
 

@@ -1,5 +1,6 @@
 //! The commands, each with its status and its line on the report.
 ghost use Rattle.std.specs.Prelude.{◌≡◌, ◌+◌, ◌<◌, ◌≤◌, ◌^◌, false, true, length, Ok};
+ghost use Rattle.esdk_args.specs.declared.request.ListWords.{ListWords};
 ghost use Rattle.esdk_args.specs.declared.request.Request.TheVariants as requests;
 ghost use Rattle.esdk_args.specs.Words.{words_of};
 ghost use Rattle.esdk_base.specs.Streams.{OnTold};
@@ -13,7 +14,7 @@ use crate::encrypt::encrypt_input;
 use crate::migrate::migrate_file;
 use crate::outcome::{Ended, Outcome};
 use crate::words::words_failure;
-use esdk_args::{DecryptWords, EncryptWords, MigrateWords, Request, read_words};
+use esdk_args::{DecryptWords, EncryptWords, ListWords, MigrateWords, Request, read_words};
 use esdk_base::{Entropy, Shelf, Sink, Source};
 use esdk_fields::Text;
 use esdk_list::list;
@@ -45,7 +46,8 @@ pub fn carry_out<P: Keyring, S: Source, O: Sink, R: Sink, F: Shelf, W: Entropy>(
         result.status.code (R.state report.old) (R.state report.new) }
 
     // No input that begins with a header and its tag is refused by `list` for a fault, and no other is done.
-    ensures judged { words_of words.now ≡ Ok requests.List → OnTold (S.state input.old).left (λ bytes. AgreesWith result.status.code (input_fault bytes)) }
+    ensures judged { (asked : ListWords) → words_of words.now ≡ Ok (requests.List asked)
+        → OnTold (S.state input.old).left (λ bytes. AgreesWith result.status.code (input_fault asked.uncommitted bytes)) }
 
     // The shelf keeps its files, and is left alone by commands that read no file; so is the input by those that don't read it, and the entropy by those that draw nothing.
     ensures files { (F.state shelf.new).files ≡ (F.state shelf.old).files }
@@ -57,8 +59,8 @@ pub fn carry_out<P: Keyring, S: Source, O: Sink, R: Sink, F: Shelf, W: Entropy>(
     ensures taken { (S.state input.new).given ≤ (S.state input.old).given + 2 ^ 62 }
 {
     match read_words(alloc, words) {
-        Ok(Request::List) => Ended {
-            status: run_list(alloc, input, output, report),
+        Ok(Request::List(asked)) => Ended {
+            status: run_list(alloc, &asked, input, output, report),
             tree: None,
         },
         Ok(Request::Encrypt(asked)) => {
@@ -81,19 +83,20 @@ pub fn carry_out<P: Keyring, S: Source, O: Sink, R: Sink, F: Shelf, W: Entropy>(
 /// Carries out `list`.
 fn run_list<S: Source, O: Sink, R: Sink>(
     alloc: Global,
+    asked: &ListWords,
     input: &mut S,
     output: &mut O,
     report: &mut R,
 ) -> Status
     ensures status { is_status result.code ≡ true }
-    ensures runs { ListRuns
+    ensures runs { ListRuns asked.now
         (S.state input.old) (S.state input.new)
         (O.state output.old) (O.state output.new) (output.new ≡ output.old)
         result.code (R.state report.old) (R.state report.new) }
-    ensures judged { OnTold (S.state input.old).left (λ bytes. AgreesWith result.code (input_fault bytes)) }
+    ensures judged { OnTold (S.state input.old).left (λ bytes. AgreesWith result.code (input_fault asked.now.uncommitted bytes)) }
     ensures taken { (S.state input.new).given ≤ (S.state input.old).given + 2 ^ 62 }
 {
-    match list(alloc, input, output) {
+    match list(alloc, input, output, asked.uncommitted) {
         Ok(()) => Status::DONE,
         Err(failure) => report_failure(alloc, &failure, report),
     }

@@ -26,7 +26,7 @@ use std::alloc::Global;
 /// the words given and their required keys demanded, and answers the whole context. The tree is given back as it is
 /// left, also after an error.
 ///
-/// The pairs are read first, then the keyring file, and then the whole input is taken.
+/// The pairs are read first, then the keyring file, and then the input, each content being written before more is read.
 pub fn decrypt_input<P: Keyring, S: Source, O: Sink, F: Shelf>(
     alloc: Global,
     asked: &DecryptWords,
@@ -101,6 +101,7 @@ fn decrypt_under<K: Keyring, S: Source, O: Sink>(
     let settings = Settings {
         max_keys: asked.max_keys,
         max_unit: asked.max_unit,
+        uncommitted: asked.uncommitted,
     };
     let ended = decrypt(alloc, &mut manager, 0, settings, given, input, output);
     Outcome {

@@ -25,7 +25,7 @@ use std::alloc::Global;
 /// words. The tree is given back as it is left, also after an error.
 ///
 /// The pairs are read first, then the keyring file; then the random bytes are drawn; then the request is judged;
-/// then the input is taken, and the message written frame by frame, the header first.
+/// then the message is written, the header before the input is read, and each frame before more of it is.
 pub fn encrypt_input<P: Keyring, S: Source, O: Sink, F: Shelf, W: Entropy>(
     alloc: Global,
     asked: &EncryptWords,

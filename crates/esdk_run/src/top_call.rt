@@ -2,6 +2,7 @@
 ghost use Rattle.std.specs.Prelude.{◌≡◌, ◌+◌, ◌<◌, ◌≤◌, ◌^◌, false, true, length, IfSome, Ok};
 ghost use Rattle.esdk_args.specs.declared.request.DecryptWords.{DecryptWords};
 ghost use Rattle.esdk_args.specs.declared.request.EncryptWords.{EncryptWords};
+ghost use Rattle.esdk_args.specs.declared.request.ListWords.{ListWords};
 ghost use Rattle.esdk_args.specs.declared.request.MigrateWords.{MigrateWords};
 ghost use Rattle.esdk_args.specs.declared.request.Request.TheVariants as requests;
 ghost use Rattle.esdk_args.specs.Words.{words_of};
@@ -58,7 +59,8 @@ pub fn run<P: Keyring, S: Source, O: Sink, R: Sink, F: Shelf, W: Entropy, C: Clo
         result.status.code (R.state report.old) (R.state report.new) }
 
     // No input that begins with a header and its tag is refused by `list` for a fault, and no other is done.
-    ensures judged { words_of words.now ≡ Ok requests.List → OnTold (S.state input.old).left (λ bytes. AgreesWith result.status.code (input_fault bytes)) }
+    ensures judged { (asked : ListWords) → words_of words.now ≡ Ok (requests.List asked)
+        → OnTold (S.state input.old).left (λ bytes. AgreesWith result.status.code (input_fault asked.uncommitted bytes)) }
 
     // The shelf keeps its files, and is left alone by commands that read no file; so is the input by those that don't read it, and the entropy by those that draw nothing.
     ensures files { (F.state shelf.new).files ≡ (F.state shelf.old).files }

@@ -2,7 +2,7 @@ use Rattle.esdk_args.proofs.Requests.{decrypt_asks, decrypt_is_read, encrypt_ask
 use Rattle.esdk_args.proofs.laws.requests_are_read.Goals as goal
 
 pub returns-clause-list : goal.returns-clause-list
-returns-clause-list c = λ words. (list_asks words, list_is_read words)
+returns-clause-list c = λ words asked. (list_asks words asked, list_is_read words asked)
 
 pub returns-clause-encrypt : goal.returns-clause-encrypt
 returns-clause-encrypt c = λ words asked. (encrypt_asks words asked, encrypt_is_read words asked)

@@ -1,23 +1,27 @@
 use Rattle.std.proofs.Common.{◌∙◌}
 use Rattle.esdk_list.specs.HeaderInput.{session_of}
+use Rattle.esdk_list.specs.List.{limits_of}
 use Rattle.esdk_list.proofs.Shown.{shows_some, shows_came, lists, lists_front}
 use Rattle.esdk_list.proofs.command.list.Goals as goal
 
 pub unreachable-requires : goal.unreachable-requires
 unreachable-requires g c =
     let holds = c.in-Ok.ensures.whole in
-    shows_some c.in-Ok.reader holds.bytes holds.holds (c.in_default.ensures (session_of holds.holds.taken) holds.holds.stands)
+    let limits = limits_of c.args.uncommitted in
+    shows_some limits c.in-Ok.reader holds.bytes holds.holds (c.in_default.ensures (session_of limits holds.holds.taken) holds.holds.stands)
 
 pub returns-in-Ok-put-clause-done : goal.returns-in-Ok-put-clause-done
 returns-in-Ok-put-clause-done g c =
     let holds = c.in-Ok.ensures.whole in
-    let shows = c.in-Some.ensures (session_of holds.holds.taken) holds.holds.stands in
-    lists _ _ _ _ c.in-Some.header.now c.bytes.result.now (shows_came c.in-Ok.reader _ _ holds c.in-Some.header.now shows) (c.bytes.ensures ∙ c.in_ok-text.ensures)
+    let limits = limits_of c.args.uncommitted in
+    let shows = c.in-Some.ensures (session_of limits holds.holds.taken) holds.holds.stands in
+    lists c.args.uncommitted _ _ _ _ c.in-Some.header.now c.bytes.result.now (shows_came c.args.uncommitted c.in-Ok.reader _ _ holds c.in-Some.header.now shows) (c.bytes.ensures ∙ c.in_ok-text.ensures)
     c.in-Ok-put.ensures.bytes
 
 pub returns-clause-output : goal.returns-clause-output
 returns-clause-output g c =
     let holds = c.in-Ok.ensures.whole in
-    let shows = c.in-Some.ensures (session_of holds.holds.taken) holds.holds.stands in
-    lists_front _ _ _ _ c.in-Some.header.now c.bytes.result.now (shows_came c.in-Ok.reader _ _ holds c.in-Some.header.now shows) (c.bytes.ensures ∙ c.in_ok-text.ensures)
+    let limits = limits_of c.args.uncommitted in
+    let shows = c.in-Some.ensures (session_of limits holds.holds.taken) holds.holds.stands in
+    lists_front c.args.uncommitted _ _ _ _ c.in-Some.header.now c.bytes.result.now (shows_came c.args.uncommitted c.in-Ok.reader _ _ holds c.in-Some.header.now shows) (c.bytes.ensures ∙ c.in_ok-text.ensures)
     c.in-Err-put.ensures.bytes
