@@ -11,34 +11,43 @@ other's named values.
 import sys
 from dataclasses import dataclass
 
+from cryptography.hazmat.primitives.ciphers.aead import AESGCM
+
 import keyrings
 import migration
 from forms import MOST_PIECE, Reader, shown, shown_report
 from keyrings import KeyringFault, json_text
 from messages import (
+    COMMITTING,
     MOST_CONTEXT,
     Bytes,
     Fault,
     Going,
+    Limits,
     check_lock,
     context_length,
-    framed_units,
+    derived_key,
     locked_header,
     read_header,
+    sealed_frame,
     units,
 )
 from objects import Entropy, Failed, Shelf, Sink, Source
 
 MOST_FILE = 1_048_576
 MOST_HEADER = 16_777_216
+MOST_FRAMES = 2**32 - 1
 DONE, FAULT, WORDS, FILE, OUTSIDE, REFUSED = 0, 1, 2, 3, 4, 6
 
 OPTIONS = {
+    "list": {},
     "encrypt": {"--keyring": None, "--frame": 2**32 - 1, "--max-keys": 2**16 - 1},
     "decrypt": {"--keyring": None, "--max-keys": 2**16 - 1, "--max-unit": 2**36 - 32},
     "migrate": {"--keyring": None, "--retire": 2**20},
 }
-WITHOUT_PAIRS = ("migrate",)
+FLAG = "--allow-uncommitted"
+WITH_FLAG = ("list", "decrypt")
+WITH_PAIRS = ("encrypt", "decrypt")
 
 
 class Ended(Exception):
@@ -57,29 +66,35 @@ class Asked:
     command: str
     keyring: str
     numbers: dict
+    uncommitted: bool
     pairs: list
+
+    def limits(self):
+        return Limits(self.numbers.get("--max-keys"), self.numbers.get("--max-unit"), self.uncommitted)
 
 
 def read_words(words):
-    """The narrow form: the command, its options in their order, the pairs."""
+    """The narrow form: the command, its options in their order, the flag, the pairs."""
     words = [word.decode() for word in words]
-    if words == ["list"]:
-        return Asked("list", None, {}, [])
     if not words or words[0] not in OPTIONS:
         raise Ended(WORDS, "words NotBuilt")
-    options, rest = {}, words[1:]
-    for name in OPTIONS[words[0]]:
+    command, rest = words[0], words[1:]
+    options = {}
+    for name in OPTIONS[command]:
         if rest and rest[0] == name:
             options[name], rest = option_value(rest), rest[2:]
-    is_paired = rest and words[0] in WITHOUT_PAIRS
-    if "--keyring" not in options or is_paired or any(word.startswith("-") for word in rest):
+    has_flag = command in WITH_FLAG and rest[:1] == [FLAG]
+    rest = rest[has_flag:]
+    is_keyed = "--keyring" not in OPTIONS[command] or "--keyring" in options
+    is_paired = rest and command not in WITH_PAIRS
+    if not is_keyed or is_paired or any(word.startswith("-") for word in rest):
         raise Ended(WORDS, "words NotBuilt")
     numbers = {
         name: read_number(name, options[name], most)
-        for name, most in OPTIONS[words[0]].items()
+        for name, most in OPTIONS[command].items()
         if name in options and most
     }
-    return Asked(words[0], options["--keyring"], numbers, read_pairs(rest))
+    return Asked(command, options.get("--keyring"), numbers, has_flag, read_pairs(rest))
 
 
 def option_value(rest):
@@ -169,7 +184,7 @@ class Run:
 
     def status_of(self, asked):
         if asked.command == "list":
-            self.list()
+            self.list(asked.limits())
             return DONE
         if asked.command == "migrate":
             self.migrate(asked)
@@ -180,7 +195,7 @@ class Run:
         if asked.command == "encrypt":
             self.encrypt(asked.numbers, context, required)
             return DONE
-        whole = self.decrypt(asked.numbers, context, required)
+        whole = self.decrypt(asked.limits(), context, required)
         return self.put_context(whole)
 
     def put_context(self, whole):
@@ -230,21 +245,15 @@ class Run:
 
     # list
 
-    def list(self):
-        """Reads until the header with its tag is whole, and no further."""
-        bytes_ = b""
-        while True:
-            piece = self.read()
-            if not piece:
-                raise Ended(FAULT, "M10 Truncated")
-            bytes_ += piece
-            try:
-                header = read_header(Bytes(bytes_))
-            except Going:
-                continue
-            except Fault as fault:
-                raise Ended(FAULT, str(fault)) from None
-            return self.put(listing(header).encode())
+    def list(self, limits):
+        """Reads until the header with its authentication is whole, and no further."""
+        try:
+            header = read_header(Bytes(more=self.read), limits)
+        except Fault as fault:
+            raise Ended(FAULT, str(fault)) from None
+        except Going:
+            raise Ended(FAULT, "M10 Truncated") from None
+        self.put(listing(header).encode())
 
     # encrypt
 
@@ -265,55 +274,37 @@ class Run:
         refuse_entries(entries, numbers.get("--max-keys"), context, required)
         only = {key: context[key] for key in required}
         stored = {key: context[key] for key in context if key not in required}
-        text = self.whole_input()
         self.put(locked_header(message_id, stored, only, entries, frame, data_key))
-        for unit in framed_units(data_key, message_id, frame, text):
-            self.put(unit)
+        self.put_frames(data_key, message_id, frame)
 
-    def whole_input(self):
-        text = b""
-        while piece := self.read():
-            text += piece
-        return text
+    def put_frames(self, data_key, message_id, frame):
+        """Writes a full frame once a byte behind it was read, and the last one where the input ends."""
+        cipher = AESGCM(derived_key(data_key, message_id))
+        left, number = Bytes(more=self.read), 1
+        while left.has(frame + 1):
+            if number == MOST_FRAMES:
+                raise Ended(REFUSED, "Q9 TooManyFrames")
+            self.put(sealed_frame(cipher, message_id, number, left.take(frame)))
+            number += 1
+        rest = left.take(len(left.bytes) - left.at)
+        self.put(sealed_frame(cipher, message_id, number, rest, is_final=True))
 
     # decrypt
 
-    def decrypt(self, numbers, given, required):
-        """Judges what was taken, and gives the whole context."""
-        failure = None
-        bytes_ = b""
+    def decrypt(self, limits, given, required):
+        """Writes the content of each unit once it is whole, and gives the whole context."""
+        left = Bytes(more=self.read)
         try:
-            while piece := self.read():
-                bytes_ += piece
-        except Ended as ended:
-            failure = ended
-        released, verdict = self.judged(bytes_, numbers, given, required)
-        for unit in released:
-            if unit:
-                self.put(unit)
-        if verdict not in (Going, None):
-            raise Ended(FAULT, verdict)
-        if failure:
-            raise failure
-        if verdict is Going:
-            raise Ended(FAULT, "M10 Truncated")
-        return self.whole
-
-    def judged(self, bytes_, numbers, given, required):
-        """The contents of the units, and the fault, Going, or None of a whole message."""
-        released = []
-        max_unit = numbers.get("--max-unit")
-        left = Bytes(bytes_)
-        try:
-            header = read_header(left, numbers.get("--max-keys"), max_unit)
+            header = read_header(left, limits)
             data_key = self.unlocked(header, given, required)
-            for unit in units(left, header, data_key, max_unit):
-                released.append(unit)
+            for unit in units(left, header, data_key, limits.max_unit):
+                if unit:
+                    self.put(unit)
         except Fault as fault:
-            return released, str(fault)
+            raise Ended(FAULT, str(fault)) from None
         except Going:
-            return released, Going
-        return released, None
+            raise Ended(FAULT, "M10 Truncated") from None
+        return self.whole
 
     def unlocked(self, header, given, required):
         """The data key of the header."""
@@ -376,8 +367,8 @@ def refuse_entries(entries, max_keys, context, required):
 
 def listing(header):
     lines = [
-        "version: 2",
-        "suite: 0478",
+        f"version: {header.suite.version}",
+        f"suite: {header.suite.id.hex()}",
         f"message-id: {header.message_id.hex()}",
         f"context: {context_line(header.stored)}",
         f"data-keys: {len(header.entries)}",
@@ -388,7 +379,7 @@ def listing(header):
     lines += [
         f"content: {'framed' if header.is_framed() else 'single'}",
         f"frame-length: {header.frame}",
-        f"commitment: {header.commitment.hex()}",
+        f"commitment: {header.commitment.hex()}" if header.suite == COMMITTING else f"iv: {header.iv.hex()}",
         f"tag: {header.tag.hex()}",
     ]
     return "".join(f"{line}\n" for line in lines)

@@ -13,16 +13,40 @@ from cryptography.hazmat.primitives import hashes
 from cryptography.hazmat.primitives.ciphers.aead import AESGCM
 from cryptography.hazmat.primitives.kdf.hkdf import HKDF
 
-SUITE = bytes.fromhex("0478")
 FINAL_MARK = b"\xff\xff\xff\xff"
 MOST_CONTEXT = 65_535
 MOST_END_OF_KEYS = 16_777_216
 MOST_BLOCK = 2**36 - 32
+IV = 12
 TAG = 16
+TYPE = 0x80
 
 FRAME = b"AWSKMSEncryptionClient Frame"
 FINAL_FRAME = b"AWSKMSEncryptionClient Final Frame"
 SINGLE_BLOCK = b"AWSKMSEncryptionClient Single Block"
+
+
+@dataclass(frozen=True)
+class Suite:
+    """An algorithm suite, and what the format of its messages says: the version, and how long a message id is."""
+
+    version: int
+    id: bytes
+    id_length: int
+
+
+COMMITTING = Suite(2, bytes.fromhex("0478"), 32)
+UNCOMMITTED = Suite(1, bytes.fromhex("0178"), 16)
+SUITES = {suite.version: suite for suite in (COMMITTING, UNCOMMITTED)}
+
+
+@dataclass
+class Limits:
+    """What a reader sets: how many encrypted data keys there may be, how long a unit may be, and whether format 1.0 is read."""
+
+    max_keys: int = None
+    max_unit: int = None
+    uncommitted: bool = False
 
 
 class Fault(Exception):
@@ -57,20 +81,34 @@ def context_length(pairs):
 
 
 class Bytes:
-    """Bytes that are taken from the front."""
+    """Bytes that are taken from the front. While too few are there, `more` gives the next ones, or none at the end."""
 
-    def __init__(self, bytes_):
-        self.bytes = bytes_
+    def __init__(self, bytes_=b"", more=lambda: b""):
+        self.bytes = bytearray(bytes_)
+        self.more = more
         self.at = 0
 
+    def has(self, count):
+        """Whether so many bytes follow. No more are asked for than it takes to say so."""
+        while len(self.bytes) - self.at < count:
+            piece = self.more()
+            if not piece:
+                return False
+            self.bytes += piece
+        return True
+
     def take(self, count):
-        if len(self.bytes) - self.at < count:
+        if not self.has(count):
             raise Going
         self.at += count
-        return self.bytes[self.at - count : self.at]
+        return bytes(self.bytes[self.at - count : self.at])
 
     def number(self, count):
         return number(self.take(count))
+
+    def taken(self):
+        """All that was taken from the front so far."""
+        return bytes(self.bytes[: self.at])
 
 
 def spelled_pairs(text):
@@ -122,14 +160,16 @@ class Entry:
 
 @dataclass
 class Header:
-    """A header as it was read: `body` is all of it without the tag."""
+    """A header as it was read: `body` is all of it without its authentication, which is `iv` and `tag`."""
 
+    suite: Suite
     message_id: bytes
     stored: dict
     entries: list
     frame: int
     commitment: bytes
     body: bytes
+    iv: bytes
     tag: bytes
 
     def is_framed(self):
@@ -157,11 +197,30 @@ def read_entries(left, max_keys):
     return entries
 
 
-def read_content(left, max_unit):
+def read_suite(left, uncommitted):
+    version = left.number(1)
+    if version not in SUITES:
+        raise Fault(f"M1 BadVersion {version}")
+    suite = SUITES[version]
+    if suite == UNCOMMITTED:
+        kind = left.number(1)
+        if kind != TYPE:
+            raise Fault(f"M24 BadType {kind}")
+    suite_id = left.take(2)
+    if suite_id != suite.id:
+        raise Fault(f"M2 UnsupportedSuite {suite_id.hex()}")
+    if suite == UNCOMMITTED and not uncommitted:
+        raise Fault(f"M23 Uncommitted {suite_id.hex()}")
+    return suite
+
+
+def read_content(left, suite, max_unit):
     """The frame length, 0 for a single block."""
     kind = left.number(1)
     if kind not in (1, 2):
         raise Fault(f"M6 BadContentType {kind}")
+    if suite == UNCOMMITTED:
+        read_reserved(left)
     frame = left.number(4)
     if (kind == 1) != (frame == 0):
         raise Fault(f"M7 BadFrameLength {frame}")
@@ -170,45 +229,55 @@ def read_content(left, max_unit):
     return frame
 
 
-def read_header(left, max_keys=None, max_unit=None):
-    """The header at the front of these bytes, with its tag."""
-    version = left.number(1)
-    if version != 2:
-        raise Fault(f"M1 BadVersion {version}")
-    suite = left.take(2)
-    if suite != SUITE:
-        raise Fault(f"M2 UnsupportedSuite {suite.hex()}")
-    message_id = left.take(32)
+def read_reserved(left):
+    """What stands between the content type and the frame length in format 1.0."""
+    reserved = left.number(4)
+    if reserved != 0:
+        raise Fault(f"M25 BadReserved {reserved}")
+    length = left.number(1)
+    if length != IV:
+        raise Fault(f"M26 BadIvLength {length}")
+
+
+def read_header(left, limits):
+    """The header at the front of these bytes, with its authentication."""
+    suite = read_suite(left, limits.uncommitted)
+    message_id = left.take(suite.id_length)
     stored = read_context(left.take(left.number(2)))
-    entries = read_entries(left, max_keys)
-    frame = read_content(left, max_unit)
-    commitment = left.take(32)
-    body = left.bytes[: left.at]
-    return Header(message_id, stored, entries, frame, commitment, body, left.take(TAG))
+    entries = read_entries(left, limits.max_keys)
+    frame = read_content(left, suite, limits.max_unit)
+    commitment = left.take(32) if suite == COMMITTING else b""
+    body = left.taken()
+    iv = bytes(IV) if suite == COMMITTING else left.take(IV)
+    return Header(suite, message_id, stored, entries, frame, commitment, body, iv, left.take(TAG))
 
 
 def expanded(data_key, message_id, info):
     return HKDF(algorithm=hashes.SHA512(), length=32, salt=message_id, info=info).derive(data_key)
 
 
-def derived_key(data_key, message_id):
-    return expanded(data_key, message_id, SUITE + b"DERIVEKEY")
+def derived_key(data_key, message_id, suite=COMMITTING):
+    if suite == COMMITTING:
+        return expanded(data_key, message_id, suite.id + b"DERIVEKEY")
+    info = suite.id + message_id
+    return HKDF(algorithm=hashes.SHA256(), length=32, salt=b"", info=info).derive(data_key)
 
 
 def commitment_of(data_key, message_id):
     return expanded(data_key, message_id, b"COMMITKEY")
 
 
-def header_tag(body, only, data_key, message_id):
+def header_tag(body, only, data_key, message_id, suite=COMMITTING, iv=bytes(IV)):
     """The tag of a header, with these pairs that are authenticated only."""
-    cipher = AESGCM(derived_key(data_key, message_id))
-    return cipher.encrypt(bytes(12), b"", body + context_text(only))
+    cipher = AESGCM(derived_key(data_key, message_id, suite))
+    return cipher.encrypt(iv, b"", body + context_text(only))
 
 
 def check_lock(header, only, data_key):
-    if header.commitment != commitment_of(data_key, header.message_id):
+    suite, message_id = header.suite, header.message_id
+    if suite == COMMITTING and header.commitment != commitment_of(data_key, message_id):
         raise Fault("M16 Commitment")
-    if header.tag != header_tag(header.body, only, data_key, header.message_id):
+    if header.tag != header_tag(header.body, only, data_key, message_id, suite, header.iv):
         raise Fault("M17 HeaderTag")
 
 
@@ -225,13 +294,13 @@ def opened(cipher, iv, sealed, data, unit_number):
 
 
 def units(left, header, data_key, max_unit):
-    """Gives the contents of the body's units, one after another."""
-    cipher = AESGCM(derived_key(data_key, header.message_id))
+    """Gives the contents of the body's units, one after another, each before a byte behind it is asked for."""
+    cipher = AESGCM(derived_key(data_key, header.message_id, header.suite))
     if header.is_framed():
         yield from frames(left, header, cipher)
     else:
         yield block(left, header, cipher, max_unit)
-    if left.at < len(left.bytes):
+    if left.has(1):
         raise Fault("M22 TrailingBytes")
 
 
@@ -289,11 +358,21 @@ def wrapped(namespace, name, key, iv, data_key, whole):
 
 
 def header_body(message_id, context_field, entries, frame, commitment, kind=None):
-    """A header without its tag; the kind of content is the frame length's, if none is said."""
+    """A header of format 2.0 without its tag; the kind of content is the frame length's, if none is said."""
     kind = kind or (2 if frame else 1)
-    body = b"\x02" + SUITE + message_id + sized(context_field)
-    body += len(entries).to_bytes(2, "big") + b"".join(entry.text() for entry in entries)
+    body = b"\x02" + COMMITTING.id + message_id + sized(context_field) + entries_text(entries)
     return body + bytes([kind]) + frame.to_bytes(4, "big") + commitment
+
+
+def legacy_body(message_id, context_field, entries, frame, kind=None):
+    """A header of format 1.0 without its authentication."""
+    kind = kind or (2 if frame else 1)
+    body = b"\x01\x80" + UNCOMMITTED.id + message_id + sized(context_field) + entries_text(entries)
+    return body + bytes([kind]) + bytes(4) + bytes([IV]) + frame.to_bytes(4, "big")
+
+
+def entries_text(entries):
+    return len(entries).to_bytes(2, "big") + b"".join(entry.text() for entry in entries)
 
 
 def frame_iv(frame_number):
@@ -309,9 +388,9 @@ def sealed_frame(cipher, message_id, frame_number, text, is_final=False):
     return mark + frame_number.to_bytes(4, "big") + iv + size + cipher.encrypt(iv, text, data)
 
 
-def framed_units(data_key, message_id, frame, text):
+def framed_units(data_key, message_id, frame, text, suite=COMMITTING):
     """The frames of a text, a list."""
-    cipher = AESGCM(derived_key(data_key, message_id))
+    cipher = AESGCM(derived_key(data_key, message_id, suite))
     count = max(1, -(-len(text) // frame))
     pieces = [text[i * frame : (i + 1) * frame] for i in range(count)]
     return [
@@ -320,14 +399,20 @@ def framed_units(data_key, message_id, frame, text):
     ]
 
 
-def single_block(data_key, message_id, iv, text):
-    cipher = AESGCM(derived_key(data_key, message_id))
+def single_block(data_key, message_id, iv, text, suite=COMMITTING):
+    cipher = AESGCM(derived_key(data_key, message_id, suite))
     data = unit_data(message_id, SINGLE_BLOCK, 1, len(text))
     return iv + len(text).to_bytes(8, "big") + cipher.encrypt(iv, text, data)
 
 
 def locked_header(message_id, stored, only, entries, frame, data_key):
-    """A header with its tag."""
+    """A header of format 2.0 with its tag."""
     commitment = commitment_of(data_key, message_id)
     body = header_body(message_id, context_text(stored), entries, frame, commitment)
     return body + header_tag(body, only, data_key, message_id)
+
+
+def legacy_header(message_id, stored, only, entries, frame, data_key, iv=bytes(IV)):
+    """A header of format 1.0 with its authentication."""
+    body = legacy_body(message_id, context_text(stored), entries, frame)
+    return body + iv + header_tag(body, only, data_key, message_id, UNCOMMITTED, iv)

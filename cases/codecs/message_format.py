@@ -14,6 +14,10 @@ LONGEST_BLOCK = (1 << 36) - 32
 FINAL_MARK = 0xFFFFFFFF
 LONGEST_TEXT = 65_535
 
+# By the version of the format.
+SUITES = {1: 0x0178, 2: 0x0478}
+ID_LENGTHS = {1: 16, 2: 32}
+
 
 class Refused(Exception):
     """A fault or a refusal: its line, and the offset where the field that has it ends."""
@@ -57,7 +61,8 @@ NAMES = {
     "M1": "BadVersion", "M2": "UnsupportedSuite", "M3": "BadContext", "M4": "NoDataKeys", "M5": "TooManyDataKeys", "M6": "BadContentType",
     "M7": "BadFrameLength", "M8": "HeaderTooLong", "M9": "UnitTooLong", "M10": "Truncated", "M11": "ReservedKey", "M12": "ContextMismatch",
     "M13": "MissingRequired", "M14": "ContextTooLong", "M15": "NoKeyOpens", "M16": "Commitment", "M17": "HeaderTag", "M18": "WrongSequence",
-    "M19": "FinalTooLong", "M20": "UnitTag", "M21": "BlockTooLong", "M22": "TrailingBytes",
+    "M19": "FinalTooLong", "M20": "UnitTag", "M21": "BlockTooLong", "M22": "TrailingBytes", "M23": "Uncommitted", "M24": "BadType", "M25": "BadReserved",
+    "M26": "BadIvLength",
     "Q1": "ReservedPrefix", "Q2": "ContextTooLong", "Q3": "DuplicateKey", "Q4": "RequiredAbsent", "Q5": "NoGenerator", "Q6": "GeneratorHasKey",
     "Q7": "TooManyDataKeys", "Q8": "HeaderTooLong", "Q9": "TooManyFrames", "Q10": "OverDeclared",
     "K1": "NotJson", "K2": "BadShape", "K3": "BadKey", "K4": "ReservedNamespace", "K5": "ClashingKeys", "K6": "TooDeep", "K7": "TooManyLeaves",
@@ -67,13 +72,13 @@ NAMES = {
 
 
 def refusal(number, *values):
-    """The line: number, name, each value after a space; a text as a JSON string, M2's suite in four hexadecimal digits."""
+    """The line: number, name, each value after a space; a text as a JSON string, the suite of M2 and M23 in four hexadecimal digits."""
     words = [number, NAMES[number]]
     for value in values:
         if isinstance(value, bytes):
             words.append(json.dumps(value.decode(), ensure_ascii=False))
         else:
-            words.append(f"{value:04x}" if number == "M2" else str(value))
+            words.append(f"{value:04x}" if number in ("M2", "M23") else str(value))
     return " ".join(words)
 
 
@@ -162,14 +167,32 @@ def part(reader):
     return reader.bytes(length)
 
 
-def read_header(data, max_keys, max_unit):
-    """The fields by their names, `size` the length of the body and `end` the offset behind the tag."""
-    reader = Reader(data)
+def read_suite(reader, uncommitted):
+    """Version and suite id."""
     version = reader.number(1)
-    reader.refuse_if(version != 2, refusal("M1", version))
+    reader.refuse_if(version not in (1, 2), refusal("M1", version))
+    if version == 1:
+        kind = reader.number(1)
+        reader.refuse_if(kind != 0x80, refusal("M24", kind))
     suite = reader.number(2)
-    reader.refuse_if(suite != 0x0478, refusal("M2", suite))
-    head = {"suite": suite, "id": reader.bytes(32)}
+    reader.refuse_if(suite != SUITES[version], refusal("M2", suite))
+    reader.refuse_if(version == 1 and not uncommitted, refusal("M23", suite))
+    return version, suite
+
+
+def read_reserved(reader):
+    """The four zero bytes and the length of an initialization vector, which format 1.0 has before the frame length."""
+    reserved = reader.number(4)
+    reader.refuse_if(reserved != 0, refusal("M25", reserved))
+    length = reader.number(1)
+    reader.refuse_if(length != 12, refusal("M26", length))
+
+
+def read_header(data, uncommitted, max_keys, max_unit):
+    """The fields by their names, `raw` the body and `end` the offset behind the authentication."""
+    reader = Reader(data)
+    version, suite = read_suite(reader, uncommitted)
+    head = {"version": version, "suite": suite, "id": reader.bytes(ID_LENGTHS[version])}
     text = reader.sized()
     try:
         head["stored"] = read_context(text)
@@ -181,12 +204,15 @@ def read_header(data, max_keys, max_unit):
     head["entries"] = [(part(reader), part(reader), part(reader)) for _ in range(count)]
     kind = reader.number(1)
     reader.refuse_if(kind not in (1, 2), refusal("M6", kind))
+    if version == 1:
+        read_reserved(reader)
     frame = reader.number(4)
     reader.refuse_if((frame == 0) != (kind == 1), refusal("M7", frame))
     reader.refuse_if(kind == 2 and max_unit is not None and frame > max_unit, refusal("M9", frame))
     head["content"] = frame if kind == 2 else "single"
-    head["commitment"] = reader.bytes(32)
+    head["commitment"] = reader.bytes(32) if version == 2 else b""
     head["raw"] = data[: reader.at]
+    head["iv"] = reader.bytes(12) if version == 1 else bytes(12)
     head["tag"] = reader.bytes(16)
     head["end"] = reader.at
     return head
@@ -195,35 +221,49 @@ def read_header(data, max_keys, max_unit):
 def write_header(message_id, stored, entries, frame, commitment, max_keys):
     if max_keys is not None and len(entries) > max_keys:
         raise Refused(refusal("Q7", len(entries)))
-    keys = b"".join(entry_text(entry) for entry in entries)
-    front = bytes.fromhex("020478") + message_id + sized(context_text(stored)) + len(entries).to_bytes(2, "big")
-    if len(front) + len(keys) > LATEST_END:
-        raise Refused(refusal("Q8", len(front) + len(keys)))
-    return front + keys + b"\x02" + frame.to_bytes(4, "big") + commitment
+    front = front_text(bytes.fromhex("020478") + message_id, stored, entries)
+    return front + b"\x02" + frame.to_bytes(4, "big") + commitment
+
+
+def write_legacy_header(message_id, stored, entries, content):
+    """A header body of format 1.0."""
+    front = front_text(bytes.fromhex("01800178") + message_id, stored, entries)
+    kind, frame = (1, 0) if content == "single" else (2, content)
+    return front + bytes([kind]) + bytes(4) + b"\x0c" + frame.to_bytes(4, "big")
+
+
+def front_text(opening, stored, entries):
+    """What stands before the content type."""
+    text = opening + sized(context_text(stored)) + len(entries).to_bytes(2, "big") + b"".join(entry_text(entry) for entry in entries)
+    if len(text) > LATEST_END:
+        raise Refused(refusal("Q8", len(text)))
+    return text
 
 
 # ---- keys
 
-def derive(key, salt, info):
-    return HKDF(algorithm=hashes.SHA512(), length=32, salt=salt, info=info).derive(key)
+def derive(key, hash_, salt, info):
+    return HKDF(algorithm=hash_, length=32, salt=salt, info=info).derive(key)
 
 
-def derived_key(key, message_id):
-    return derive(key, message_id, b"\x04\x78DERIVEKEY")
+def derived_key(version, key, message_id):
+    if version == 1:
+        return derive(key, hashes.SHA256(), b"", b"\x01\x78" + message_id)
+    return derive(key, hashes.SHA512(), message_id, b"\x04\x78DERIVEKEY")
 
 
 def commitment(key, message_id):
-    return derive(key, message_id, b"COMMITKEY")
+    return derive(key, hashes.SHA512(), message_id, b"COMMITKEY")
 
 
-def header_tag(raw, only, key, message_id):
-    return AESGCM(derived_key(key, message_id)).encrypt(bytes(12), b"", raw + context_text(only))
+def header_tag(head, only, key):
+    return AESGCM(derived_key(head["version"], key, head["id"])).encrypt(head["iv"], b"", head["raw"] + context_text(only))
 
 
 def lock_fault(head, only, key):
-    if head["commitment"] != commitment(key, head["id"]):
+    if head["version"] == 2 and head["commitment"] != commitment(key, head["id"]):
         return refusal("M16")
-    if head["tag"] != header_tag(head["raw"], only, key, head["id"]):
+    if head["tag"] != header_tag(head, only, key):
         return refusal("M17")
     return None
 
@@ -289,23 +329,19 @@ def unit_head(reader, content, want, max_unit):
     return "final", want, iv, length
 
 
-def judge_body(data, at, content, max_unit, key, message_id):
-    """The verdict, and the contents of the good units."""
-    reader, units = Reader(data, at), []
-    try:
-        while True:
-            want = len(units) + 1
-            kind, number, iv, length = unit_head(reader, content, want, max_unit)
-            text = opened(key, iv, reader.bytes(length + 16), unit_aad(message_id, kind, number, length))
-            if text is None:
-                return refusal("M20", want), units
-            units.append(text)
-            if kind != "regular":
-                return ("whole" if reader.at == len(data) else refusal("M22")), units
-    except Wanting:
-        return "going", units
-    except Refused as fault:
-        return fault.line, units
+def units_of(reader, content, max_unit, key, message_id):
+    """The contents of the units, each with the offset where its unit ends. Raises the first fault, with its offset, or that more is wanted."""
+    want = 0
+    while True:
+        want += 1
+        kind, number, iv, length = unit_head(reader, content, want, max_unit)
+        text = opened(key, iv, reader.bytes(length + 16), unit_aad(message_id, kind, number, length))
+        reader.refuse_if(text is None, refusal("M20", want))
+        yield reader.at, text
+        if kind != "regular":
+            break
+    if reader.at < len(reader.data):
+        raise Refused(refusal("M22"), reader.at + 1)
 
 
 def frame_iv(number):
@@ -321,12 +357,10 @@ def frame_text(key, message_id, kind, number, text):
     return head + frame_iv(number) + length + cipher
 
 
-def body_text(key, message_id, frame, text):
-    count = max(1, -(-len(text) // frame))
-    body = b""
-    for number in range(1, count):
-        body += frame_text(key, message_id, "regular", number, text[(number - 1) * frame : number * frame])
-    return body + frame_text(key, message_id, "final", count, text[(count - 1) * frame :])
+def head_texts(number, length):
+    """What stands before the content of a regular frame of this number, and of a final one of so many bytes."""
+    four = number.to_bytes(4, "big")
+    return four + frame_iv(number), b"\xff\xff\xff\xff" + four + frame_iv(number) + length.to_bytes(4, "big")
 
 
 def block_text(key, message_id, iv, text):
@@ -335,17 +369,35 @@ def block_text(key, message_id, iv, text):
 
 # ---- messages
 
-def judge(data, max_keys, max_unit, answer):
-    """Whether the header is unlocked, the verdict, the units. `answer` gives, for a header, a data key and the pairs that are only authenticated, or raises."""
+def open_message(data, uncommitted, max_keys, max_unit, wrapping, given, unlocked):
+    """The contents of the units, each with the offset where its unit ends. Raises the first fault, with the offset where it comes, or that more is wanted. `unlocked` is called with the
+    whole context, once the header is unlocked."""
+    head = read_header(data, uncommitted, max_keys, max_unit)
     try:
-        head = read_header(data, max_keys, max_unit)
-        key, only = answer(head)
-    except Wanting:
-        return False, "going", []
+        if b"aws-crypto-public-key" in dict(head["stored"]):
+            raise Refused(refusal("M11"))
+        whole, only = join(head["stored"], given)
     except Refused as fault:
-        return False, fault.line, []
-    fault = lock_fault(head, only, key)
+        raise Refused(fault.line, head["end"]) from None
+    key = unwrapped(head["entries"], b"ns", b"k", wrapping, whole)
+    fault = refusal("M15") if key is None else lock_fault(head, only, key)
     if fault:
-        return False, fault, []
-    verdict, units = judge_body(data, head["end"], head["content"], max_unit, derived_key(key, head["id"]), head["id"])
-    return True, verdict, units
+        raise Refused(fault, head["end"])
+    unlocked(whole)
+    derived = derived_key(head["version"], key, head["id"])
+    yield from units_of(Reader(data, head["end"]), head["content"], max_unit, derived, head["id"])
+
+
+def seal_message(wrapping, random, message_id, context, keys, frame, text, max_keys):
+    """The header with its tag, and the frames of the text, the last of which is the final one."""
+    data_key, iv = random[:32], random[32:]
+    stored, only = ([pair for pair in context if (pair[0] in keys) == of_reader] for of_reader in (False, True))
+    entry = (b"ns", raw_info(b"k", iv), AESGCM(wrapping).encrypt(iv, data_key, context_text(context)))
+    raw = write_header(message_id, stored, [entry], frame, commitment(data_key, message_id), max_keys)
+    key = derived_key(2, data_key, message_id)
+    tag = AESGCM(key).encrypt(bytes(12), b"", raw + context_text(only))
+    count = max(1, -(-len(text) // frame))
+    parts = [text[number * frame : (number + 1) * frame] for number in range(count)]
+    kinds = ["regular"] * (count - 1) + ["final"]
+    frames = [frame_text(key, message_id, kind, number, part) for number, (kind, part) in enumerate(zip(kinds, parts), 1)]
+    return raw + tag, frames

@@ -4,80 +4,82 @@ use crate::line::Line;
 use crate::words::Words;
 use crate::wrong::Wrong;
 use context_codec::{Context, KeySet, PairError, join, read_field};
+use std::alloc::Global;
 
 /// `context BYTES`: the context that the bytes spell, and its text; or their fault.
 pub(crate) fn read(words: &mut Words<'_>, line: &mut Line) -> Result<(), Wrong> {
-    let bytes = words.part()?;
+    let bytes = words.part();
     match read_field(words.alloc, bytes.bytes()) {
-        Ok(context) => put_context(words, &context, line),
+        Ok(context) => put_context(words.alloc, &context, line),
         Err(error) => line.field_error(&error),
     }
+    Ok(())
 }
 
 /// Puts a context and its text.
-fn put_context(words: &Words<'_>, context: &Context, line: &mut Line) -> Result<(), Wrong> {
-    line.context(context)?;
-    let text = context.text(words.alloc)?;
-    line.bytes(text.bytes())
+fn put_context(alloc: Global, context: &Context, line: &mut Line) {
+    line.context(context);
+    line.blob(context.text(alloc));
 }
 
 /// `pairs PAIRS KEY VALUE`: the context of the pairs and of one more, or why that is refused and then the copied context without it, each with its text.
 pub(crate) fn insert(words: &mut Words<'_>, line: &mut Line) -> Result<(), Wrong> {
-    let mut context = words.context()?;
+    let mut context = words.context();
     let key = words.text()?;
     let value = words.text()?;
     match context.insert(words.alloc, key.as_str(), value.as_str()) {
         Ok(()) => {}
-        Err(PairError::Refusal(refusal)) => line.refusal(&refusal)?,
+        Err(PairError::Refusal(refusal)) => line.refusal(&refusal),
         Err(PairError::Memory) => return Err(Wrong::Memory),
     }
     let copy = context.copy(words.alloc)?;
-    put_context(words, &copy, line)
+    put_context(words.alloc, &copy, line);
+    Ok(())
 }
 
 /// `join PAIRS PAIRS`: stored pairs and given ones: the whole context, and the pairs that are only given; or the fault.
 pub(crate) fn join_two(words: &mut Words<'_>, line: &mut Line) -> Result<(), Wrong> {
-    let stored = words.context()?;
-    let given = words.context()?;
+    let stored = words.context();
+    let given = words.context();
     match join(words.alloc, &stored, &given) {
         Ok(joined) => {
-            line.context(&joined.whole)?;
-            line.context(&joined.only)
+            line.context(&joined.whole);
+            line.context(&joined.only);
         }
         Err(error) => line.field_error(&error),
     }
+    Ok(())
 }
 
 /// `pick PAIRS KEYS`: the context without the pairs of these keys, and those pairs alone.
 pub(crate) fn pick(words: &mut Words<'_>, line: &mut Line) -> Result<(), Wrong> {
-    let context = words.context()?;
-    let keys = words.keys()?;
-    let without = context.without(words.alloc, &keys)?;
-    line.context(&without)?;
-    let only = context.only(words.alloc, &keys)?;
-    line.context(&only)
+    let context = words.context();
+    let keys = words.keys();
+    line.context(&context.without(words.alloc, &keys)?);
+    line.context(&context.only(words.alloc, &keys)?);
+    Ok(())
 }
 
 /// `keys KEYS KEYS KEY`: the first set, the copied union of both, and whether the union has the key.
 pub(crate) fn unite(words: &mut Words<'_>, line: &mut Line) -> Result<(), Wrong> {
-    let first = words.keys()?;
-    let second = words.keys()?;
+    let first = words.keys();
+    let second = words.keys();
     let key = words.text()?;
     let both = first.union(words.alloc, &second)?.copy(words.alloc)?;
-    put_keys(&first, line)?;
-    put_keys(&both, line)?;
+    put_keys(&first, line);
+    put_keys(&both, line);
     line.word(if both.contains(key.as_str()) {
         "held"
     } else {
         "absent"
-    })
+    });
+    Ok(())
 }
 
 /// Puts how many keys there are, and each.
-fn put_keys(keys: &KeySet, line: &mut Line) -> Result<(), Wrong> {
-    line.number(keys.keys().len() as u64)?;
+fn put_keys(keys: &KeySet, line: &mut Line) {
+    line.number(keys.keys().len() as u64);
     for key in keys.keys() {
-        line.bytes(key.as_str().as_bytes())?;
+        line.bytes(key.as_str().as_bytes());
     }
-    Ok(())
 }

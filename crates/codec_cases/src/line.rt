@@ -7,92 +7,127 @@ use esdk_fields::{Blob, Fault, FieldError, Refusal};
 use esdk_report::{fault_text, refusal_text};
 use sha2::{Digest, Sha512};
 use std::alloc::{AllocError, Global};
+use std::str;
 
-/// The words of an answer, with a space between them.
+/// The words of an answer, with a space between them. A word for which memory runs out is left out, and then there is no text.
 #[derive(Drop)]
 pub(crate) struct Line {
     alloc: Global,
-    pub(crate) text: Blob,
+    text: String,
+    is_cut: bool,
 }
 
 impl Line {
     /// No words yet.
     pub(crate) fn new(alloc: Global) -> Line {
-        let text = Blob::new(alloc);
-        Line { alloc, text }
-    }
-
-    /// Puts words that are spelled so.
-    pub(crate) fn put(&mut self, words: &[u8]) -> Result<(), Wrong> {
-        if !self.text.bytes().is_empty() {
-            self.text.push_all(b" ")?;
+        Line {
+            alloc,
+            text: String::new(alloc),
+            is_cut: false,
         }
-        self.text.push_all(words)?;
-        Ok(())
     }
 
-    /// Puts a word.
-    pub(crate) fn word(&mut self, word: &str) -> Result<(), Wrong> {
-        self.put(word.as_bytes())
+    /// All of the words. Fails where memory ran out for one.
+    pub(crate) fn into_text(self) -> Result<Option<String>, Wrong> {
+        if self.is_cut {
+            Err(Wrong::Memory)
+        } else {
+            Ok(Some(self.text))
+        }
+    }
+
+    /// Memory ran out for a word.
+    pub(crate) fn cut(&mut self) {
+        self.is_cut = true;
+    }
+
+    /// Puts a word, or words that are spelled so.
+    pub(crate) fn word(&mut self, word: &str) {
+        if self.push(word).is_err() {
+            self.is_cut = true;
+        }
+    }
+
+    /// Puts a word behind a space, unless it is the first.
+    fn push(&mut self, word: &str) -> Result<(), AllocError> {
+        if !self.text.is_empty() {
+            self.text.push_str(" ")?;
+        }
+        Ok(self.text.push_str(word)?)
+    }
+
+    /// Puts a word that was made.
+    fn made(&mut self, word: Result<String, AllocError>) {
+        match word {
+            Ok(word) => self.word(word.as_str()),
+            Err(AllocError) => self.is_cut = true,
+        }
+    }
+
+    /// Puts a text that was made.
+    pub(crate) fn written(&mut self, text: Result<Blob, AllocError>) {
+        match text {
+            Ok(text) => self.word(str::from_utf8(text.bytes()).unwrap_or("no text")),
+            Err(AllocError) => self.is_cut = true,
+        }
     }
 
     /// Puts a number.
-    pub(crate) fn number(&mut self, number: u64) -> Result<(), Wrong> {
-        let word = format!(in self.alloc; "{number}")?;
-        self.word(word.as_str())
+    pub(crate) fn number(&mut self, number: u64) {
+        let word = format!(in self.alloc; "{number}");
+        self.made(word);
     }
 
     /// Puts bytes: `-` for none, hexadecimal digits for up to 64, else their number and their digest by SHA-512.
-    pub(crate) fn bytes(&mut self, bytes: &[u8]) -> Result<(), Wrong> {
-        let word = bytes_word(self.alloc, bytes)?;
-        self.word(word.as_str())
+    pub(crate) fn bytes(&mut self, bytes: &[u8]) {
+        let word = bytes_word(self.alloc, bytes);
+        self.made(word);
+    }
+
+    /// Puts bytes that were made.
+    pub(crate) fn blob(&mut self, blob: Result<Blob, AllocError>) {
+        match blob {
+            Ok(blob) => self.bytes(blob.bytes()),
+            Err(AllocError) => self.is_cut = true,
+        }
     }
 
     /// Puts the line of a fault.
-    pub(crate) fn fault(&mut self, fault: &Fault) -> Result<(), Wrong> {
-        let text = fault_text(self.alloc, fault)?;
-        self.put(text.bytes())
+    pub(crate) fn fault(&mut self, fault: &Fault) {
+        let text = fault_text(self.alloc, fault);
+        self.written(text);
     }
 
     /// Puts the line of a refusal.
-    pub(crate) fn refusal(&mut self, refusal: &Refusal) -> Result<(), Wrong> {
-        let text = refusal_text(self.alloc, refusal)?;
-        self.put(text.bytes())
+    pub(crate) fn refusal(&mut self, refusal: &Refusal) {
+        let text = refusal_text(self.alloc, refusal);
+        self.written(text);
     }
 
     /// Puts why a reader of fields answers no value.
-    pub(crate) fn field_error(&mut self, error: &FieldError) -> Result<(), Wrong> {
+    pub(crate) fn field_error(&mut self, error: &FieldError) {
         match error {
             FieldError::Fault(fault) => self.fault(fault),
             FieldError::Stopped => self.word("stopped"),
-            FieldError::Memory => Err(Wrong::Memory),
+            FieldError::Memory => self.is_cut = true,
         }
     }
 
     /// Puts how many pairs a context has, each key and its value, and the length of its text.
-    pub(crate) fn context(&mut self, context: &Context) -> Result<(), Wrong> {
-        self.number(context.pairs().len() as u64)?;
+    pub(crate) fn context(&mut self, context: &Context) {
+        self.number(context.pairs().len() as u64);
         for pair in context.pairs() {
-            self.bytes(pair.key().as_bytes())?;
-            self.bytes(pair.value().as_bytes())?;
+            self.bytes(pair.key().as_bytes());
+            self.bytes(pair.value().as_bytes());
         }
-        self.number(u64::from(context.length()))
+        self.number(u64::from(context.length()));
     }
 
     /// Puts the three parts of an entry.
-    pub(crate) fn entry(&mut self, entry: &DataKeyEntry) -> Result<(), Wrong> {
-        self.bytes(entry.provider())?;
-        self.bytes(entry.info())?;
-        self.bytes(entry.cipher())
-    }
-
-    /// Puts how many units there are, and each.
-    pub(crate) fn units(&mut self, units: &[Blob]) -> Result<(), Wrong> {
-        self.number(units.len() as u64)?;
-        for unit in units {
-            self.bytes(unit.bytes())?;
-        }
-        Ok(())
+    pub(crate) fn entry(&mut self, entry: &DataKeyEntry) {
+        self.bytes(entry.provider());
+        self.bytes(entry.info());
+        self.bytes(entry.cipher());
     }
 }
 

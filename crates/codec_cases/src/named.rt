@@ -1,10 +1,10 @@
 //! Bytes as words spell them, and bytes that have a name.
 
-ghost use Rattle.std.specs.Prelude.{◌≤◌, IfOk, length};
+ghost use Rattle.std.specs.Prelude.{◌≤◌, ◌<◌, IfOk, length};
 
 use crate::wrong::Wrong;
 use esdk_fields::{Blob, Text};
-use std::alloc::Global;
+use std::alloc::{AllocError, Global};
 use std::str;
 
 /// Bytes that have a name.
@@ -106,31 +106,43 @@ impl Named {
     /// Puts named bytes: `NAME`, `NAME<N`, which is the first N of them, or `NAME^N`, where the lowest bit of the byte at N is turned.
     fn put_named(&self, word: &str, out: &mut Blob) -> Result<(), Wrong> {
         if let Some((name, end)) = word.split_once('<') {
-            return put_front(self.get(name)?, number_of(end)?, out);
+            return self.put_front(name, end, out);
         }
         if let Some((name, at)) = word.split_once('^') {
-            return put_turned(self.get(name)?, number_of(at)?, out);
+            return self.put_turned(name, at, out);
         }
-        Ok(out.push_all(self.get(word)?)?)
+        let bytes = self.get(word)?;
+        Ok(out.push_all(bytes)?)
     }
-}
 
-/// Puts the first bytes.
-fn put_front(bytes: &[u8], end: usize, out: &mut Blob) -> Result<(), Wrong> {
-    match bytes.get(..end) {
-        Some(front) => Ok(out.push_all(front)?),
-        None => Err(Wrong::Word),
+    /// Puts the first bytes.
+    fn put_front(&self, name: &str, end: &str, out: &mut Blob) -> Result<(), Wrong> {
+        let bytes = self.get(name)?;
+        let end = number_of(end)?;
+        match bytes.get(..end) {
+            Some(front) => Ok(out.push_all(front)?),
+            None => Err(Wrong::Word),
+        }
+    }
+
+    /// Puts the bytes, the lowest bit of one of them turned.
+    fn put_turned(&self, name: &str, at: &str, out: &mut Blob) -> Result<(), Wrong> {
+        let bytes = self.get(name)?;
+        let at = number_of(at)?;
+        if bytes.len() <= at {
+            return Err(Wrong::Word);
+        }
+        Ok(put_turned(bytes, at, out)?)
     }
 }
 
 /// Puts the bytes, the lowest bit of one of them turned.
-fn put_turned(bytes: &[u8], at: usize, out: &mut Blob) -> Result<(), Wrong> {
-    if bytes.len() <= at {
-        return Err(Wrong::Word);
-    }
+fn put_turned(bytes: &[u8], at: usize, out: &mut Blob) -> Result<(), AllocError>
+    requires { at < length bytes.now }
+{
     out.push_all(&bytes[..at])?;
     out.push_all(&[bytes[at] ^ 1])?;
-    Ok(out.push_all(&bytes[at + 1..])?)
+    out.push_all(&bytes[at + 1..])
 }
 
 /// The number that a word spells.

@@ -5,8 +5,6 @@ use std::alloc::{AllocError, AllocFailed};
 /// What is wrong with a line.
 #[derive(Clone, Copy)]
 pub(crate) enum Wrong {
-    /// The input isn't UTF-8.
-    NoText,
     /// The first word is no call.
     NoCall,
     /// A word is missing, or one is too many.
@@ -23,7 +21,6 @@ impl Wrong {
     /// The words that say it.
     pub(crate) fn what(self) -> &'static str {
         match self {
-            Wrong::NoText => "no text",
             Wrong::NoCall => "an unknown call",
             Wrong::Count => "a word is missing or too many",
             Wrong::Word => "a word can't be read",

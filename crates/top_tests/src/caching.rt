@@ -1,12 +1,10 @@
 //! A cache over the default manager of one key: how requests are served one after the other.
 
-use crate::asking::{
-    GIVEN, Wanted, gives_known, opens, region_and_zone, requiring, served, serves, two_keys,
-};
-use crate::known_wraps::{RANDOM, known_ring};
+use crate::asking::{GIVEN, Wanted, gives_known, opens, request_of, served, serves};
+use crate::known_wraps::{RANDOM, TENANT, known_ring};
 use cmm_caching::{CacheLimits, CachingCmm};
 use cmm_default::DefaultCmm;
-use keyring_trait::{EncRequest, Manager, Served};
+use keyring_trait::{Manager, Served};
 use raw_aes_keyring::RawAes;
 use std::alloc::Global;
 
@@ -89,18 +87,13 @@ fn an_entry_serves_until_its_age(rt: HostRuntime) {
 }
 
 #[test]
-fn an_entry_serves_so_many_messages(rt: HostRuntime) {
-    let requests = [
+fn an_entry_serves_so_many_messages_and_bytes(rt: HostRuntime) {
+    let messages = [
         ("a", Some(1), 7, Served::New(1)),
         ("a", Some(1), 7, Served::Hit(1)),
         ("a", Some(1), 7, Served::New(2)),
     ];
-    assert!(rt; cache_serves(rt.alloc(), CacheLimits::new(10, 60, 2, 1000), &requests));
-}
-
-#[test]
-fn an_entry_serves_so_many_bytes(rt: HostRuntime) {
-    let requests = [
+    let bytes = [
         ("a", Some(60), 7, Served::New(1)),
         ("a", Some(40), 7, Served::Hit(1)),
         ("a", Some(1), 7, Served::New(2)),
@@ -108,7 +101,8 @@ fn an_entry_serves_so_many_bytes(rt: HostRuntime) {
         ("a", None, 7, Served::Direct),
         ("a", Some(99), 7, Served::Hit(2)),
     ];
-    assert!(rt; cache_serves(rt.alloc(), CacheLimits::new(10, 60, 10, 100), &requests));
+    assert!(rt; cache_serves(rt.alloc(), CacheLimits::new(10, 60, 2, 1000), &messages));
+    assert!(rt; cache_serves(rt.alloc(), CacheLimits::new(10, 60, 10, 100), &bytes));
 }
 
 /// Decryptions count no uses.
@@ -126,72 +120,90 @@ fn decryptions_are_bound_by_the_age_alone(rt: HostRuntime) {
 /// A request without the pair finds nothing, though the same entry was opened with it.
 #[test]
 fn the_name_of_a_decryption_is_the_whole_request(rt: HostRuntime) {
-    let alone = Wanted {
-        is_given: false,
-        ..GIVEN
-    };
-    let stored = Wanted {
-        is_given: false,
-        is_stored: true,
-        ..GIVEN
-    };
-    let both = Wanted {
-        is_stored: true,
-        ..GIVEN
-    };
-    let suite = Wanted {
-        suite: 0x0178,
-        ..GIVEN
-    };
-    let twice = Wanted { count: 2, ..GIVEN };
     let requests = [
         (GIVEN, 0, Some(Served::New(1))),
-        (alone, 0, None),
-        (stored, 0, Some(Served::New(2))),
-        (both, 0, Some(Served::New(3))),
-        (suite, 0, Some(Served::New(4))),
-        (twice, 0, Some(Served::New(5))),
+        (
+            Wanted {
+                given: &[],
+                ..GIVEN
+            },
+            0,
+            None,
+        ),
+        (STORED, 0, Some(Served::New(2))),
+        (
+            Wanted {
+                given: &TENANT,
+                ..STORED
+            },
+            0,
+            Some(Served::New(3)),
+        ),
+        (
+            Wanted {
+                suite: 0x0178,
+                ..GIVEN
+            },
+            0,
+            Some(Served::New(4)),
+        ),
+        (Wanted { count: 2, ..GIVEN }, 0, Some(Served::New(5))),
         (GIVEN, 0, Some(Served::Hit(1))),
     ];
     assert!(rt; cache_opens(rt.alloc(), CacheLimits::new(9, 10, 1, 0), &requests));
 }
 
-/// A request to encrypt one byte over the pairs of `region` and `zone`, where these keys are required, one after the other.
-fn request_requiring(alloc: Global, first: &str, second: &str) -> Option<EncRequest> {
-    let keys = two_keys(alloc, first, second)?;
-    requiring(alloc, region_and_zone(alloc)?, &keys)
-}
+/// The pair is stored, and not given.
+const STORED: Wanted = Wanted {
+    suite: 0x0478,
+    stored: &TENANT,
+    given: &[],
+    count: 1,
+};
 
-/// Whether requests with these required keys are served so, one after the other.
+/// Whether a request for one byte over the pairs of `region` and `zone` is served so, where these keys are required, one after the other.
 fn serves_requiring<M: Manager>(
     alloc: Global,
     manager: &mut M,
-    requests: &[(&str, &str, Served)],
+    keys: &[&str],
+    answer: Served,
 ) -> bool {
-    for (first, second, answer) in requests {
-        let request = request_requiring(alloc, first, second);
-        if served(alloc, manager, request, 0) != Some(*answer) {
+    let pairs = [("region", "value"), ("zone", "value")];
+    served(alloc, manager, request_of(alloc, &pairs, keys, Some(1)), 0) == Some(answer)
+}
+
+/// Whether requests with these required keys are served so, one after the other.
+fn serves_all_requiring<M: Manager>(
+    alloc: Global,
+    manager: &mut M,
+    requests: &[(&[&str], Served)],
+) -> bool {
+    for (keys, answer) in requests {
+        if !serves_requiring(alloc, manager, keys, *answer) {
             return false;
         }
     }
     true
 }
 
-/// Whether they are by a new cache.
-fn cache_serves_requiring(alloc: Global, requests: &[(&str, &str, Served)]) -> bool {
+/// Whether a new cache serves them so.
+fn cache_serves_requiring(alloc: Global, requests: &[(&[&str], Served)]) -> bool {
     match caching(alloc, CacheLimits::new(5, 10, 10, 1000)) {
-        Some(mut manager) => serves_requiring(alloc, &mut manager, requests),
+        Some(mut manager) => serves_all_requiring(alloc, &mut manager, requests),
         None => false,
     }
 }
 
 #[test]
 fn required_keys_in_any_order_are_a_part_of_the_name(rt: HostRuntime) {
+    let both: &[&str] = &["region", "zone"];
+    let turned: &[&str] = &["zone", "region"];
+    let one: &[&str] = &["zone"];
     let requests = [
-        ("region", "zone", Served::New(1)),
-        ("zone", "region", Served::Hit(1)),
-        ("zone", "zone", Served::New(2)),
-        ("region", "zone", Served::Hit(1)),
+        (both, Served::New(1)),
+        (turned, Served::Hit(1)),
+        (one, Served::New(2)),
+        (both, Served::Hit(1)),
     ];
     assert!(rt; cache_serves_requiring(rt.alloc(), &requests));
 }
@@ -253,9 +265,8 @@ fn without_limits_everything_is_direct(rt: HostRuntime) {
 fn bears_no_line(alloc: Global) -> bool {
     match caching(alloc, CacheLimits::new(5, 10, 10, 1000)) {
         Some(manager) => {
-            let count = manager.wraps();
             manager.journal_within(&[]);
-            count == 1
+            manager.wraps() == 1
         }
         None => false,
     }

@@ -10,23 +10,18 @@ use std::alloc::Global;
 use std::test::Fail;
 use std::{fs, process};
 
-/// A shelf in memory with the file of the wrapping key, where the call of this number fails.
-fn shelf_of(alloc: Global, failing: u64) -> Option<MemShelf> {
-    let mut calls = Vec::new(alloc);
-    match calls.push(failing) {
+/// The keyring of a file in memory that holds the wrapping key, where the call of this number of the shelf fails. None where memory runs out.
+fn keyring_of(alloc: Global, failing: u64) -> Option<KeydirKeyring<MemShelf>> {
+    let calls = match Vec::from_slice(alloc, &[failing]) {
+        Ok(calls) => calls,
+        Err(_) => return None,
+    };
+    let mut shelf = MemShelf::new(alloc, calls);
+    match shelf.place(alloc, "esdk.key", &wrapping_key()) {
         Ok(()) => {}
         Err(_) => return None,
     }
-    let mut shelf = MemShelf::new(alloc, calls);
-    match shelf.place(alloc, "esdk.key", &wrapping_key()) {
-        Ok(()) => Some(shelf),
-        Err(_) => None,
-    }
-}
-
-/// The keyring of that file.
-fn keyring_of(alloc: Global, failing: u64) -> Option<KeydirKeyring<MemShelf>> {
-    match KeydirKeyring::new(alloc, shelf_of(alloc, failing)?, "esdk.key", "ns", "k") {
+    match KeydirKeyring::new(alloc, shelf, "esdk.key", "ns", "k") {
         Ok(keyring) => Some(keyring),
         Err(_) => None,
     }
@@ -37,38 +32,30 @@ fn wraps_and_opens<K: Keyring>(alloc: Global, keyring: &mut K) -> bool {
     wraps(alloc, keyring, &known_cipher()) && opened(alloc, keyring, &known_cipher()) == Some(true)
 }
 
-/// Whether the keyring fails, and goes on with its key at the next calls.
-fn fails_once<K: Keyring>(alloc: Global, keyring: &mut K) -> bool {
+/// Whether a keyring fails once, where it did so many wraps before, and goes on with its key at the next calls.
+fn fails_after<K: Keyring>(alloc: Global, keyring: &mut K, count: u32) -> bool {
+    for _ in 0..count {
+        if !wraps(alloc, keyring, &known_cipher()) {
+            return false;
+        }
+    }
     opened(alloc, keyring, &known_cipher()).is_none() && wraps_and_opens(alloc, keyring)
 }
 
-/// Whether the keyring over a file in memory, one of whose reads fails, does that.
-fn fails_at(alloc: Global, failing: u64) -> bool {
+/// Whether the keyring of a file, this one of whose reads fails, does that.
+fn fails_once(alloc: Global, failing: u64, count: u32) -> bool {
     match keyring_of(alloc, failing) {
-        Some(mut keyring) => { fails_once(alloc, &mut keyring) }
+        Some(mut keyring) => { fails_after(alloc, &mut keyring, count) }
         None => false,
     }
 }
 
-/// Whether the keyring makes the known wrap, and fails once at its next call, of which the first read fails.
-fn fails_after_a_wrap(alloc: Global) -> bool {
-    match keyring_of(alloc, 3) {
-        Some(mut keyring) => {
-            wraps(alloc, &mut keyring, &known_cipher()) && fails_once(alloc, &mut keyring)
-        }
-        None => false,
-    }
-}
-
-/// A read of the file takes two reads of the shelf: the second shows that the file ends there.
+/// A call reads the shelf twice: the second time shows that the file ends there.
 #[test]
 fn a_failing_read_fails_one_call(rt: HostRuntime) {
-    assert!(rt; fails_at(rt.alloc(), 1) && fails_at(rt.alloc(), 2));
-}
-
-#[test]
-fn a_failing_read_after_a_success_fails_one_call(rt: HostRuntime) {
-    assert!(rt; fails_after_a_wrap(rt.alloc()));
+    assert!(rt; fails_once(rt.alloc(), 1, 0));
+    assert!(rt; fails_once(rt.alloc(), 2, 0));
+    assert!(rt; fails_once(rt.alloc(), 3, 1));
 }
 
 /// Whether the keyring in a box makes the known wrap, and opens it.
@@ -77,17 +64,12 @@ fn boxed_wraps_and_opens(alloc: Global) -> bool {
         return false;
     };
     match Box::new(alloc, keyring) {
-        Ok(boxed) => {
-            let mut boxed: Box<dyn Keyring> = boxed;
+        Ok(keyring) => {
+            let mut boxed: Box<dyn Keyring> = keyring;
             wraps_and_opens(alloc, &mut boxed)
         }
         Err(_) => false,
     }
-}
-
-#[test]
-fn a_boxed_keyring_wraps_and_opens_the_same(rt: HostRuntime) {
-    assert!(rt; boxed_wraps_and_opens(rt.alloc()));
 }
 
 /// Whether no keyring of the namespace `aws-kms` is made.
@@ -100,7 +82,8 @@ fn is_reserved(alloc: Global) -> bool {
 }
 
 #[test]
-fn the_namespace_of_aws_kms_is_reserved(rt: HostRuntime) {
+fn keyrings_are_boxed_and_a_namespace_is_reserved(rt: HostRuntime) {
+    assert!(rt; boxed_wraps_and_opens(rt.alloc()));
     assert!(rt; is_reserved(rt.alloc()));
 }
 
@@ -133,8 +116,8 @@ fn goes_by_the_file(rt: HostRuntime, path: &str) -> bool {
 #[test]
 fn another_key_in_the_file_is_gone_by_at_once(rt: HostRuntime) -> Result<(), Fail> {
     let path = format!(in rt.alloc(); "/tmp/top_tests_key_{}", process::id(rt.process()))?;
-    let seen = goes_by_the_file(rt, &path);
+    let is_seen = goes_by_the_file(rt, &path);
     fs::remove_file(&rt, path.as_str())?;
-    assert!(rt; seen);
+    assert!(rt; is_seen);
     Ok(())
 }

@@ -11,19 +11,8 @@ use raw_aes_keyring::{RawAes, RawError};
 use std::alloc::Global;
 
 /// Whether no entry gives no key.
-fn opens_nothing(alloc: Global) -> bool {
-    match known_ring(alloc) {
-        Some(ring) => matches!(ring.unwrap(alloc, &Context::new(alloc), &[]), Ok(None)),
-        None => false,
-    }
-}
-
-/// A copy of the known keyring.
-fn copied(alloc: Global) -> Option<RawAes> {
-    match known_ring(alloc)?.copy() {
-        Ok(copy) => Some(copy),
-        Err(_) => None,
-    }
+fn opens_nothing(alloc: Global, ring: &RawAes) -> bool {
+    matches!(ring.unwrap(alloc, &Context::new(alloc), &[]), Ok(None))
 }
 
 /// Whether a keyring refuses nothing, makes the known wrap and opens it.
@@ -34,17 +23,15 @@ fn is_known<K: Keyring>(alloc: Global, keyring: &mut K) -> bool {
         && opened(alloc, keyring, &known_cipher()) == Some(true)
 }
 
-/// Whether the copy does.
+/// Whether a copy of the known keyring does, and finds nothing in no entry.
 fn copy_is_known(alloc: Global) -> bool {
-    match copied(alloc) {
-        Some(mut copy) => is_known(alloc, &mut copy),
-        None => false,
+    let Some(ring) = known_ring(alloc) else {
+        return false;
+    };
+    match ring.copy() {
+        Ok(mut copy) => is_known(alloc, &mut copy) && opens_nothing(alloc, &copy),
+        Err(_) => false,
     }
-}
-
-#[test]
-fn no_entry_gives_no_key(rt: HostRuntime) {
-    assert!(rt; opens_nothing(rt.alloc()));
 }
 
 #[test]
@@ -120,11 +107,6 @@ fn nothing_is_empty(alloc: Global) -> bool {
     }
 }
 
-#[test]
-fn a_multi_keyring_needs_a_member(rt: HostRuntime) {
-    assert!(rt; nothing_is_empty(rt.alloc()));
-}
-
 /// Whether one level more is too deep.
 fn is_too_deep(alloc: Global, tree: Tree) -> bool {
     match Multi::new(Some(tree), Vec::new(alloc)) {
@@ -141,11 +123,6 @@ fn ends_at_eight_levels(alloc: Global) -> bool {
     }
 }
 
-#[test]
-fn eight_levels_are_taken_and_nine_are_too_deep(rt: HostRuntime) {
-    assert!(rt; ends_at_eight_levels(rt.alloc()));
-}
-
 /// So many raw keys.
 fn many(alloc: Global, count: u32) -> Option<Vec<Tree>> {
     let mut children = Vec::new(alloc);
@@ -158,8 +135,9 @@ fn many(alloc: Global, count: u32) -> Option<Vec<Tree>> {
     Some(children)
 }
 
-/// The number of entries that are too many; 0 where they are taken. None where there are over 100 children.
-fn refused_width(children: Vec<Tree>) -> Option<u64> {
+/// How many entries so many raw keys make, where they are too many; 0 where they are taken. None where there are over 100 keys.
+fn refused_width(alloc: Global, count: u32) -> Option<u64> {
+    let children = many(alloc, count)?;
     if children.len() > 100 {
         return None;
     }
@@ -170,26 +148,12 @@ fn refused_width(children: Vec<Tree>) -> Option<u64> {
     }
 }
 
-/// The same of so many raw keys.
-fn refused_width_of(alloc: Global, count: u32) -> Option<u64> {
-    refused_width(many(alloc, count)?)
-}
-
 #[test]
-fn sixty_four_entries_are_taken_and_one_more_is_too_wide(rt: HostRuntime) {
-    assert!(rt; refused_width_of(rt.alloc(), 64) == Some(0));
-    assert!(rt; refused_width_of(rt.alloc(), 65) == Some(65));
-}
-
-/// The known keyring in a box, as a tree.
-fn boxed(alloc: Global) -> Option<Tree> {
-    match Box::new(alloc, known_ring(alloc)?) {
-        Ok(boxed) => {
-            let boxed: Box<dyn Keyring> = boxed;
-            Some(Node::Handed(boxed))
-        }
-        Err(_) => None,
-    }
+fn multi_keyrings_have_a_member_and_eight_levels_and_64_entries_at_most(rt: HostRuntime) {
+    assert!(rt; nothing_is_empty(rt.alloc()));
+    assert!(rt; ends_at_eight_levels(rt.alloc()));
+    assert!(rt; refused_width(rt.alloc(), 64) == Some(0));
+    assert!(rt; refused_width(rt.alloc(), 65) == Some(65));
 }
 
 /// The tree alone, in a row.
@@ -203,7 +167,11 @@ fn row_of(alloc: Global, tree: Tree) -> Option<Vec<Tree>> {
 
 /// A multi-keyring of a raw key that generates the data key, and the known keyring in a box.
 fn tree_of_two(alloc: Global) -> Option<Tree> {
-    let children = row_of(alloc, boxed(alloc)?)?;
+    let boxed: Box<dyn Keyring> = match Box::new(alloc, known_ring(alloc)?) {
+        Ok(boxed) => boxed,
+        Err(_) => return None,
+    };
+    let children = row_of(alloc, Node::Handed(boxed))?;
     tree_of(alloc, multi_of(raw(alloc, "one")?, children)?)
 }
 

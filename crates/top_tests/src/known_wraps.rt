@@ -67,31 +67,43 @@ pub(crate) fn known_ring(alloc: Global) -> Option<RawAes> {
     }
 }
 
-/// The context with this pair too. None where it is refused or memory runs out.
-pub(crate) fn with_pair(
-    alloc: Global,
-    context: Context,
-    key: &str,
-    value: &str,
-) -> Option<Context> {
-    let mut context = context;
-    match context.insert(alloc, key, value) {
-        Ok(()) => Some(context),
-        Err(_) => None,
-    }
-}
+/// The pair that the known wraps are made over.
+pub(crate) const TENANT: [(&str, &str); 1] = [("tenant", "acme")];
 
-/// The context with this one pair.
-pub(crate) fn one_pair(alloc: Global, key: &str, value: &str) -> Option<Context> {
-    with_pair(alloc, Context::new(alloc), key, value)
+/// The context with these pairs. None where one is refused or memory runs out.
+pub(crate) fn context_of(alloc: Global, pairs: &[(&str, &str)]) -> Option<Context> {
+    let mut context = Context::new(alloc);
+    for (key, value) in pairs {
+        match context.insert(alloc, key, value) {
+            Ok(()) => {}
+            Err(_) => return None,
+        }
+    }
+    Some(context)
 }
 
 /// The entry of this ciphertext. None where memory runs out.
-pub(crate) fn known_entry(alloc: Global, cipher: &[u8; 48]) -> Option<DataKeyEntry> {
+fn known_entry(alloc: Global, cipher: &[u8; 48]) -> Option<DataKeyEntry> {
     match DataKeyEntry::new(alloc, b"ns", &known_info(), cipher) {
         Ok(entry) => Some(entry),
         Err(_) => None,
     }
+}
+
+/// That entry, so many times.
+pub(crate) fn known_entries(
+    alloc: Global,
+    cipher: &[u8; 48],
+    count: u32,
+) -> Option<Vec<DataKeyEntry>> {
+    let mut entries = Vec::new(alloc);
+    for _ in 0..count {
+        match entries.push(known_entry(alloc, cipher)?) {
+            Ok(()) => {}
+            Err(_) => return None,
+        }
+    }
+    Some(entries)
 }
 
 /// There is one entry, which has this ciphertext.
@@ -111,7 +123,7 @@ pub(crate) fn wraps<K: Keyring>(alloc: Global, keyring: &mut K, cipher: &[u8; 48
     if keyring.wraps() != 1 {
         return false;
     }
-    let Some(context) = one_pair(alloc, "tenant", "acme") else {
+    let Some(context) = context_of(alloc, &TENANT) else {
         return false;
     };
     match keyring.on_encrypt(alloc, &context, &RANDOM, None) {
@@ -126,8 +138,8 @@ pub(crate) fn opened<K: Keyring>(
     keyring: &mut K,
     cipher: &[u8; 48],
 ) -> Option<bool> {
-    let context = one_pair(alloc, "tenant", "acme")?;
-    let entries = [known_entry(alloc, cipher)?];
+    let context = context_of(alloc, &TENANT)?;
+    let entries = known_entries(alloc, cipher, 1)?;
     match keyring.on_decrypt(alloc, &context, &entries) {
         Ok(Some(key)) if *key.bytes() == DATA_KEY => Some(true),
         Ok(None) => Some(false),

@@ -24,6 +24,8 @@ mod known_wraps;
 #[cfg(test)]
 mod managers;
 #[cfg(test)]
+mod opening;
+#[cfg(test)]
 mod parts;
 #[cfg(test)]
 mod recalling;

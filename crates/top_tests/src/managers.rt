@@ -1,18 +1,16 @@
 //! The default manager and the manager that requires keys: over boxes, over each other, and over a cache.
 
 use crate::asking::{
-    GIVEN, gives_known, one_key, opens, region_and_zone, requiring, sealed, serves,
+    GIVEN, Wanted, gives_known, keys_of, opens, request_of, request_to_open, sealed, serves,
 };
 use crate::caching::caching;
-use crate::known_wraps::{RANDOM, known_ring, one_pair};
-use cmm_caching::{CacheLimits, CachingCmm};
+use crate::known_wraps::{RANDOM, known_ring};
+use cmm_caching::CacheLimits;
 use cmm_default::{DefaultCmm, HandedCmm};
 use cmm_required::RequiredCmm;
-use context_codec::{Context, KeySet};
+use context_codec::KeySet;
 use esdk_fields::Fault;
-use keyring_trait::{
-    DecMaterials, DecRequest, EncMaterials, EncRequest, Keyring, Manager, ManagerError, Served,
-};
+use keyring_trait::{DecMaterials, Keyring, Manager, ManagerError, Served};
 use raw_aes_keyring::RawAes;
 use std::alloc::Global;
 
@@ -23,95 +21,72 @@ fn gives_directly<M: Manager>(alloc: Global, manager: &mut M) -> bool {
         && manager.refuses().is_none()
 }
 
-/// The known keyring in a box.
-fn boxed_ring(alloc: Global) -> Option<Box<dyn Keyring>> {
-    match Box::new(alloc, known_ring(alloc)?) {
-        Ok(boxed) => Some(boxed),
-        Err(_) => None,
-    }
-}
-
-/// The default manager over it, in a box.
-fn boxed_manager(alloc: Global) -> Option<Box<dyn Manager>> {
-    match Box::new(alloc, DefaultCmm::new(known_ring(alloc)?)) {
-        Ok(boxed) => Some(boxed),
-        Err(_) => None,
-    }
-}
-
-/// Whether the default manager over a boxed keyring gives the known wrap.
+/// Whether the default manager over the known keyring in a box does so.
 fn boxed_ring_gives(alloc: Global) -> bool {
-    match boxed_ring(alloc) {
-        Some(ring) => gives_directly(alloc, &mut DefaultCmm::new(ring)),
-        None => false,
+    let Some(ring) = known_ring(alloc) else {
+        return false;
+    };
+    match Box::new(alloc, ring) {
+        Ok(ring) => {
+            let boxed: Box<dyn Keyring> = ring;
+            gives_directly(alloc, &mut DefaultCmm::new(boxed))
+        }
+        Err(_) => false,
     }
 }
 
-/// Whether a boxed manager does.
+/// Whether the default manager in a box does.
 fn boxed_manager_gives(alloc: Global) -> bool {
-    match boxed_manager(alloc) {
-        Some(manager) => gives_directly(alloc, &mut HandedCmm::new(manager)),
-        None => false,
+    let Some(ring) = known_ring(alloc) else {
+        return false;
+    };
+    match Box::new(alloc, DefaultCmm::new(ring)) {
+        Ok(manager) => {
+            let boxed: Box<dyn Manager> = manager;
+            gives_directly(alloc, &mut HandedCmm::new(boxed))
+        }
+        Err(_) => false,
     }
 }
 
 #[test]
-fn a_boxed_keyring_gives_and_finds_directly(rt: HostRuntime) {
+fn boxes_give_and_find_directly(rt: HostRuntime) {
     assert!(rt; boxed_ring_gives(rt.alloc()));
-}
-
-#[test]
-fn a_boxed_manager_gives_and_finds_directly(rt: HostRuntime) {
     assert!(rt; boxed_manager_gives(rt.alloc()));
 }
 
-/// The manager over this one that requires this key.
-fn over<M>(alloc: Global, inner: M, key: &str) -> Option<RequiredCmm<M>>
-where
-    M: Drop,
-{
-    match one_key(alloc, key) {
+/// The manager over this one that requires this key. None where memory runs out.
+fn over<M: Drop>(alloc: Global, inner: M, key: &str) -> Option<RequiredCmm<M>> {
+    match keys_of(alloc, &[key]) {
         Some(keys) => Some(RequiredCmm::new(inner, keys)),
         None => None,
     }
 }
 
-/// The manager that requires this key, over the default manager of the known key.
-fn requires_one(alloc: Global, key: &str) -> Option<RequiredCmm<DefaultCmm<RawAes>>> {
-    over(alloc, DefaultCmm::new(known_ring(alloc)?), key)
-}
-
-/// The manager that requires `region`, over the one that requires `zone`.
+/// The manager that requires `region`, over the one that requires `zone`, over the default manager of the known key.
 fn requires_two(alloc: Global) -> Option<RequiredCmm<RequiredCmm<DefaultCmm<RawAes>>>> {
-    over(alloc, requires_one(alloc, "zone")?, "region")
+    let inner = over(alloc, DefaultCmm::new(known_ring(alloc)?), "zone")?;
+    over(alloc, inner, "region")
 }
 
-/// A request to encrypt over the pairs of `region` and `zone`, of which this key is required.
-fn request_requiring(alloc: Global, key: &str) -> Option<EncRequest> {
-    let keys = one_key(alloc, key)?;
-    requiring(alloc, region_and_zone(alloc)?, &keys)
-}
-
-/// A reader of the materials' message has to give `region` and `zone`, and no other pair.
-fn have_both(materials: Option<EncMaterials>) -> bool {
-    match materials {
-        Some(materials) => are_both(materials.required()),
-        None => false,
-    }
-}
-
-/// The set is that of `region` and `zone`.
-fn are_both(keys: &KeySet) -> bool {
+/// The set is that of `region`, `tenant` and `zone`.
+fn are_all(keys: &KeySet) -> bool {
     match keys.keys() {
-        [first, second] => first.as_str() == "region" && second.as_str() == "zone",
+        [first, second, third] => {
+            first.as_str() == "region" && second.as_str() == "tenant" && third.as_str() == "zone"
+        }
         _ => false,
     }
 }
 
-/// Whether a manager gives such materials where the request requires this key.
-fn requires_both<M: Manager>(alloc: Global, manager: &mut M, key: &str) -> bool {
-    match request_requiring(alloc, key) {
-        Some(request) => have_both(sealed(alloc, manager, &request, 0, &RANDOM)),
+/// Whether a reader of what a manager gives has to give all three pairs, where the request requires `tenant`.
+fn requires_all<M: Manager>(alloc: Global, manager: &mut M) -> bool {
+    let pairs = [("region", "1"), ("tenant", "2"), ("zone", "3")];
+    let Some(request) = request_of(alloc, &pairs, &["tenant"], None) else {
+        return false;
+    };
+    match sealed(alloc, manager, &request, 0, &RANDOM) {
+        Some(materials) => are_all(materials.required()),
         None => false,
     }
 }
@@ -132,15 +107,13 @@ fn is_zone_missing(answer: Result<DecMaterials, ManagerError>) -> bool {
     }
 }
 
-/// A request to decrypt, where only `region` is given.
-fn request_with_region(alloc: Global) -> Option<DecRequest> {
-    let given = one_pair(alloc, "region", "value")?;
-    Some(DecRequest::new(0x0478, Context::new(alloc), given, Vec::new(alloc)))
-}
-
-/// Whether a manager refuses nothing to write, and names `zone` as missing then.
+/// Whether a manager refuses nothing to write, and names `zone` as missing where `region` alone is given.
 fn misses_zone<M: Manager>(alloc: Global, manager: &mut M) -> bool {
-    match request_with_region(alloc) {
+    let wanted = Wanted {
+        given: &[("region", "1")],
+        ..GIVEN
+    };
+    match request_to_open(alloc, wanted) {
         Some(request) => {
             manager.refuses().is_none()
                 && is_zone_missing(manager.for_decryption(alloc, &request, 0))
@@ -149,29 +122,15 @@ fn misses_zone<M: Manager>(alloc: Global, manager: &mut M) -> bool {
     }
 }
 
-/// Whether the manager requires its key beside the request's own.
-fn requires_beside(alloc: Global) -> bool {
-    match requires_one(alloc, "region") {
-        Some(mut manager) => requires_both(alloc, &mut manager, "zone"),
-        None => false,
-    }
-}
-
-/// Whether two managers require the keys of both, of who writes and of who reads; and whether the inner one comes back.
+/// Whether two managers require the keys of both beside the request's, of who writes and of who reads; and whether the inner one comes back.
 fn requires_of_both(alloc: Global) -> bool {
     match requires_two(alloc) {
         Some(mut outer) => {
-            let are_all = requires_both(alloc, &mut outer, "region")
-                && misses_zone(alloc, &mut outer);
-            are_all && misses_zone(alloc, &mut outer.into_inner())
+            let is_asked = requires_all(alloc, &mut outer) && misses_zone(alloc, &mut outer);
+            is_asked && misses_zone(alloc, &mut outer.into_inner())
         }
         None => false,
     }
-}
-
-#[test]
-fn keys_are_required_beside_those_of_the_request(rt: HostRuntime) {
-    assert!(rt; requires_beside(rt.alloc()));
 }
 
 #[test]
@@ -179,16 +138,7 @@ fn one_manager_over_another_requires_the_keys_of_both(rt: HostRuntime) {
     assert!(rt; requires_of_both(rt.alloc()));
 }
 
-/// The manager that requires `tenant`, over a cache whose entries serve for ten seconds.
-fn over_a_cache(alloc: Global) -> Option<RequiredCmm<CachingCmm<DefaultCmm<RawAes>>>> {
-    over(
-        alloc,
-        caching(alloc, CacheLimits::new(5, 10, 10, 1000))?,
-        "tenant",
-    )
-}
-
-/// Whether requests at these moments come to the cache at these moments.
+/// Whether requests at these moments come at these moments to a cache below, whose entries serve for ten seconds.
 fn passes_moments_on<M: Manager>(alloc: Global, manager: &mut M) -> bool {
     let requests = [
         ("tenant", Some(1), 0, Served::New(1)),
@@ -203,9 +153,12 @@ fn passes_moments_on<M: Manager>(alloc: Global, manager: &mut M) -> bool {
     serves(alloc, manager, &requests) && opens(alloc, manager, &openings)
 }
 
-/// Whether the manager over a cache does so.
+/// Whether the manager that requires `tenant` passes them on to its cache.
 fn moments_are_passed_on(alloc: Global) -> bool {
-    match over_a_cache(alloc) {
+    let Some(cache) = caching(alloc, CacheLimits::new(5, 10, 10, 1000)) else {
+        return false;
+    };
+    match over(alloc, cache, "tenant") {
         Some(mut manager) => passes_moments_on(alloc, &mut manager),
         None => false,
     }

@@ -1,6 +1,6 @@
 //! What keyrings and managers hand out, taken apart.
 
-use crate::known_wraps::one_pair;
+use crate::known_wraps::{TENANT, context_of};
 use context_codec::Context;
 use keyring_trait::{DataKey, DecMaterials, Served, Wrapped};
 use std::alloc::Global;
@@ -23,7 +23,7 @@ fn come_apart(alloc: Global, only: Context) -> bool {
 
 /// Whether they do so with `tenant`=`acme`, whose text has 16 bytes.
 fn materials_come_apart(alloc: Global) -> bool {
-    match one_pair(alloc, "tenant", "acme") {
+    match context_of(alloc, &TENANT) {
         Some(only) => come_apart(alloc, only),
         None => false,
     }

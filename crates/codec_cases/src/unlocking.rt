@@ -1,0 +1,58 @@
+//! What unlocks a header.
+
+use crate::line::Line;
+use crate::words::Words;
+use crate::wrong::Wrong;
+use context_codec::Context;
+use esdk_fields::Stop;
+use header_codec::{Header, Settings, header_in};
+use keyring_trait::DataKey;
+use message_format::{header_tag, lock_fault};
+use std::alloc::{AllocError, Global};
+
+/// `unlock UNCOMMITTED BYTES KEY PAIRS`: the tag of the header that the bytes begin with, under a data key and with pairs that are only authenticated, and why they
+/// don't unlock the header, or `unlocked`; or the header's fault and the offset where its field ends, or `wanting`.
+pub(crate) fn unlock(words: &mut Words<'_>, line: &mut Line) -> Result<(), Wrong> {
+    let uncommitted = words.flag();
+    let bytes = words.bytes();
+    let key = DataKey::new(words.array());
+    let only = words.context();
+    let settings = Settings {
+        uncommitted,
+        ..Settings::none()
+    };
+    match header_in(words.alloc, settings, bytes.bytes()) {
+        Ok(found) => put_unlocking(words.alloc, &found.header, &key, &only, line)?,
+        Err(Stop::Fault(fault, at)) => {
+            line.fault(&fault);
+            line.number(at as u64);
+        }
+        Err(_) => line.word("wanting"),
+    }
+    Ok(())
+}
+
+/// Puts the tag of a header, and why it isn't unlocked.
+fn put_unlocking(
+    alloc: Global,
+    header: &Header,
+    key: &DataKey,
+    only: &Context,
+    line: &mut Line,
+) -> Result<(), AllocError> {
+    let tag = header_tag(
+        alloc,
+        header.algorithm(),
+        header.iv(),
+        header.raw(),
+        only,
+        key,
+        header.message_id(),
+    )?;
+    line.bytes(&tag);
+    match lock_fault(alloc, header, only, key)? {
+        Some(fault) => line.fault(&fault),
+        None => line.word("unlocked"),
+    }
+    Ok(())
+}
