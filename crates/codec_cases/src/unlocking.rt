@@ -7,7 +7,7 @@ use context_codec::Context;
 use esdk_fields::Stop;
 use header_codec::{Header, Settings, header_in};
 use keyring_trait::DataKey;
-use message_format::{header_tag, lock_fault};
+use message_format::{header_tag, message_key, unlocked_key};
 use std::alloc::{AllocError, Global};
 
 /// `unlock UNCOMMITTED BYTES KEY PAIRS`: the tag of the header that the bytes begin with, under a data key and with pairs that are only authenticated, and why they
@@ -40,19 +40,12 @@ fn put_unlocking(
     only: &Context,
     line: &mut Line,
 ) -> Result<(), AllocError> {
-    let tag = header_tag(
-        alloc,
-        header.algorithm(),
-        header.iv(),
-        header.raw(),
-        only,
-        key,
-        header.message_id(),
-    )?;
+    let mut message_key = message_key(header.algorithm(), key, header.message_id());
+    let tag = header_tag(alloc, &mut message_key, header.iv(), header.raw(), only)?;
     line.bytes(&tag);
-    match lock_fault(alloc, header, only, key)? {
-        Some(fault) => line.fault(&fault),
-        None => line.word("unlocked"),
+    match unlocked_key(alloc, header, only, key)? {
+        Ok(_) => line.word("unlocked"),
+        Err(fault) => line.fault(&fault),
     }
     Ok(())
 }

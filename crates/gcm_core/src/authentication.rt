@@ -3,12 +3,19 @@
 ghost use Rattle.std.specs.Prelude.{◌≡◌, ◌+◌, ◌-◌, ◌*◌, ◌^◌, ◌<◌, ◌≤◌, ◌∷◌, [], ◌++◌, length};
 ghost use Rattle.std.specs.Int.{w64, w128, from_be_bytes, to_be_bytes};
 ghost use Rattle.cipher_spec.specs.Ghash.{ghash_from};
-ghost use Rattle.cipher_spec.specs.Gcm.{gctr, pre_counter, tag_of};
+ghost use Rattle.cipher_spec.specs.Gcm.{gctr, hash_key, pre_counter, tag_of};
 
 use crate::absorbing::{absorb, absorb_two};
 use crate::counter_mode::{TAG_COUNT, gctr_by_blocks};
 use aes_core::Key256;
 use ghash_core::Ghash;
+
+/// A hasher under the key's hash subkey, which took no blocks (step 1).
+pub fn hasher_of(key: &Key256) -> Ghash
+    ensures { result ≡ record { key = hash_key key.now; hash = 0 } }
+{
+    Ghash::new(key.block([0; 16]))
+}
 
 /// The block of the lengths in bits, 64 bits each, of texts of so many bytes.
 fn lengths(aad: usize, cipher: usize) -> [u8; 16]
@@ -34,9 +41,10 @@ pub fn finished_tag(
 ) -> [u8; 16]
     requires aad { aad < 2 ^ 60 }
     requires cipher { cipher < 2 ^ 60 }
-    ensures { result
+    ensures tag { result
         ≡ gctr key.now (pre_counter iv.now) (to_be_bytes w128 (ghash_from hash.old.key hash.old.hash
         (from_be_bytes w128 (to_be_bytes w64 (aad * 8) ++ to_be_bytes w64 (cipher * 8)) ∷ []))) }
+    ensures kept { hash.new.key ≡ hash.old.key }
 {
     hash.block(lengths(aad, cipher));
     let mut tag = hash.value();
@@ -44,9 +52,10 @@ pub fn finished_tag(
     tag
 }
 
-/// The tag of associated data, `first` and then `second`, and a ciphertext.
+/// The tag of associated data, `first` and then `second`, and a ciphertext, by a hasher that took no blocks.
 pub fn authentication_tag(
     key: &Key256,
+    hash: &mut Ghash,
     iv: &[u8; 12],
     first: &[u8],
     second: &[u8],
@@ -54,10 +63,11 @@ pub fn authentication_tag(
 ) -> [u8; 16]
     requires short { length cipher.now ≤ 2 ^ 36 - 32 }
     requires few { length first.now + length second.now ≤ 2 ^ 32 }
-    ensures { result ≡ tag_of key.now iv.now (first.now ++ second.now) cipher.now }
+    requires begun { hash.old ≡ record { key = hash_key key.now; hash = 0 } }
+    ensures tag { result ≡ tag_of key.now iv.now (first.now ++ second.now) cipher.now }
+    ensures kept { hash.new.key ≡ hash.old.key }
 {
-    let mut hash = Ghash::new(key.block([0; 16]));
-    absorb_two(&mut hash, first, second);
-    absorb(&mut hash, cipher);
-    finished_tag(key, iv, &mut hash, first.len() + second.len(), cipher.len())
+    absorb_two(hash, first, second);
+    absorb(hash, cipher);
+    finished_tag(key, iv, hash, first.len() + second.len(), cipher.len())
 }

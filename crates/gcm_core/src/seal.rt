@@ -3,10 +3,10 @@
 ghost use Rattle.std.specs.Prelude.{◌≡◌, ◌↔◌, ◌+◌, ◌-◌, ◌^◌, ◌≤◌, List, ℕ, ◌++◌, true, false, length, if◌then◌else◌, Some, None};
 ghost use Rattle.std.specs.Int.{w32, to_be_bytes};
 ghost use Rattle.cipher_spec.specs.Ghash.{ghash_from};
-ghost use Rattle.cipher_spec.specs.Gcm.{blocks, gctr, opened, sealed};
+ghost use Rattle.cipher_spec.specs.Gcm.{blocks, gctr, hash_key, opened, sealed};
 
 use crate::absorbing::{absorb, absorb_two};
-use crate::authentication::{authentication_tag, finished_tag};
+use crate::authentication::{authentication_tag, finished_tag, hasher_of};
 use crate::counter_mode::{TEXT_COUNT, gctr};
 use crate::same::same;
 use aes_core::Key256;
@@ -41,8 +41,28 @@ fn encipher_and_absorb(key: &Key256, iv: &[u8; 12], hash: &mut Ghash, text: &mut
     absorb(hash, rest);
 }
 
+/// Enciphers the text in place, and answers the tag, by a hasher under the key's hash subkey that took no blocks.
+pub fn seal_hashing(
+    key: &Key256,
+    hash: &mut Ghash,
+    iv: &[u8; 12],
+    first: &[u8],
+    second: &[u8],
+    text: &mut [u8],
+) -> [u8; 16]
+    requires short { length text.old ≤ 2 ^ 36 - 32 }
+    requires few { length first.now + length second.now ≤ 2 ^ 32 }
+    requires begun { hash.old ≡ record { key = hash_key key.now; hash = 0 } }
+    ensures sealed { (text.new, result) ≡ sealed key.now iv.now (first.now ++ second.now) text.old }
+    ensures kept { hash.new.key ≡ hash.old.key }
+{
+    absorb_two(hash, first, second);
+    encipher_and_absorb(key, iv, hash, text);
+    finished_tag(key, iv, hash, first.len() + second.len(), text.len())
+}
+
 /// Enciphers the text in place, and answers the tag over the associated data, which is `first` and then `second`, and
-/// the ciphertext (section 7.1).
+/// the ciphertext (section 7.1). It is for one text under the key; a `GcmKey` is for many.
 pub fn seal_in_place(
     key: &Key256,
     iv: &[u8; 12],
@@ -54,14 +74,39 @@ pub fn seal_in_place(
     requires few { length first.now + length second.now ≤ 2 ^ 32 }
     ensures { (text.new, result) ≡ sealed key.now iv.now (first.now ++ second.now) text.old }
 {
-    let mut hash = Ghash::new(key.block([0; 16]));
-    absorb_two(&mut hash, first, second);
-    encipher_and_absorb(key, iv, &mut hash, text);
-    finished_tag(key, iv, &mut hash, first.len() + second.len(), text.len())
+    seal_hashing(key, &mut hasher_of(key), iv, first, second, text)
+}
+
+/// Answers whether the tag is right, and deciphers the text in place if it is, by a hasher under the key's hash subkey
+/// that took no blocks.
+pub fn open_hashing(
+    key: &Key256,
+    hash: &mut Ghash,
+    iv: &[u8; 12],
+    first: &[u8],
+    second: &[u8],
+    text: &mut [u8],
+    tag: &[u8; 16],
+) -> bool
+    requires short { length text.old ≤ 2 ^ 36 - 32 }
+    requires few { length first.now + length second.now ≤ 2 ^ 32 }
+    requires begun { hash.old ≡ record { key = hash_key key.now; hash = 0 } }
+    ensures answer { opened key.now iv.now (first.now ++ second.now) text.old tag.now
+        ≡ (if result then Some text.new else None) }
+    ensures kept { result ≡ false → text.new ≡ text.old }
+    ensures subkey { hash.new.key ≡ hash.old.key }
+{
+    let right = authentication_tag(key, hash, iv, first, second, text);
+    if !same(&right, tag) {
+        return false;
+    }
+    gctr(key, iv, TEXT_COUNT, text);
+    true
 }
 
 /// Answers whether the tag is that of the associated data, `first` and then `second`, and the ciphertext in `text`
-/// (section 7.2). If it is, the text is deciphered in place; if it isn't, nothing is changed.
+/// (section 7.2). If it is, the text is deciphered in place; if it isn't, nothing is changed. It is for one text under
+/// the key; a `GcmKey` is for many.
 pub fn open_in_place(
     key: &Key256,
     iv: &[u8; 12],
@@ -80,10 +125,5 @@ pub fn open_in_place(
         → (opened key.now iv.now (first.now ++ second.now) text.old tag.now ≡ Some t)
         ↔ (sealed key.now iv.now (first.now ++ second.now) t ≡ (text.old, tag.now)) }
 {
-    let right = authentication_tag(key, iv, first, second, text);
-    if !same(&right, tag) {
-        return false;
-    }
-    gctr(key, iv, TEXT_COUNT, text);
-    true
+    open_hashing(key, &mut hasher_of(key), iv, first, second, text, tag)
 }

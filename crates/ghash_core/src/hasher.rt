@@ -42,6 +42,14 @@ impl Ghash {
         }
     }
 
+    /// Begins anew under the same hash subkey, with the hash of no blocks.
+    #[inline(always)]
+    pub fn restart(&mut self)
+        ensures { self.new ≡ record { key = self.old.key; hash = 0 } }
+    {
+        self.hash = Sum { upper: 0, lower: 0 };
+    }
+
     /// Takes one more block into the hash.
     #[inline(always)]
     pub fn block(&mut self, block: [u8; 16])

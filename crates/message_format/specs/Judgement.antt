@@ -1,6 +1,6 @@
 -- How any bytes are judged as a message, once it is answered what unlocks it. Standard: AWS Encryption SDK Specification, "Decrypt", from "Parse the header" to
 -- "Decrypt the message body"; the faults M1 to M26 are this library's.
-use Rattle.std.specs.Prelude.{ℕ, ◌+◌, Bool, true, false, not, List, [], length, Option, Some, None, if◌then◌else◌}
+use Rattle.std.specs.Prelude.{◌≡◌, ℕ, ◌+◌, Bool, true, false, not, List, [], length, Option, Some, None, Result, Ok, Err, if◌then◌else◌}
 use Rattle.std.specs.List.{concat}
 use Rattle.std.specs.Str.{bytes_eq}
 use Rattle.esdk_fields.specs.declared.faults.Fault.{Fault}
@@ -50,6 +50,11 @@ lock_fault h only key =
     if not (commits h key) then Some Commitment
     else if not (bytes_eq h.tag (header_tag h.suite h.iv h.raw only key h.message_id)) then Some HeaderTag
     else None
+
+-- What unlocking a header with this data key comes to: nothing is wrong with the lock, and this is the key of the body; or the lock has this fault.
+abbrev pub UnlocksAs : HeaderValue → List KeyValue → List ℕ → Result (List ℕ) Fault → Type 0
+UnlocksAs h only key (Ok derived_key) = (lock_fault h only key ≡ None) × (derived_key ≡ derived h.suite key h.message_id)
+UnlocksAs h only key (Err fault) = lock_fault h only key ≡ Some fault
 
 -- the header that was read at the front of the bytes
 abbrev pub header_of : List ℕ → Head → HeaderValue

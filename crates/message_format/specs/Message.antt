@@ -14,10 +14,14 @@ use Rattle.context_codec.specs.Parts.{holds, stored_of, only_of}
 use Rattle.frame_codec.specs.Unit.{Under}
 use Rattle.body_format.specs.Written.{framed_body}
 
--- "Authentication Tag": AES-256-GCM of the empty text under the derived key of the suite and the header's initialization vector. What is authenticated is the
--- header body as it stands in the message, and behind it the text of the pairs that the header doesn't store.
+-- "Authentication Tag": AES-256-GCM of the empty text under this derived key and the header's initialization vector. What is authenticated is the header body as it
+-- stands in the message, and behind it the text of the pairs that the header doesn't store.
+abbrev pub tag_under : List ℕ → List ℕ → List ℕ → List KeyValue → List ℕ
+tag_under derived_key iv raw only = (sealed derived_key iv (raw ++ ctx_text only) []).1
+
+-- the same under the key that the suite derives from the data key and the message id
 unfoldable pub header_tag : Suite → List ℕ → List ℕ → List KeyValue → List ℕ → List ℕ → List ℕ
-header_tag suite iv raw only key id = (sealed (derived suite key id) iv (raw ++ ctx_text only) []).1
+header_tag suite iv raw only key id = tag_under (derived suite key id) iv raw only
 
 -- the header body: it stores the pairs whose keys aren't required, and commits to the data key
 unfoldable pub header_body : List KeyValue → List (List ℕ) → ℕ → List ℕ → List Entry → List ℕ → List ℕ

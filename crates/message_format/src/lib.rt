@@ -3,7 +3,8 @@
 //!
 //! `specs/Message.antt` says what is written, `specs/Judgement.antt` how bytes are judged, `specs/Reading.antt` how a reader that holds wrapping keys
 //! judges them. `specs/Laws.antt` says it a second time, line by line, and what follows: a written message is whole and has its text, a fault stays when
-//! bytes follow, and what was released is never taken back. The code is what writing and reading share: the header's tag, and what unlocks a header.
+//! bytes follow, and what was released is never taken back. The code is what writing and reading share: the message's key, the header's tag,
+//! and what unlocks a header.
 #![tactic(auto)]
 
 mod comparing;
@@ -15,4 +16,4 @@ pub use laws::{
     released_units_stay, trailing_bytes_are_refused, unlocking_stays, whole_frames_are_released,
     written_messages_are_read, written_messages_are_whole,
 };
-pub use locks::{header_tag, lock_fault};
+pub use locks::{header_tag, message_key, unlocked_key};

@@ -1,41 +1,45 @@
-//! Whether a data key is that of a header, and the header's tag right.
+//! The lock of a header: the key that is derived from the data key, the header's tag under it, and what unlocks a header.
 
 ghost use Rattle.std.specs.Prelude.{◌≡◌, ◌+◌, ◌^◌, ◌<◌, ◌≤◌, [], ◌++◌, length, IfOk};
 ghost use Rattle.cipher_spec.specs.Gcm.{sealed};
 ghost use Rattle.context_codec.specs.Context.{ctx_text};
+ghost use Rattle.suite_table.specs.Keys.{derived};
 ghost use Rattle.suite_table.specs.Suites.{id_length};
-ghost use Rattle.message_format.specs.Message.{header_tag};
-ghost use Rattle.message_format.specs.Judgement.{commits, lock_fault};
+ghost use Rattle.message_format.specs.Message.{tag_under};
+ghost use Rattle.message_format.specs.Judgement.{commits, UnlocksAs};
 
 use crate::comparing::same;
-use aes_core::Key256;
 use context_codec::Context;
 use esdk_fields::{Blob, Fault};
-use gcm_core::seal_in_place;
+use gcm_core::GcmKey;
 use header_codec::Header;
 use keyring_trait::DataKey;
 use std::alloc::{AllocError, Global};
 use suite_table::{Suite, commitment, derived};
 
-/// The authentication tag of a header: of its body, and of the pairs that it doesn't store, under the suite, the data key, the message id, which is as long as
-/// the suite says, and the header's initialization vector: twelve zero bytes under the committing suite. Fails only where memory runs out.
-#[tactic(auto, unfolding(crate::specs::Message::header_tag))]
+/// The key of a message's header tag and units, ready for use: what the suite derives from the data key and the message id, which is as long as the suite says.
+pub fn message_key(suite: Suite, key: &DataKey, message_id: &[u8]) -> GcmKey
+    requires id { length message_id.now ≡ id_length suite }
+    ensures { result ≡ derived suite key.now message_id.now }
+{
+    GcmKey::new(&derived(suite, key.bytes(), message_id))
+}
+
+/// The authentication tag of a header under the message's key: of its body, and of the pairs that it doesn't store, with the header's initialization vector, which is
+/// twelve zero bytes under the committing suite. Fails only where memory runs out.
 pub fn header_tag(
     alloc: Global,
-    suite: Suite,
+    message_key: &mut GcmKey,
     iv: &[u8; 12],
     raw: &[u8],
     only: &Context,
-    key: &DataKey,
-    message_id: &[u8],
 ) -> Result<[u8; 16], AllocError>
     requires body { length raw.now < 2 ^ 25 }
-    requires id { length message_id.now ≡ id_length suite }
-    ensures { IfOk result (λ tag. tag ≡ header_tag suite iv.now raw.now only.now key.now message_id.now) }
+    ensures tag { IfOk result (λ tag. tag ≡ tag_under message_key.old iv.now raw.now only.now) }
+    ensures same { message_key.new ≡ message_key.old }
 {
     let text = text_of(alloc, only)?;
-    let derived_key = derived(suite, key.bytes(), message_id);
-    Ok(tag_under(&derived_key, iv, raw, text.bytes()))
+    Ok(tag_of(message_key, iv, raw, text.bytes()))
 }
 
 /// The text of the pairs, which is never over 65,535 bytes long.
@@ -48,12 +52,12 @@ fn text_of(alloc: Global, only: &Context) -> Result<Blob, AllocError>
 }
 
 /// The tag of the empty text. What is authenticated is the header body, and then the text of pairs.
-fn tag_under(derived_key: &[u8; 32], iv: &[u8; 12], raw: &[u8], only: &[u8]) -> [u8; 16]
+fn tag_of(message_key: &mut GcmKey, iv: &[u8; 12], raw: &[u8], only: &[u8]) -> [u8; 16]
     requires few { length raw.now + length only.now ≤ 2 ^ 32 }
-    ensures { result ≡ (sealed derived_key.now iv.now (raw.now ++ only.now) []).1 }
+    ensures tag { result ≡ (sealed message_key.old iv.now (raw.now ++ only.now) []).1 }
+    ensures same { message_key.new ≡ message_key.old }
 {
-    let cipher_key = Key256::new(derived_key);
-    seal_in_place(&cipher_key, iv, raw, only, &mut [])
+    message_key.seal_in_place(iv, raw, only, &mut [])
 }
 
 /// Whether the header commits to the data key, where its suite asks for that.
@@ -69,33 +73,26 @@ fn commits(header: &Header, key: &DataKey) -> bool
     }
 }
 
-/// Why this data key doesn't unlock this header. M16 `Commitment` where the header doesn't commit to the key, and its suite has commitments; else M17
-/// `HeaderTag` where the header's tag isn't that of its body and of the pairs that it doesn't store. None exactly where neither is so. Fails only where memory
-/// runs out.
-#[tactic(auto, unfolding(crate::specs::Judgement::lock_fault))]
-pub fn lock_fault(
+/// Unlocks a header with this data key: the message's key, with which the units of its body are opened, or why the data key doesn't unlock it.
+///
+/// M16 `Commitment` where the header doesn't commit to the data key, and its suite has commitments; else M17 `HeaderTag` where the header's tag isn't that of its body
+/// and of the pairs that it doesn't store. The outer error comes only where memory runs out.
+#[tactic(auto, unfolding(crate::specs::Judgement::lock_fault, crate::specs::Message::header_tag))]
+pub fn unlocked_key(
     alloc: Global,
     header: &Header,
     only: &Context,
     key: &DataKey,
-) -> Result<Option<Fault>, AllocError>
-    ensures { IfOk result (λ fault. fault ≡ lock_fault header.now only.now key.now) }
+) -> Result<Result<GcmKey, Fault>, AllocError>
+    ensures { IfOk result (UnlocksAs header.now only.now key.now) }
 {
     if !commits(header, key) {
-        return Ok(Some(Fault::Commitment));
+        return Ok(Err(Fault::Commitment));
     }
-    let id = header.message_id();
-    let tag = header_tag(
-        alloc,
-        header.algorithm(),
-        header.iv(),
-        header.raw(),
-        only,
-        key,
-        id,
-    )?;
+    let mut key = message_key(header.algorithm(), key, header.message_id());
+    let tag = header_tag(alloc, &mut key, header.iv(), header.raw(), only)?;
     if !same(header.tag(), &tag) {
-        return Ok(Some(Fault::HeaderTag));
+        return Ok(Err(Fault::HeaderTag));
     }
-    Ok(None)
+    Ok(Ok(key))
 }

@@ -4,7 +4,6 @@ ghost use Rattle.std.specs.Prelude.{◌≡◌, ◌+◌, ◌<◌, ◌≤◌, ℕ,
 ghost use Rattle.esdk_fields.specs.Reading.{Read, Refused};
 ghost use Rattle.esdk_fields.specs.declared.faults.Fault.TheVariants.{UnitTag};
 ghost use Rattle.frame_codec.specs.UnitHead.{final_mark, longest_block, IfRegular};
-ghost use Rattle.suite_table.specs.Keys.{derived};
 ghost use Rattle.stream_open.specs.Body.{AnswersBody, GoesOn, HoldsFrames, IsInUnit, SameBody, StepsBody};
 ghost use Rattle.stream_open.specs.UnitBuffer.{opened_of};
 ghost use Rattle.stream_open.specs.declared.errors.OpenError.TheVariants as errors;
@@ -13,13 +12,11 @@ ghost use Rattle.stream_open.specs.Session.{framed};
 use crate::errors::OpenError;
 use crate::message_id::MessageId;
 use crate::unit_buffer::UnitBuffer;
-use aes_core::Key256;
 use esdk_fields::{Content, Fault};
 use frame_codec::{Head, UnitHead, UnitKind, judge_head};
+use gcm_core::GcmKey;
 use header_codec::Header;
-use keyring_trait::DataKey;
 use std::alloc::{AllocError, Global};
-use suite_table::derived;
 
 /// How many bytes a final frame has beside its content; a regular one has fewer.
 const BESIDE_CONTENT: usize = 40;
@@ -30,7 +27,7 @@ const TAG: usize = 16;
 /// The body of a message whose header is unlocked. It holds one unit.
 #[derive(Drop)]
 pub(crate) struct Body {
-    pub(crate) key: Key256,
+    pub(crate) key: GcmKey,
     pub(crate) message_id: MessageId,
     pub(crate) content: Content,
     pub(crate) max_unit: Option<u64>,
@@ -50,14 +47,14 @@ fn reserved_for(content: Content) -> usize
 }
 
 impl Body {
-    /// The body behind this header, under this data key; no byte of it came yet. Fails only where memory runs out.
+    /// The body behind this header, under the message's key; no byte of it came yet. Fails only where memory runs out.
     pub(crate) fn new(
         alloc: Global,
         header: &Header,
         max_unit: Option<u64>,
-        key: &DataKey,
+        key: GcmKey,
     ) -> Result<Body, AllocError>
-        ensures key { IfOk result (λ body. body.key ≡ derived header.now.suite key.now header.now.message_id) }
+        ensures key { IfOk result (λ body. body.key ≡ key) }
         ensures id { IfOk result (λ body. body.message_id ≡ header.now.message_id) }
         ensures content { IfOk result (λ body. body.content ≡ header.now.content) }
         ensures max_unit { IfOk result (λ body. body.max_unit ≡ max_unit) }
@@ -65,10 +62,9 @@ impl Body {
         ensures reserved { IfOk result (λ body. framed body.content ≡ true → HoldsFrames body.content body.unit.reserved) }
     {
         let unit = UnitBuffer::new(alloc, reserved_for(header.content()))?;
-        let id = header.message_id();
         Ok(Body {
-            key: Key256::new(&derived(header.algorithm(), key.bytes(), id)),
-            message_id: MessageId::new(id),
+            key,
+            message_id: MessageId::new(header.message_id()),
             content: header.content(),
             max_unit,
             number: 1,
@@ -148,7 +144,7 @@ impl Body {
         ensures kept { OnErr result (self.new.ended ≡ self.old.ended) }
         ensures same { SameBody self.old self.new }
     {
-        if !self.unit.open(&self.key, self.message_id.bytes(), head) {
+        if !self.unit.open(&mut self.key, self.message_id.bytes(), head) {
             return Err(OpenError::Fault(Fault::UnitTag(head.number)));
         }
         match head.kind {

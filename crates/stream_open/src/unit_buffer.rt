@@ -4,9 +4,8 @@ ghost use Rattle.std.specs.Prelude.{◌≡◌, ◌+◌, ◌-◌, ◌<◌, ◌≤
 ghost use Rattle.frame_codec.specs.UnitHead.{longest_block};
 ghost use Rattle.stream_open.specs.UnitBuffer.{opened_of};
 
-use aes_core::Key256;
 use frame_codec::{UnitHead, unit_aad};
-use gcm_core::open_in_place;
+use gcm_core::GcmKey;
 use std::alloc::{AllocError, Global};
 use std::marker::Model;
 
@@ -103,14 +102,15 @@ impl UnitBuffer {
 
     /// Opens the unit, which is whole, where it lies: whether its tag is right. If it is, its content is given; if it isn't, nothing is.
     #[tactic(auto, unfolding(frame_codec::specs::Unit::opened_unit))]
-    pub(crate) fn open(&mut self, key: &Key256, message_id: &[u8], head: &UnitHead) -> bool
+    pub(crate) fn open(&mut self, key: &mut GcmKey, message_id: &[u8], head: &UnitHead) -> bool
         requires id { length message_id.now ≤ 32 }
         requires whole { length self.old.held ≡ head.now.size + head.now.length + 16 }
         requires short { head.now.length ≤ longest_block }
-        ensures answer { opened_of key.now message_id.now head.now self.old.held ≡ (if result then Some self.new.out else None) }
+        ensures answer { opened_of key.old message_id.now head.now self.old.held ≡ (if result then Some self.new.out else None) }
         ensures given { result ≡ true → self.new.held ≡ [] }
         ensures kept { result ≡ false → self.new.out ≡ [] }
         ensures reserved { self.new.reserved ≡ self.old.reserved }
+        ensures same { key.new ≡ key.old }
     {
         let aad = unit_aad(message_id, head.kind, head.number, head.length);
         let begin = head.size;
@@ -118,7 +118,7 @@ impl UnitBuffer {
         let mut tag = [0; TAG];
         tag.copy_from_slice(&self.bytes[end..end + TAG]);
         let content = &mut self.bytes[begin..end];
-        if !open_in_place(key, &head.iv, aad.bytes(), &[], content, &tag) {
+        if !key.open_in_place(&head.iv, aad.bytes(), &[], content, &tag) {
             return false;
         }
         self.opened = Some(Span { begin, end });

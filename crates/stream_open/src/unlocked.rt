@@ -11,7 +11,7 @@ use crate::errors::OpenError;
 use context_codec::Context;
 use header_codec::Header;
 use keyring_trait::DecMaterials;
-use message_format::lock_fault;
+use message_format::unlocked_key;
 use std::alloc::Global;
 
 /// What a header was unlocked with, and the body behind it.
@@ -45,9 +45,10 @@ pub(crate) fn unlocked_by(
     ensures cause { IfErr result (NotUnlocked header.now materials) }
 {
     let (whole, only, key) = materials.into_parts();
-    if let Some(fault) = lock_fault(alloc, header, &only, &key)? {
-        return Err(OpenError::Fault(fault));
-    }
-    let body = Body::new(alloc, header, max_unit, &key)?;
+    let key = match unlocked_key(alloc, header, &only, &key)? {
+        Ok(key) => key,
+        Err(fault) => return Err(OpenError::Fault(fault)),
+    };
+    let body = Body::new(alloc, header, max_unit, key)?;
     Ok(Unlocked { whole, only, body })
 }

@@ -4,9 +4,8 @@ ghost use Rattle.std.specs.Prelude.{◌≡◌, ◌+◌, ◌-◌, ◌^◌, ◌<�
 ghost use Rattle.frame_codec.specs.UnitAad.{iv_of};
 ghost use Rattle.frame_codec.specs.Written.{final_frame, regular_frame, sealed_unit};
 
-use aes_core::Key256;
 use frame_codec::{UnitKind, final_head, regular_head, unit_aad};
-use gcm_core::seal_in_place;
+use gcm_core::GcmKey;
 use std::alloc::{AllocError, Global};
 use std::marker::Model;
 
@@ -110,12 +109,13 @@ impl FrameBuffer {
 
     /// Seals the open frame as the regular frame that has this number, under a derived key and a message id. Takes no memory.
     #[tactic(auto, unfolding(frame_codec::specs::Written::regular_frame))]
-    pub(crate) fn seal_regular(&mut self, key: &Key256, message_id: &[u8; 32], number: u32)
+    pub(crate) fn seal_regular(&mut self, key: &mut GcmKey, message_id: &[u8; 32], number: u32)
         requires open { self.old.out ≡ [] }
-        ensures { (frame : ℕ) → self.new ≡ record self.old {
+        ensures sealed { (frame : ℕ) → self.new ≡ record self.old {
           text = [];
-          out = regular_frame (record { key = key.now; id = message_id.now; frame = frame }) number self.old.text;
+          out = regular_frame (record { key = key.old; id = message_id.now; frame = frame }) number self.old.text;
         } }
+        ensures same { key.new ≡ key.old }
     {
         let head = regular_head(number);
         seal_behind(
@@ -131,12 +131,13 @@ impl FrameBuffer {
 
     /// Seals the open frame as the final frame that has this number, under a derived key and a message id. Takes no memory.
     #[tactic(auto, unfolding(frame_codec::specs::Written::final_frame))]
-    pub(crate) fn seal_final(&mut self, key: &Key256, message_id: &[u8; 32], number: u32)
+    pub(crate) fn seal_final(&mut self, key: &mut GcmKey, message_id: &[u8; 32], number: u32)
         requires open { self.old.out ≡ [] }
-        ensures { (frame : ℕ) → self.new ≡ record self.old {
+        ensures sealed { (frame : ℕ) → self.new ≡ record self.old {
           text = [];
-          out = final_frame (record { key = key.now; id = message_id.now; frame = frame }) number self.old.text;
+          out = final_frame (record { key = key.old; id = message_id.now; frame = frame }) number self.old.text;
         } }
+        ensures same { key.new ≡ key.old }
     {
         let head = final_head(number, (self.bytes.len() - FINAL_HEAD) as u32);
         seal_behind(
@@ -162,7 +163,7 @@ fn iv_of(number: u32) -> [u8; 12]
 
 /// Seals the text behind the first 24 bytes where it lies, and writes the head before it and the tag behind it, for which memory is reserved.
 fn seal_behind(
-    key: &Key256,
+    key: &mut GcmKey,
     message_id: &[u8; 32],
     kind: UnitKind,
     number: u32,
@@ -174,9 +175,10 @@ fn seal_behind(
     requires short { length bytes.old.items < 2 ^ 32 + 24 }
     requires room { length bytes.old.items + 16 ≤ vec_capacity bytes.old }
     ensures sealed { drop (24 - length head.now) bytes.new.items
-        ≡ head.now ++ sealed_unit key.now message_id.now kind number (iv_of number) (drop 24 bytes.old.items) }
+        ≡ head.now ++ sealed_unit key.old message_id.now kind number (iv_of number) (drop 24 bytes.old.items) }
     ensures len { length bytes.new.items ≡ length bytes.old.items + 16 }
     ensures capacity { vec_capacity bytes.old ≤ vec_capacity bytes.new }
+    ensures same { key.new ≡ key.old }
 {
     let tag = seal_text(key, message_id, kind, number, bytes);
     put_head(head, bytes);
@@ -186,7 +188,7 @@ fn seal_behind(
 /// Seals the text behind the first 24 bytes where it lies, and answers the tag.
 #[tactic(auto, unfolding(frame_codec::specs::Written::sealed_unit))]
 fn seal_text(
-    key: &Key256,
+    key: &mut GcmKey,
     message_id: &[u8; 32],
     kind: UnitKind,
     number: u32,
@@ -194,13 +196,14 @@ fn seal_text(
 ) -> [u8; 16]
     requires text { 24 ≤ length bytes.old.items }
     requires short { length bytes.old.items < 2 ^ 32 + 24 }
-    ensures sealed { drop 24 bytes.new.items ++ result ≡ sealed_unit key.now message_id.now kind number (iv_of number) (drop 24 bytes.old.items) }
+    ensures sealed { drop 24 bytes.new.items ++ result ≡ sealed_unit key.old message_id.now kind number (iv_of number) (drop 24 bytes.old.items) }
     ensures len { length bytes.new.items ≡ length bytes.old.items }
     ensures capacity { vec_capacity bytes.old ≤ vec_capacity bytes.new }
+    ensures same { key.new ≡ key.old }
 {
     let aad = unit_aad(message_id, kind, number, (bytes.len() - FINAL_HEAD) as u64);
     let iv = iv_of(number);
-    seal_in_place(key, &iv, aad.bytes(), &[], &mut bytes[FINAL_HEAD..])
+    key.seal_in_place(&iv, aad.bytes(), &[], &mut bytes[FINAL_HEAD..])
 }
 
 /// Writes a head right before the text behind the first 24 bytes.

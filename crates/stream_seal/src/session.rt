@@ -9,19 +9,20 @@ use crate::declared_length::{Declared, after, spent, whole_to_come, within};
 use crate::errors::SealError;
 use crate::frame_buffer::FrameBuffer;
 use crate::start::{message_start, unstarted};
-use aes_core::Key256;
 use esdk_fields::{Blob, Refusal};
 use frame_codec::number_after;
+use gcm_core::GcmKey;
 use keyring_trait::EncMaterials;
+use message_format::message_key;
 use std::alloc::Global;
-use suite_table::{Suite, derived};
+use suite_table::Suite;
 
 /// Seals a message piece by piece: the header, the regular frames as the text comes, and the final frame. It holds one frame, and takes memory at the start alone.
 /// AWS Encryption SDK Specification, "Encrypt".
 #[derive(Drop)]
 pub struct Sealer {
     header: Blob,
-    key: Key256,
+    key: GcmKey,
     message_id: [u8; 32],
     declared: Option<Declared>,
     number: u32,
@@ -48,15 +49,22 @@ impl Sealer {
         ensures taken { OnOk result (start_refusal materials.now max_keys message_id.now ≡ None) }
         ensures cause { IfErr result (BeginsNot (start_refusal materials.now max_keys message_id.now)) }
     {
-        let header = match message_start(alloc, materials, frame_length, max_keys, message_id) {
+        let mut key = message_key(Suite::Committing, materials.key(), message_id);
+        let header = match message_start(
+            alloc,
+            materials,
+            frame_length,
+            max_keys,
+            message_id,
+            &mut key,
+        ) {
             Ok(header) => header,
             Err(error) => return Err(unstarted(error)),
         };
         let frame = FrameBuffer::new(alloc, frame_length)?;
-        let derived_key = derived(Suite::Committing, materials.key().bytes(), message_id);
         Ok(Sealer {
             header,
-            key: Key256::new(&derived_key),
+            key,
             message_id: *message_id,
             declared: whole_to_come(declared),
             number: 1,
@@ -115,7 +123,7 @@ impl Sealer {
         match number_after(self.number) {
             Some(next) => {
                 self.frame
-                    .seal_regular(&self.key, &self.message_id, self.number);
+                    .seal_regular(&mut self.key, &self.message_id, self.number);
                 self.number = next;
                 Ok(0)
             }
@@ -139,7 +147,7 @@ impl Sealer {
             return Err(SealError::Stopped);
         }
         self.frame
-            .seal_final(&self.key, &self.message_id, self.number);
+            .seal_final(&mut self.key, &self.message_id, self.number);
         self.stopped = true;
         Ok(())
     }

@@ -3,46 +3,44 @@
 ghost use Rattle.std.specs.Prelude.{◌≡◌, ◌^◌, ◌<◌, ◌≤◌, length, IfErr, IfOk, OnOk, None};
 ghost use Rattle.context_codec.specs.Insert.{RefusesAs};
 ghost use Rattle.message_format.specs.Message.{header_body};
+ghost use Rattle.suite_table.specs.declared.suite.Suite.TheVariants.{Committing};
+ghost use Rattle.suite_table.specs.Keys.{derived};
 ghost use Rattle.stream_seal.specs.Start.{StartsNot, start_of, start_refusal};
 
 use crate::errors::SealError;
 use context_codec::PairError;
 use esdk_fields::Blob;
+use gcm_core::GcmKey;
 use header_codec::write_header;
 use keyring_trait::EncMaterials;
 use message_format::header_tag;
 use std::alloc::Global;
-use suite_table::{Suite, commitment};
+use suite_table::commitment;
 
 /// The initialization vector of the header's tag under the suite of the messages that are written.
 const HEADER_IV: [u8; 12] = [0; 12];
 
-/// The header of a message with these materials, and its tag. The header stores the pairs whose keys aren't required; the tag authenticates the others too.
+/// The header of a message with these materials, and its tag under the message's key. The header stores the pairs whose keys aren't required; the tag authenticates the others too.
 /// Q7 `TooManyDataKeys`, where there are more entries than the limit; Q8 `HeaderTooLong`, where the header would be too long.
-#[tactic(auto, unfolding(crate::specs::Start::start_of))]
+#[tactic(auto, unfolding(crate::specs::Start::start_of, message_format::specs::Message::header_tag))]
 pub(crate) fn message_start(
     alloc: Global,
     materials: &EncMaterials,
     frame_length: u32,
     max_keys: Option<u16>,
     message_id: &[u8; 32],
+    key: &mut GcmKey,
 ) -> Result<Blob, PairError>
     requires some { 1 ≤ frame_length }
+    requires key { key.old ≡ derived Committing materials.now.key message_id.now }
     ensures start { IfOk result (λ start. start ≡ start_of materials.now frame_length message_id.now) }
     ensures taken { OnOk result (start_refusal materials.now max_keys message_id.now ≡ None) }
+    ensures same { key.new ≡ key.old }
     ensures cause { IfErr result (λ e. RefusesAs e (start_refusal materials.now max_keys message_id.now)) }
 {
     let mut start = body_of_header(alloc, materials, frame_length, max_keys, message_id)?;
     let only = materials.context().only(alloc, materials.required())?;
-    let tag = header_tag(
-        alloc,
-        Suite::Committing,
-        &HEADER_IV,
-        start.bytes(),
-        &only,
-        materials.key(),
-        message_id,
-    )?;
+    let tag = header_tag(alloc, key, &HEADER_IV, start.bytes(), &only)?;
     start.push_all(&tag)?;
     Ok(start)
 }

@@ -22,9 +22,9 @@ seal_behind-requires-clause-room c =
     let open_now = holds_open c.self.inside.stage c.self.inside.size c.self.inside.bytes.items _ c.args.self.now c.self.invariant c.self.view_is c.requires.open in
     omega (arith, open_now.few, c.self.invariant.room)
 
-pub returns : goal.returns
+pub returns-clause-sealed : goal.returns-clause-sealed
 unfolding final_frame
-returns c = λ frame.
+returns-clause-sealed c = λ frame.
     let bytes : List ℕ = c.self.inside.bytes.items in
     let text : List ℕ = c.args.self.now.text in
     let number : ℕ = c.args.number in
