@@ -74,33 +74,71 @@ class Asked:
 
 
 def read_words(words):
-    """The narrow form: the command, its options in their order, the flag, the pairs."""
+    """The command, then its options and pairs in any order, then the numbers and the pairs."""
     words = [word.decode() for word in words]
     if not words or words[0] not in OPTIONS:
-        raise Ended(WORDS, "words NotBuilt")
-    command, rest = words[0], words[1:]
-    options = {}
-    for name in OPTIONS[command]:
-        if rest and rest[0] == name:
-            options[name], rest = option_value(rest), rest[2:]
-    has_flag = command in WITH_FLAG and rest[:1] == [FLAG]
-    rest = rest[has_flag:]
-    is_keyed = "--keyring" not in OPTIONS[command] or "--keyring" in options
-    is_paired = rest and command not in WITH_PAIRS
-    if not is_keyed or is_paired or any(word.startswith("-") for word in rest):
-        raise Ended(WORDS, "words NotBuilt")
+        raise not_read()
+    command = words[0]
+    given = Given(command)
+    for word in words[1:]:
+        given.take(word)
+    given.close()
     numbers = {
-        name: read_number(name, options[name], most)
+        name: read_number(name, given.values[name], most)
         for name, most in OPTIONS[command].items()
-        if name in options and most
+        if name in given.values and most
     }
-    return Asked(command, options.get("--keyring"), numbers, has_flag, read_pairs(rest))
+    uncommitted = FLAG in given.values
+    return Asked(command, given.values.get("--keyring"), numbers, uncommitted, read_pairs(given.pairs))
 
 
-def option_value(rest):
-    if len(rest) < 2 or rest[1].startswith("-"):
-        raise Ended(WORDS, "words NotBuilt")
-    return rest[1]
+def not_read():
+    return Ended(WORDS, "words NotRead")
+
+
+class Given:
+    """What stands behind a command, word by word."""
+
+    def __init__(self, command):
+        self.options = set(OPTIONS[command])
+        self.flags = {FLAG} if command in WITH_FLAG else set()
+        self.has_pairs = command in WITH_PAIRS
+        self.values = {}
+        self.pairs = []
+        self.waiting = None
+        self.only_pairs = False
+
+    def take(self, word):
+        if self.only_pairs or word == "-" or not word.startswith("-"):
+            self.take_plain(word)
+        elif self.waiting:
+            raise not_read()
+        elif word == "--":
+            self.only_pairs = True
+        else:
+            self.take_option(*word.partition("="))
+
+    def take_plain(self, word):
+        """A word that is no option: the value that is waited for, or a pair."""
+        if self.waiting:
+            self.values[self.waiting], self.waiting = word, None
+        elif self.has_pairs:
+            self.pairs.append(word)
+        else:
+            raise not_read()
+
+    def take_option(self, name, has_value, value):
+        is_flag = name in self.flags
+        if name in self.values or not (is_flag or name in self.options) or (is_flag and has_value):
+            raise not_read()
+        if has_value or is_flag:
+            self.values[name] = value
+        else:
+            self.waiting = name
+
+    def close(self):
+        if self.waiting or ("--keyring" in self.options and "--keyring" not in self.values):
+            raise not_read()
 
 
 def read_number(name, text, most):

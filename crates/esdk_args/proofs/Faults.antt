@@ -1,27 +1,26 @@
 -- Which words have which fault.
 use Rattle.std.proofs.Common.{◌≡◌, ◌≢◌, ℕ, List, sym, ap, subst, refl, ◌∙◌, inl, inr}
-use Rattle.std.specs.Prelude.{Option, Some, None, Result, Ok, Err}
+use Rattle.std.specs.Prelude.{Option, Result, Ok, Err}
 use Rattle.esdk_args.specs.declared.options.OptionName.{OptionName}
 use Rattle.esdk_args.specs.declared.options.OptionName.TheVariants.{Retire}
 use Rattle.esdk_args.specs.declared.request.Request.TheVariants as requests
 use Rattle.esdk_args.specs.declared.request.WordsFault.{WordsFault}
-use Rattle.esdk_args.specs.declared.request.WordsFault.TheVariants.{NotBuilt, BadNumber, BadPair, Memory}
-use Rattle.esdk_args.specs.Form.{FormValue, MigrationValue, OptionsValue, list, migrate, form_of}
+use Rattle.esdk_args.specs.declared.request.WordsFault.TheVariants.{NotRead, BadNumber, BadPair, Memory}
+use Rattle.esdk_args.specs.declared.commands.CommandName.TheVariants as commands
 use Rattle.esdk_args.specs.PairWords.{pairs_of}
 use Rattle.esdk_args.specs.Faults.{◌>>=◌}
 use Rattle.esdk_args.specs.Numbers.{number_given}
-use Rattle.esdk_args.specs.Words.{migrate_of, words_of}
-use Rattle.esdk_args.specs.Spelling.{AreForm, AreMigration, AreNoForm, Command, HasBadNumber, HasBadPair, HasBadRetire, HasFirstBadNumber, first_of, second_of}
+use Rattle.esdk_args.specs.Words.{MigrationValue, OptionsValue, migrate_of, words_of}
+use Rattle.esdk_args.specs.Spelling.{AreMigration, AreNotRead, AreTaken, Command, HasBadNumber, HasBadPair, HasBadRetire, HasFirstBadNumber, NameNoCommand, first_of, row_of, second_of}
 use Rattle.esdk_args.proofs.Given.{bad_is, bad_read, good_is, good_read}
 use Rattle.esdk_args.proofs.Pairs.{first_bad_is, first_bad_named}
-use Rattle.esdk_args.proofs.Forms.{form_read, form_with, with_command}
-use Rattle.esdk_args.proofs.Steps.{HasFault, Kind, command_words, faulty, in_first, in_pairs, in_second, kind, made, migration_words, of_command, of_list, of_migration, of_none, request_with, steps_fail}
+use Rattle.esdk_args.proofs.Steps.{HasFault, Kind, command_words, faulty, in_first, in_pairs, in_second, kind, made, migration_words, of_command, of_list, of_migration, of_none, of_refused, reads_refused, request_with, steps_fail}
 
 -- the steps of a command with options
 abbrev StepsFail : Command → OptionsValue → WordsFault → Type 0
 StepsFail command options fault = HasFault (number_given (first_of command) options.first) (number_given (second_of command) options.second) (pairs_of options.pairs) fault
 
-step_named : (command : Command) (words : List (List ℕ)) (options : OptionsValue) (fault : WordsFault) → AreForm command words options → StepsFail command options fault → words_of words ≡ Err fault
+step_named : (command : Command) (words : List (List ℕ)) (options : OptionsValue) (fault : WordsFault) → AreTaken command words options → StepsFail command options fault → words_of words ≡ Err fault
 step_named command words options fault form fails =
     command_words command words options form
     ∙ steps_fail (number_given (first_of command) options.first) (number_given (second_of command) options.second) (pairs_of options.pairs) (made command options.keyring options.uncommitted) fault fails
@@ -31,27 +30,27 @@ data HaveFault (words : List (List ℕ)) (fault : WordsFault) : Type 0 where
   bad_number : (name : OptionName) → BadNumber name ≡ fault → HasBadNumber words name → HaveFault words fault
   bad_pair : (n : ℕ) → BadPair n ≡ fault → HasBadPair words n → HaveFault words fault
 
-by_step : (command : Command) (words : List (List ℕ)) (options : OptionsValue) (fault : WordsFault) → AreForm command words options
+by_step : (command : Command) (words : List (List ℕ)) (options : OptionsValue) (fault : WordsFault) → AreTaken command words options
     → StepsFail command options fault → HaveFault words fault
 by_step command words options fault form (in_first e) =
     let bad = bad_is (first_of command) options.first fault e in
-    bad_number (first_of command) bad.0 (inl (record { command = command; options = options; form = form; first_bad = inl (refl, bad.1) }))
+    bad_number (first_of command) bad.0 (inl (record { command = command; options = options; taken = form; first_bad = inl (refl, bad.1) }))
 by_step command words options fault form (in_second one first e) =
     let bad = bad_is (second_of command) options.second fault e in
-    bad_number (second_of command) bad.0 (inl (record { command = command; options = options; form = form; first_bad = inr (good_is (first_of command) options.first one first, refl, bad.1) }))
+    bad_number (second_of command) bad.0 (inl (record { command = command; options = options; taken = form; first_bad = inr (good_is (first_of command) options.first one first, refl, bad.1) }))
 by_step command words options fault form (in_pairs one two first second e) =
-    let bad = first_bad_is options.pairs fault form.pairs e in
+    let bad = first_bad_is options.pairs fault e in
     bad_pair bad.0 bad.1 (record {
       command = command;
       options = options;
-      form = form;
+      taken = form;
       first = good_is (first_of command) options.first one first;
       second = good_is (second_of command) options.second two second;
       bad = bad.2;
     })
 
-fault_of : (command : Command) (words : List (List ℕ)) (options : OptionsValue) (fault : WordsFault) → AreForm command words options → request_with command options ≡ Err fault → HaveFault words fault
-fault_of command words options fault form e =
+fault_of_command : (command : Command) (words : List (List ℕ)) (options : OptionsValue) (fault : WordsFault) → AreTaken command words options → request_with command options ≡ Err fault → HaveFault words fault
+fault_of_command command words options fault form e =
     by_step command words options fault form
     (faulty (number_given (first_of command) options.first) (number_given (second_of command) options.second) (pairs_of options.pairs) (made command options.keyring options.uncommitted) fault e)
 
@@ -64,50 +63,46 @@ retire_fault words migration fault form e = by_number (number_given Retire migra
     by_number (Ok retire) is e = absurd cc
     by_number (Err other) is e =
         let bad = bad_is Retire migration.retire fault (is ∙ cc e) in
-        bad_number Retire bad.0 (inr (record { migration = migration; form = form; option = refl; bad = bad.1 }))
+        bad_number Retire bad.0 (inr (record { migration = migration; taken = form; option = refl; bad = bad.1 }))
 
 -- what words with a fault are
 data AreFaulty (words : List (List ℕ)) (fault : WordsFault) : Type 0 where
-  not_built : form_of words ≡ None → NotBuilt ≡ fault → AreFaulty words fault
-  built : HaveFault words fault → AreFaulty words fault
+  not_read : AreNotRead words → NotRead ≡ fault → AreFaulty words fault
+  taken : HaveFault words fault → AreFaulty words fault
 
 are_faulty : (words : List (List ℕ)) (fault : WordsFault) → words_of words ≡ Err fault → AreFaulty words fault
 are_faulty words fault e = by_kind (kind words)
   where
     by_kind : Kind words → AreFaulty words fault
-    by_kind (of_list uncommitted are is) = absurd cc
-    by_kind (of_command command options form is) = built (fault_of command words options fault form (sym is ∙ e))
-    by_kind (of_migration migration form is) = built (retire_fault words migration fault form (sym is ∙ e))
-    by_kind (of_none none is) = not_built none (cc (sym is ∙ e))
+    by_kind (of_list uncommitted form is) = absurd cc
+    by_kind (of_command command options form is) = taken (fault_of_command command words options fault form (sym is ∙ e))
+    by_kind (of_migration migration form is) = taken (retire_fault words migration fault form (sym is ∙ e))
+    by_kind (of_refused refused is) = not_read (inr refused) (cc (sym is ∙ e))
+    by_kind (of_none none is) = not_read (inl none) (cc (sym is ∙ e))
 
--- ---- no form
+-- ---- nothing is read
 
-none_read : (words : List (List ℕ)) (form : FormValue) → form_of words ≡ None → form_of words ≡ Some form → ⊥
-none_read words form none some = cc
-
-no_form : (words : List (List ℕ)) → form_of words ≡ None → AreNoForm words
-no_form words none = (
-  λ uncommitted is. none_read words (list uncommitted) none (form_read words (list uncommitted) is),
-  λ command options form. none_read words (form_with command options) none (form_read words (form_with command options) (with_command command words options form)),
-  λ migration form. none_read words (migrate migration) none (form_read words (migrate migration) form),
-)
-
-pub not_built_is : (words : List (List ℕ)) → words_of words ≡ Err NotBuilt → AreNoForm words
-not_built_is words e = by_fault (are_faulty words NotBuilt e)
+pub not_read_is : (words : List (List ℕ)) → words_of words ≡ Err NotRead → AreNotRead words
+not_read_is words e = by_fault (are_faulty words NotRead e)
   where
-    by_fault : AreFaulty words NotBuilt → AreNoForm words
-    by_fault (not_built none is) = no_form words none
-    by_fault (built (bad_number name is has)) = absurd cc
-    by_fault (built (bad_pair n is has)) = absurd cc
+    by_fault : AreFaulty words NotRead → AreNotRead words
+    by_fault (not_read not is) = not
+    by_fault (taken (bad_number name is has)) = absurd cc
+    by_fault (taken (bad_pair n is has)) = absurd cc
 
-pub not_built_when : (words : List (List ℕ)) → AreNoForm words → words_of words ≡ Err NotBuilt
-not_built_when words other = by_kind (kind words)
+none_named : (words : List (List ℕ)) → NameNoCommand words → words_of words ≡ Err NotRead
+none_named words none = by_kind (kind words)
   where
-    by_kind : Kind words → words_of words ≡ Err NotBuilt
-    by_kind (of_list uncommitted are is) = absurd (other.0 uncommitted are)
-    by_kind (of_command command options form is) = absurd (other.1 command options form)
-    by_kind (of_migration migration form is) = absurd (other.2 migration form)
-    by_kind (of_none none is) = is
+    by_kind : Kind words → words_of words ≡ Err NotRead
+    by_kind (of_list uncommitted form is) = absurd (none commands.List form.behind form.are)
+    by_kind (of_command name options form is) = absurd (none (row_of name) form.behind form.are)
+    by_kind (of_migration migration form is) = absurd (none commands.Migrate form.behind form.are)
+    by_kind (of_refused refused is) = is
+    by_kind (of_none other is) = is
+
+pub not_read_when : (words : List (List ℕ)) → AreNotRead words → words_of words ≡ Err NotRead
+not_read_when words (inl none) = none_named words none
+not_read_when words (inr refused) = reads_refused words refused
 
 -- ---- a bad number
 
@@ -115,12 +110,12 @@ pub bad_number_is : (words : List (List ℕ)) (name : OptionName) → words_of w
 bad_number_is words name e = by_fault (are_faulty words (BadNumber name) e)
   where
     by_fault : AreFaulty words (BadNumber name) → HasBadNumber words name
-    by_fault (not_built none is) = absurd cc
-    by_fault (built (bad_number other is has)) = let same : other ≡ name = cc in subst (HasBadNumber words) same has
-    by_fault (built (bad_pair n is has)) = absurd cc
+    by_fault (not_read none is) = absurd cc
+    by_fault (taken (bad_number other is has)) = let same : other ≡ name = cc in subst (HasBadNumber words) same has
+    by_fault (taken (bad_pair n is has)) = absurd cc
 
 first_named : (words : List (List ℕ)) (name : OptionName) → HasFirstBadNumber words name → words_of words ≡ Err (BadNumber name)
-first_named words name h = step_named h.command words h.options (BadNumber name) h.form (elim h.first_bad [
+first_named words name h = step_named h.command words h.options (BadNumber name) h.taken (elim h.first_bad [
   | inl bad ↦ in_first (subst (λ k. number_given k h.options.first ≡ Err (BadNumber name)) bad.0 (bad_read name h.options.first bad.1))
   | inr bad ↦
       let first = good_read (first_of h.command) h.options.first bad.0 in
@@ -129,7 +124,7 @@ first_named words name h = step_named h.command words h.options (BadNumber name)
 
 retire_named : (words : List (List ℕ)) (name : OptionName) → HasBadRetire words name → words_of words ≡ Err (BadNumber name)
 retire_named words name h =
-    subst (λ k. words_of words ≡ Err (BadNumber k)) (sym h.option) (migration_words words h.migration h.form
+    subst (λ k. words_of words ≡ Err (BadNumber k)) (sym h.option) (migration_words words h.migration h.taken
     ∙ ap (λ r. r >>= λ retire. Ok (requests.Migrate (record { keyring = h.migration.keyring; retire = retire }))) (bad_read Retire h.migration.retire h.bad))
 
 pub bad_number_named : (words : List (List ℕ)) (name : OptionName) → HasBadNumber words name → words_of words ≡ Err (BadNumber name)
@@ -142,15 +137,15 @@ pub bad_pair_is : (words : List (List ℕ)) (n : ℕ) → words_of words ≡ Err
 bad_pair_is words n e = by_fault (are_faulty words (BadPair n) e)
   where
     by_fault : AreFaulty words (BadPair n) → HasBadPair words n
-    by_fault (not_built none is) = absurd cc
-    by_fault (built (bad_number name is has)) = absurd cc
-    by_fault (built (bad_pair m is has)) = let same : m ≡ n = cc in subst (HasBadPair words) same has
+    by_fault (not_read none is) = absurd cc
+    by_fault (taken (bad_number name is has)) = absurd cc
+    by_fault (taken (bad_pair m is has)) = let same : m ≡ n = cc in subst (HasBadPair words) same has
 
 pub bad_pair_named : (words : List (List ℕ)) (n : ℕ) → HasBadPair words n → words_of words ≡ Err (BadPair n)
 bad_pair_named words n h =
     let first = good_read (first_of h.command) h.options.first h.first in
     let second = good_read (second_of h.command) h.options.second h.second in
-    step_named h.command words h.options (BadPair n) h.form (in_pairs first.0 second.0 first.1 second.1 (first_bad_named h.options.pairs n h.form.pairs h.bad))
+    step_named h.command words h.options (BadPair n) h.taken (in_pairs first.0 second.0 first.1 second.1 (first_bad_named h.options.pairs n h.bad))
 
 -- ---- want of memory
 
@@ -158,6 +153,6 @@ pub never_memory : (words : List (List ℕ)) → words_of words ≢ Err Memory
 never_memory words e = by_fault (are_faulty words Memory e)
   where
     by_fault : AreFaulty words Memory → ⊥
-    by_fault (not_built none is) = cc
-    by_fault (built (bad_number name is has)) = cc
-    by_fault (built (bad_pair n is has)) = cc
+    by_fault (not_read none is) = cc
+    by_fault (taken (bad_number name is has)) = cc
+    by_fault (taken (bad_pair n is has)) = cc

@@ -1,15 +1,14 @@
 -- Numbers that are given, or not.
-use Rattle.std.proofs.Common.{◌≡◌, ℕ, List, [], get_or, refl, sym, ap, subst, ◌∙◌, inl, inr, arith}
-use Rattle.std.specs.Prelude.{Option, Some, None, Result, Ok, Err, IfSome}
+use Rattle.std.proofs.Common.{◌≡◌, ℕ, List, refl, sym, ap, subst, ◌∙◌, inl, inr}
+use Rattle.std.specs.Prelude.{Option, Some, None, Result, Ok, Err}
 use Rattle.std.specs.Option.{unwrap_or}
 use Rattle.esdk_args.specs.declared.options.OptionName.{OptionName}
 use Rattle.esdk_args.specs.declared.options.OptionName.TheVariants.{Frame}
 use Rattle.esdk_args.specs.declared.request.WordsFault.{WordsFault}
 use Rattle.esdk_args.specs.declared.request.WordsFault.TheVariants.{BadNumber}
-use Rattle.esdk_args.specs.Options.{option_text}
 use Rattle.esdk_args.specs.Faults.{◌>>=◌}
 use Rattle.esdk_args.specs.Numbers.{frame_given, number_given, number_of}
-use Rattle.esdk_args.specs.Spelling.{GivesFrame, GivesNumber, IsBadNumber, IsGoodNumber, IsValue, MayGive, Writes, option_words}
+use Rattle.esdk_args.specs.Spelling.{GivesFrame, IsBadNumber, IsGoodNumber, MayGive}
 use Rattle.esdk_args.proofs.Numerals.{number_bad, number_read, number_refused, number_writes}
 
 -- ---- what is read of an option
@@ -51,49 +50,29 @@ frame_number (Some word) = by_number (number_of Frame word)
     by_number (Ok n) = refl
     by_number (Err fault) = refl
 
--- ---- the words of an option
+-- ---- what an option gives
 
--- the words of an option give the number that is read of them
-pub number_words : (name : OptionName) (value : Option (List ℕ)) (given : Option ℕ) → number_given name value ≡ Ok given → MayGive name (option_words (option_text name) value) given
-number_words name None given e = let same : None ≡ given = cc in subst (MayGive name []) same refl
-number_words name (Some word) given e = by_number (number_of name word) refl e
+-- an option gives the number that is read of it
+pub number_gives : (name : OptionName) (value : Option (List ℕ)) (given : Option ℕ) → number_given name value ≡ Ok given → MayGive name value given
+number_gives name None given e = let same : None ≡ given = cc in subst (MayGive name None) same refl
+number_gives name (Some word) given e = by_number (number_of name word) refl e
   where
-    by_number : (r : Result ℕ WordsFault) → number_of name word ≡ r → (r >>= λ n. Ok (Some n)) ≡ Ok given → MayGive name (option_words (option_text name) (Some word)) given
-    by_number (Ok n) is e = let same : Some n ≡ given = cc in subst (MayGive name (option_words (option_text name) (Some word))) same (record { word = word; are = refl; writes = number_writes name word n is })
+    by_number : (r : Result ℕ WordsFault) → number_of name word ≡ r → (r >>= λ n. Ok (Some n)) ≡ Ok given → MayGive name (Some word) given
+    by_number (Ok n) is e = let same : Some n ≡ given = cc in subst (MayGive name (Some word)) same (number_writes name word n is)
     by_number (Err fault) is e = absurd cc
 
--- no words give 4,096
-pub frame_words : (words : List (List ℕ)) (given : Option ℕ) → MayGive Frame words given → GivesFrame words (unwrap_or given 4096)
-frame_words words None none = inl (none, refl)
-frame_words words (Some n) gives = inr gives
+-- the number that an option gives is read
+pub gives_read : (name : OptionName) (value : Option (List ℕ)) (given : Option ℕ) → MayGive name value given → number_given name value ≡ Ok given
+gives_read name value None none = ap (number_given name) none
+gives_read name None (Some n) gives = absurd gives
+gives_read name (Some word) (Some n) gives = ap (λ r. r >>= λ m. Ok (Some m)) (number_read name word n gives)
 
--- the value that words give an option
-pub record IsGiven (name : OptionName) (words : List (List ℕ)) (given : Option ℕ) : Type 0 where
-  pub value : Option (List ℕ)
-  pub are : words ≡ option_words (option_text name) value
-  pub fits : IfSome value IsValue
-  pub read : number_given name value ≡ Ok given
+-- a frame length that isn't given is 4,096
+pub frame_gives : (value : Option (List ℕ)) (given : Option ℕ) → MayGive Frame value given → GivesFrame value (unwrap_or given 4096)
+frame_gives value None none = inl (none, refl)
+frame_gives value (Some n) gives = inr gives
 
--- a word that writes a number begins with a digit
-number_value : (word : List ℕ) (n : ℕ) → Writes word n → IsValue word
-number_value word n w rest is =
-    let first : get_or word 0 0 ≡ 45 = ap (λ l. get_or l 0 0) is in
-    omega (arith, first, (w.digits 0 0 w.some).0)
-
-gives_value : (name : OptionName) (words : List (List ℕ)) (n : ℕ) → GivesNumber name words n → IsGiven name words (Some n)
-gives_value name words n g = record {
-  value = Some g.word;
-  are = g.are;
-  fits = number_value g.word n g.writes.0;
-  read = ap (λ r. r >>= λ m. Ok (Some m)) (number_read name g.word n g.writes);
-}
-
--- words that give a number have its value
-pub may_give : (name : OptionName) (words : List (List ℕ)) (given : Option ℕ) → MayGive name words given → IsGiven name words given
-may_give name words None none = record { value = None; are = none; fits = tt; read = refl }
-may_give name words (Some n) gives = gives_value name words n gives
-
--- the value that words give for a frame length
-pub frame_value : (words : List (List ℕ)) (frame : ℕ) → GivesFrame words frame → (given : Option ℕ) × (unwrap_or given 4096 ≡ frame) × IsGiven Frame words given
-frame_value words frame (inl none) = (None, sym none.1, may_give Frame words None none.0)
-frame_value words frame (inr gives) = (Some frame, refl, may_give Frame words (Some frame) gives)
+-- the number that gives a frame length, if there is one
+pub frame_value : (value : Option (List ℕ)) (frame : ℕ) → GivesFrame value frame → (given : Option ℕ) × (unwrap_or given 4096 ≡ frame) × (number_given Frame value ≡ Ok given)
+frame_value value frame (inl none) = (None, sym none.1, gives_read Frame value None none.0)
+frame_value value frame (inr gives) = (Some frame, refl, gives_read Frame value (Some frame) gives)

@@ -1,10 +1,13 @@
+pub mod Rows
 pub mod Numerals
 pub mod Parsed
 pub mod Splits
 pub mod Given
-pub mod Forms
 pub mod OnePair
 pub mod Pairs
+pub mod Walks
 pub mod Steps
+pub mod Plains
 pub mod Requests
 pub mod Faults
+pub mod Required

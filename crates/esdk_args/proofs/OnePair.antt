@@ -1,5 +1,5 @@
 -- Which word names which pair.
-use Rattle.std.proofs.Common.{◌≡◌, ◌≢◌, ℕ, Bool, true, false, List, [], ◌∷◌, ◌++◌, length, take, get_or, refl, sym, ap, subst, ◌∙◌, inl, inr, arith}
+use Rattle.std.proofs.Common.{◌≡◌, ◌≢◌, ℕ, Bool, true, false, List, [], ◌++◌, length, take, refl, sym, ap, subst, ◌∙◌, inl, inr, arith}
 use Rattle.std.specs.Prelude.{◌==◌, ◌&&◌, ◌||◌, not, is_some, Option, Some, None}
 use Rattle.std.specs.Io.BufRead.{ends_with_byte, strip_last}
 use Rattle.std.proofs.lemmas.Bool.{and_parts, and_from, eqb-false, ne_eqb, not-true, not_from_false, or_left, or_right, both_ways, cases_Bool}
@@ -8,7 +8,7 @@ use Rattle.std.proofs.lemmas.List.Elements.{All-append, All-cons, All-nil, All-s
 use Rattle.std.proofs.lemmas.Option.{cond_some}
 use Rattle.esdk_args.specs.declared.pair_words.PairWord.{PairWord}
 use Rattle.esdk_args.specs.PairWords.{key_part, value_part, pair_of}
-use Rattle.esdk_args.specs.Spelling.{IsPair, IsValue, colon_text, value_text, pair_text}
+use Rattle.esdk_args.specs.Spelling.{IsPair, colon_text, value_text, pair_text}
 use Rattle.esdk_args.proofs.Splits.{IsPlain, IsUnended, key_is, value_is, splits, required_is, stripped_is, ends}
 
 -- whether these parts are those of a pair
@@ -49,9 +49,6 @@ key_plain : (key tail front : List ℕ) → front ≡ key ++ tail → IsPlain fr
 key_plain key tail front is plain =
     All-same (λ b. b ≢ 61) key (take (length key) front) (sym (ap (take (length key)) is ∙ take_at key tail (length key) refl)) (All-take (λ b. b ≢ 61) (length key) front plain)
 
-key_undashed : (key tail more word : List ℕ) → word ≡ (key ++ tail) ++ more → IsValue word → IsValue key
-key_undashed key tail more word is value rest dash = value ((rest ++ tail) ++ more) (is ∙ ap (λ l. (l ++ tail) ++ more) dash)
-
 optional_value : (required : Bool) (value : Option (List ℕ)) → (required || is_some value) ≡ true → required ≡ false → is_some value ≡ true
 optional_value true value either optional = absurd (both_ways true optional refl)
 optional_value false value either optional = either
@@ -62,8 +59,8 @@ pub record NamesThis (word : List ℕ) (pair : PairWord) : Type 0 where
   pub fits : IsPair pair
 
 named_with : (word key : List ℕ) (required : Bool) (value : Option (List ℕ)) (front : List ℕ) → word ≡ front ++ value_text value → IsPlain front → front ≡ key ++ colon_text required
-    → (required ≡ false → IsUnended key) → passes key required value ≡ true → IsValue word → NamesThis word (pair_with key required value)
-named_with word key required value front is plain ended unended passed undashed =
+    → (required ≡ false → IsUnended key) → passes key required value ≡ true → NamesThis word (pair_with key required value)
+named_with word key required value front is plain ended unended passed =
     let t = and_parts (not (length key == 0)) (required || is_some value) passed in
     let whole : word ≡ (key ++ colon_text required) ++ value_text value = is ∙ ap (λ l. l ++ value_text value) ended in
     record {
@@ -71,35 +68,26 @@ named_with word key required value front is plain ended unended passed undashed 
       fits = record {
         some = λ none. eqb-false (length key) 0 (not-true (length key == 0) t.0) (ap length none);
         plain = key_plain key (colon_text required) front ended plain;
-        undashed = key_undashed key (colon_text required) (value_text value) word whole undashed;
         optional = λ optional. (optional_value required value t.1 optional, unended optional);
       };
     }
 
 -- a word that names a pair is the word of this pair
-pub pair_named : (word : List ℕ) (pair : PairWord) → IsValue word → pair_of word ≡ Some pair → NamesThis word pair
+pub pair_named : (word : List ℕ) (pair : PairWord) → pair_of word ≡ Some pair → NamesThis word pair
 unfolding pair_of
-pair_named word pair undashed e =
+pair_named word pair e =
     let front = key_part word in
     let key = strip_last 58 front in
     let required = ends_with_byte 58 front in
     let t = cond_some (passes key required (value_part word)) (pair_with key required (value_part word)) pair e in
     let split = splits word in
     let ended = ends front in
-    subst (NamesThis word) t.1 (named_with word key required (value_part word) front split.is split.plain ended.is ended.unended t.0 undashed)
+    subst (NamesThis word) t.1 (named_with word key required (value_part word) front split.is split.plain ended.is ended.unended t.0)
 
 -- a word that names no pair
-pub no_pair : (word : List ℕ) → IsValue word → ((pair : PairWord) → IsPair pair → word ≢ pair_text pair) → pair_of word ≡ None
-no_pair word undashed other = none_of (pair_of word) refl
+pub no_pair : (word : List ℕ) → ((pair : PairWord) → IsPair pair → word ≢ pair_text pair) → pair_of word ≡ None
+no_pair word other = none_of (pair_of word) refl
   where
     none_of : (found : Option PairWord) → pair_of word ≡ found → pair_of word ≡ None
     none_of None is = is
-    none_of (Some pair) is = let named = pair_named word pair undashed is in absurd (other pair named.fits named.is)
-
--- the word of a pair can stand among pair words
-undashed_word : (key more most : List ℕ) → key ≢ [] → IsValue key → IsValue ((key ++ more) ++ most)
-undashed_word [] more most some value rest is = absurd (some refl)
-undashed_word (b ∷ key) more most some value rest is = value key (ap (λ c. c ∷ key) (ap (λ l. get_or l 0 0) is))
-
-pub pair_value : (pair : PairWord) → IsPair pair → IsValue (pair_text pair)
-pair_value pair is = undashed_word pair.key (colon_text pair.required) (value_text pair.value) is.some is.undashed
+    none_of (Some pair) is = let named = pair_named word pair is in absurd (other pair named.fits named.is)

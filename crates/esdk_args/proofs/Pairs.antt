@@ -5,13 +5,13 @@ use Rattle.std.specs.List.{filter_map}
 use borrow.Author.Count.{below_more}
 use Rattle.std.proofs.lemmas.Bool.{cases_lt, eq-eqb, ne_eqb}
 use Rattle.std.proofs.lemmas.List.{drop_more, get_or-take, get_or_append_left, get_or_at, length-append, length-map, length-take-le, take-append-drop, take_more}
-use Rattle.std.proofs.lemmas.List.Elements.{All-cons, All-head, All-nil, All-same, All-tail, All-take, filter_map-append}
+use Rattle.std.proofs.lemmas.List.Elements.{All-cons, All-head, All-nil, All-same, All-tail, filter_map-append}
 use Rattle.std.proofs.lemmas.List.Sums.{fails_before_first, passes_at_first, position_or_len_is}
 use Rattle.esdk_args.specs.declared.pair_words.PairWord.{PairWord}
 use Rattle.esdk_args.specs.declared.request.WordsFault.{WordsFault}
 use Rattle.esdk_args.specs.declared.request.WordsFault.TheVariants.{BadPair}
 use Rattle.esdk_args.specs.PairWords.{number_after, pair_of, pairs_before, pairs_of}
-use Rattle.esdk_args.specs.Spelling.{IsFirstBadPair, IsPair, IsValue, pair_text}
+use Rattle.esdk_args.specs.Spelling.{IsFirstBadPair, IsPair, pair_text}
 use Rattle.esdk_args.proofs.OnePair.{pair_named, pair_read, no_pair}
 
 -- ---- so many words name pairs
@@ -80,17 +80,17 @@ name_before pairs bad behind all k lt =
 
 -- the first word that names no pair, behind those of pairs, is bad
 bad_named : (pairs : List PairWord) (bad : List ℕ) (behind : List (List ℕ)) → All IsPair pairs → ((pair : PairWord) → IsPair pair → bad ≢ pair_text pair)
-    → All IsValue (map pair_text pairs ++ bad ∷ behind) → pairs_of (map pair_text pairs ++ bad ∷ behind) ≡ Err (BadPair (number_after (length pairs)))
-bad_named pairs bad behind all other values =
+    → pairs_of (map pair_text pairs ++ bad ∷ behind) ≡ Err (BadPair (number_after (length pairs)))
+bad_named pairs bad behind all other =
     let words = map pair_text pairs ++ bad ∷ behind in
     let at = bad_at pairs bad behind in
     let lt = bad_within pairs bad behind in
-    pairs_bad words (length pairs) lt (name_before pairs bad behind all) (ap pair_of at ∙ no_pair bad (subst IsValue at (values (length pairs) [] lt)) other)
+    pairs_bad words (length pairs) lt (name_before pairs bad behind all) (ap pair_of at ∙ no_pair bad other)
 
 -- the first bad pair word is named
-pub first_bad_named : (words : List (List ℕ)) (n : ℕ) → All IsValue words → IsFirstBadPair words n → pairs_of words ≡ Err (BadPair n)
-first_bad_named words n values b =
-    ap pairs_of b.are ∙ bad_named b.before b.bad b.behind b.pairs b.no_pair (All-same IsValue (map pair_text b.before ++ b.bad ∷ b.behind) words (sym b.are) values)
+pub first_bad_named : (words : List (List ℕ)) (n : ℕ) → IsFirstBadPair words n → pairs_of words ≡ Err (BadPair n)
+first_bad_named words n b =
+    ap pairs_of b.are ∙ bad_named b.before b.bad b.behind b.pairs b.no_pair
     ∙ ap (λ k. Err (BadPair k)) (sym b.number)
 
 -- ---- from words to their pairs
@@ -100,20 +100,20 @@ pub record NameThese (words : List (List ℕ)) : Type 0 where
   pub are : words ≡ map pair_text (filter_map pair_of words)
   pub pairs : All IsPair (filter_map pair_of words)
 
-these_more : (word : List ℕ) (words : List (List ℕ)) (found : Option PairWord) → pair_of word ≡ found → is_none found ≡ false → IsValue word → NameThese words → NameThese (word ∷ words)
-these_more word words None is some value rest = absurd cc
-these_more word words (Some pair) is some value rest =
-    let named = pair_named word pair value is in
+these_more : (word : List ℕ) (words : List (List ℕ)) (found : Option PairWord) → pair_of word ≡ found → is_none found ≡ false → NameThese words → NameThese (word ∷ words)
+these_more word words None is some rest = absurd cc
+these_more word words (Some pair) is some rest =
+    let named = pair_named word pair is in
     record {
       are = rw is (ap (λ w. w ∷ words) named.is ∙ ap (λ l. pair_text pair ∷ l) rest.are);
       pairs = rw is (All-cons IsPair pair (filter_map pair_of words) named.fits rest.pairs);
     }
 
-these : (words : List (List ℕ)) → All IsValue words → NamePairs words (length words) → NameThese words
-these [] values good = record { are = refl; pairs = All-nil IsPair }
-these (word ∷ words) values good =
-    these_more word words (pair_of word) refl (good 0 (omega arith)) (All-head IsValue word words values)
-    (these words (All-tail IsValue word words values) (λ k lt. good (suc k) (omega (arith, lt))))
+these : (words : List (List ℕ)) → NamePairs words (length words) → NameThese words
+these [] good = record { are = refl; pairs = All-nil IsPair }
+these (word ∷ words) good =
+    these_more word words (pair_of word) refl (good 0 (omega arith))
+    (these words (λ k lt. good (suc k) (omega (arith, lt))))
 
 -- what is read of the words
 data AreRead (words : List (List ℕ)) : Type 0 where
@@ -133,13 +133,13 @@ are_read words =
     ]
 
 -- words that are read as pairs are the words of these
-pub pairs_named : (words : List (List ℕ)) (pairs : List PairWord) → All IsValue words → pairs_of words ≡ Ok pairs → (words ≡ map pair_text pairs) × All IsPair pairs
-pairs_named words pairs values e = by_reading (are_read words)
+pub pairs_named : (words : List (List ℕ)) (pairs : List PairWord) → pairs_of words ≡ Ok pairs → (words ≡ map pair_text pairs) × All IsPair pairs
+pairs_named words pairs e = by_reading (are_read words)
   where
     by_reading : AreRead words → (words ≡ map pair_text pairs) × All IsPair pairs
     by_reading (all_pairs good) =
         let same : filter_map pair_of words ≡ pairs = cc (sym (pairs_good words good) ∙ e) in
-        let named = these words values good in
+        let named = these words good in
         (named.are ∙ ap (map pair_text) same, All-same IsPair pairs (filter_map pair_of words) (sym same) named.pairs)
     by_reading (first_bad n lt good none) = absurd (unlike (sym (pairs_bad words n lt good none) ∙ e))
       where
@@ -151,9 +151,9 @@ front_is words n lt good k before =
     let long : length (take n words) ≡ n = length-take-le n words (omega arith) in
     subst NamesPair (sym (get_or-take n words k [] (omega (arith, long, before)))) (good k (omega (arith, long, before)))
 
-bad_there : (words : List (List ℕ)) (n : ℕ) → All IsValue words → n < length words → NamePairs words n → pair_of (get_or words n []) ≡ None → IsFirstBadPair words (number_after n)
-bad_there words n values lt good none =
-    let named = these (take n words) (All-take IsValue n words values) (front_is words n lt good) in
+bad_there : (words : List (List ℕ)) (n : ℕ) → n < length words → NamePairs words n → pair_of (get_or words n []) ≡ None → IsFirstBadPair words (number_after n)
+bad_there words n lt good none =
+    let named = these (take n words) (front_is words n lt good) in
     let before = filter_map pair_of (take n words) in
     let long : length before ≡ n = sym (length-map before pair_text) ∙ ap length (sym named.are) ∙ length-take-le n words (omega arith) in
     record {
@@ -170,12 +170,12 @@ bad_there words n values lt good none =
     unlike pair other = cc
 
 -- a fault of pair words is that of the first bad one
-pub first_bad_is : (words : List (List ℕ)) (fault : WordsFault) → All IsValue words → pairs_of words ≡ Err fault → (n : ℕ) × (BadPair n ≡ fault) × IsFirstBadPair words n
-first_bad_is words fault values e = by_reading (are_read words)
+pub first_bad_is : (words : List (List ℕ)) (fault : WordsFault) → pairs_of words ≡ Err fault → (n : ℕ) × (BadPair n ≡ fault) × IsFirstBadPair words n
+first_bad_is words fault e = by_reading (are_read words)
   where
     by_reading : AreRead words → (n : ℕ) × (BadPair n ≡ fault) × IsFirstBadPair words n
     by_reading (all_pairs good) = absurd (unlike (sym (pairs_good words good) ∙ e))
       where
         unlike : Ok (filter_map pair_of words) ≡ Err fault → ⊥
         unlike other = cc
-    by_reading (first_bad n lt good none) = (number_after n, cc (sym (pairs_bad words n lt good none) ∙ e), bad_there words n values lt good none)
+    by_reading (first_bad n lt good none) = (number_after n, cc (sym (pairs_bad words n lt good none) ∙ e), bad_there words n lt good none)

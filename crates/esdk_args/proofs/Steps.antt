@@ -1,26 +1,25 @@
--- What words are read as: their form, and for a command two numbers and the pairs.
-use Rattle.std.proofs.Common.{◌≡◌, ℕ, Bool, List, ◌∷◌, refl, ap, ◌∙◌}
-use Rattle.std.specs.Prelude.{Option, Some, None, Result, Ok, Err, codes}
+-- What words are read as: their command, and of a command with pairs two numbers and the pairs.
+use Rattle.std.proofs.Common.{◌≡◌, ◌≢◌, ℕ, Bool, true, false, List, [], ◌∷◌, refl, sym, ap, ◌∙◌}
+use Rattle.std.specs.Prelude.{Option, Some, None, Result, Ok, Err, codes, if◌then◌else◌}
 use Rattle.std.specs.Option.{unwrap_or}
+use Rattle.std.specs.Str.{bytes_eq}
+use Rattle.std.proofs.lemmas.Slice.Eq.{bytes_eq-Decides}
+use Rattle.clap.specs.Words.{Kinds, Row, fault_of, matches_of}
+use Rattle.esdk_args.specs.declared.commands.CommandName.{CommandName}
+use Rattle.esdk_args.specs.declared.commands.CommandName.TheVariants as commands
 use Rattle.esdk_args.specs.declared.options.OptionName.TheVariants.{Frame, MaxKeys}
 use Rattle.esdk_args.specs.declared.pair_words.PairWord.{PairWord}
 use Rattle.esdk_args.specs.declared.request.Request.{Request}
 use Rattle.esdk_args.specs.declared.request.Request.TheVariants as requests
 use Rattle.esdk_args.specs.declared.request.WordsFault.{WordsFault}
-use Rattle.esdk_args.specs.declared.request.WordsFault.TheVariants.{NotBuilt}
-use Rattle.esdk_args.specs.Form.{OptionsValue, MigrationValue, FormValue, list, encrypt, decrypt, migrate, form_of}
+use Rattle.esdk_args.specs.declared.request.WordsFault.TheVariants.{NotRead}
+use Rattle.esdk_args.specs.Commands.{app_of_command, command_named, command_text}
 use Rattle.esdk_args.specs.PairWords.{pairs_of}
 use Rattle.esdk_args.specs.Faults.{◌>>=◌}
 use Rattle.esdk_args.specs.Numbers.{frame_given, number_given}
-use Rattle.esdk_args.specs.Words.{migrate_of, request_of, words_of}
-use Rattle.esdk_args.specs.Spelling.{AreForm, AreMigration, Command, decryption, encryption, first_of, flag_words, second_of}
+use Rattle.esdk_args.specs.Words.{MigrationValue, OptionsValue, decrypt_of, encrypt_of, migrate_of, migration_in, options_in, read_behind, request_of, uncommitted_in, unless_refused, words_of}
+use Rattle.esdk_args.specs.Spelling.{AreListing, AreMigration, AreRefused, AreTaken, Command, NameNoCommand, decryption, encryption, first_of, row_of, second_of}
 use Rattle.esdk_args.proofs.Given.{frame_number}
-use Rattle.esdk_args.proofs.Forms.{form_found, form_read, form_with, with_command}
-
--- a request is that of the form
-pub reads : (words : List (List ℕ)) (form : Option FormValue) → form_of words ≡ form → words_of words ≡ request_of form
-unfolding words_of
-reads words form is = ap request_of is
 
 -- ---- two numbers and the pairs, in this order
 
@@ -88,8 +87,13 @@ abbrev pub request_with : Command → OptionsValue → Result Request WordsFault
 request_with command options =
     steps (number_given (first_of command) options.first) (number_given (second_of command) options.second) (pairs_of options.pairs) (made command options.keyring options.uncommitted)
 
--- it is that of the command's form
-command_request : (command : Command) (options : OptionsValue) → request_of (Some (form_with command options)) ≡ request_with command options
+-- the request of a command with pairs
+abbrev pub request_by : Command → OptionsValue → Result Request WordsFault
+request_by encryption options = encrypt_of options
+request_by decryption options = decrypt_of options
+
+-- it is that of these steps
+command_request : (command : Command) (options : OptionsValue) → request_by command options ≡ request_with command options
 command_request encryption options = by_frame (number_given Frame options.first) (frame_number options.first)
   where
     rest : (frame : ℕ) → Result Request WordsFault
@@ -103,29 +107,129 @@ command_request encryption options = by_frame (number_given Frame options.first)
     by_frame (Err fault) is = ap (λ f. f >>= rest) is
 command_request decryption options = refl
 
--- the words of a command ask for its request
-pub command_words : (command : Command) (words : List (List ℕ)) (options : OptionsValue) → AreForm command words options → words_of words ≡ request_with command options
-command_words command words options form =
-    reads words (Some (form_with command options)) (form_read words (form_with command options) (with_command command words options form)) ∙ command_request command options
+-- ---- the command that words name
+
+-- a command's word names it
+pub named_back : (name : CommandName) → command_named (command_text name) ≡ Some name
+named_back commands.List = refl
+named_back commands.Encrypt = refl
+named_back commands.Decrypt = refl
+named_back commands.Migrate = refl
+
+same : (one other : CommandName) → Some one ≡ Some other → command_text one ≡ command_text other
+same one other e = let is : one ≡ other = cc in ap command_text is
+
+-- a word that names a command is its word
+pub named_is : (word : List ℕ) (name : CommandName) → command_named word ≡ Some name → word ≡ command_text name
+named_is word name e =
+    by_word (bytes_eq word (codes "list")) (bytes_eq word (codes "encrypt")) (bytes_eq word (codes "decrypt")) (bytes_eq word (codes "migrate")) refl refl refl refl e
+  where
+    by_word : (a b c d : Bool) → bytes_eq word (codes "list") ≡ a → bytes_eq word (codes "encrypt") ≡ b → bytes_eq word (codes "decrypt") ≡ c
+        → bytes_eq word (codes "migrate") ≡ d
+        → (if a then Some commands.List else if b then Some commands.Encrypt else if c then Some commands.Decrypt else if d then Some commands.Migrate else None) ≡ Some name
+        → word ≡ command_text name
+    by_word true b c d is-a is-b is-c is-d e = (bytes_eq-Decides word (codes "list")).0 is-a ∙ same commands.List name e
+    by_word false true c d is-a is-b is-c is-d e = (bytes_eq-Decides word (codes "encrypt")).0 is-b ∙ same commands.Encrypt name e
+    by_word false false true d is-a is-b is-c is-d e = (bytes_eq-Decides word (codes "decrypt")).0 is-c ∙ same commands.Decrypt name e
+    by_word false false false true is-a is-b is-c is-d e = (bytes_eq-Decides word (codes "migrate")).0 is-d ∙ same commands.Migrate name e
+    by_word false false false false is-a is-b is-c is-d e = absurd cc
+
+-- ---- what words are
+
+-- words that begin with a command are read by it
+pub reads : (words behind : List (List ℕ)) (name : CommandName) → words ≡ command_text name ∷ behind
+    → words_of words ≡ unless_refused (fault_of (app_of_command name) behind) (request_of name (matches_of (app_of_command name) behind))
+unfolding words_of
+reads words behind name are = ap words_of are ∙ ap (λ found. read_behind found behind) (named_back name)
+
+-- words that `clap` takes ask for the command's request
+pub reads_taken : (words behind : List (List ℕ)) (name : CommandName) → words ≡ command_text name ∷ behind → fault_of (app_of_command name) behind ≡ []
+    → words_of words ≡ request_of name (matches_of (app_of_command name) behind)
+reads_taken words behind name are taken =
+    reads words behind name are ∙ ap (λ kinds. unless_refused kinds (request_of name (matches_of (app_of_command name) behind))) taken
+
+pub refused_with : (kinds : Kinds) (request : Result Request WordsFault) → kinds ≢ [] → unless_refused kinds request ≡ Err NotRead
+refused_with [] request some = absurd (some refl)
+refused_with (kind ∷ more) request some = refl
+
+-- words that `clap` refuses ask for nothing
+pub reads_refused : (words : List (List ℕ)) → AreRefused words → words_of words ≡ Err NotRead
+reads_refused words r =
+    reads words r.behind r.name r.are ∙ refused_with (fault_of (app_of_command r.name) r.behind) (request_of r.name (matches_of (app_of_command r.name) r.behind)) r.refused
+
+-- the words of a listing ask for it
+pub listing_words : (words : List (List ℕ)) (uncommitted : Bool) → AreListing words uncommitted → words_of words ≡ Ok (requests.List (record { uncommitted = uncommitted }))
+listing_words words uncommitted form = reads_taken words form.behind commands.List form.are form.taken ∙ ap (λ u. Ok (requests.List (record { uncommitted = u }))) form.flag
+
+-- the words of a command with pairs ask for its request
+row_request : (name : Command) (rows : List Row) → request_of (row_of name) rows ≡ request_by name (options_in (first_of name) (second_of name) rows)
+row_request encryption rows = refl
+row_request decryption rows = refl
+
+pub taken_words : (name : Command) (words : List (List ℕ)) (options : OptionsValue) → AreTaken name words options → words_of words ≡ request_by name options
+taken_words name words options form =
+    reads_taken words form.behind (row_of name) form.are form.taken ∙ row_request name (matches_of (app_of_command (row_of name)) form.behind) ∙ ap (request_by name) form.options_are
+
+pub command_words : (name : Command) (words : List (List ℕ)) (options : OptionsValue) → AreTaken name words options → words_of words ≡ request_with name options
+command_words name words options form = taken_words name words options form ∙ command_request name options
 
 -- the words of a migration ask for its request
 pub migration_words : (words : List (List ℕ)) (migration : MigrationValue) → AreMigration words migration → words_of words ≡ migrate_of migration
-migration_words words migration form = reads words (Some (migrate migration)) (form_read words (migrate migration) form)
+migration_words words migration form = reads_taken words form.behind commands.Migrate form.are form.taken ∙ ap migrate_of form.options_are
 
 -- what words are
 pub data Kind (words : List (List ℕ)) : Type 0 where
-  of_list : (uncommitted : Bool) → words ≡ codes "list" ∷ flag_words uncommitted → words_of words ≡ Ok (requests.List (record { uncommitted = uncommitted })) → Kind words
-  of_command : (command : Command) (options : OptionsValue) → AreForm command words options → words_of words ≡ request_with command options → Kind words
+  of_list : (uncommitted : Bool) → AreListing words uncommitted → words_of words ≡ Ok (requests.List (record { uncommitted = uncommitted })) → Kind words
+  of_command : (name : Command) (options : OptionsValue) → AreTaken name words options → words_of words ≡ request_with name options → Kind words
   of_migration : (migration : MigrationValue) → AreMigration words migration → words_of words ≡ migrate_of migration → Kind words
-  of_none : form_of words ≡ None → words_of words ≡ Err NotBuilt → Kind words
+  of_refused : AreRefused words → words_of words ≡ Err NotRead → Kind words
+  of_none : NameNoCommand words → words_of words ≡ Err NotRead → Kind words
 
-kind_with : (words : List (List ℕ)) (form : Option FormValue) → form_of words ≡ form → Kind words
-kind_with words None is = of_none is (reads words None is)
-kind_with words (Some (list uncommitted)) is = of_list uncommitted (form_found words (list uncommitted) is) (reads words (Some (list uncommitted)) is)
-kind_with words (Some (encrypt options)) is = let form = form_found words (encrypt options) is in of_command encryption options form (command_words encryption words options form)
-kind_with words (Some (decrypt options)) is = let form = form_found words (decrypt options) is in of_command decryption options form (command_words decryption words options form)
-kind_with words (Some (migrate migration)) is = let form = form_found words (migrate migration) is in of_migration migration form (migration_words words migration form)
+-- words that a row's command takes
+taken_kind : (words behind : List (List ℕ)) (name : CommandName) → words ≡ command_text name ∷ behind → fault_of (app_of_command name) behind ≡ [] → Kind words
+taken_kind words behind commands.List are taken =
+    let form : AreListing words (uncommitted_in (matches_of (app_of_command commands.List) behind)) = record { behind = behind; are = are; taken = taken; flag = refl } in
+    of_list (uncommitted_in (matches_of (app_of_command commands.List) behind)) form (listing_words words (uncommitted_in (matches_of (app_of_command commands.List) behind)) form)
+taken_kind words behind commands.Encrypt are taken =
+    let options = options_in (first_of encryption) (second_of encryption) (matches_of (app_of_command commands.Encrypt) behind) in
+    let form : AreTaken encryption words options = record { behind = behind; are = are; taken = taken; options_are = refl } in
+    of_command encryption options form (command_words encryption words options form)
+taken_kind words behind commands.Decrypt are taken =
+    let options = options_in (first_of decryption) (second_of decryption) (matches_of (app_of_command commands.Decrypt) behind) in
+    let form : AreTaken decryption words options = record { behind = behind; are = are; taken = taken; options_are = refl } in
+    of_command decryption options form (command_words decryption words options form)
+taken_kind words behind commands.Migrate are taken =
+    let migration = migration_in (matches_of (app_of_command commands.Migrate) behind) in
+    let form : AreMigration words migration = record { behind = behind; are = are; taken = taken; options_are = refl } in
+    of_migration migration form (migration_words words migration form)
+
+command_kind : (words behind : List (List ℕ)) (name : CommandName) (kinds : Kinds) → words ≡ command_text name ∷ behind → fault_of (app_of_command name) behind ≡ kinds → Kind words
+command_kind words behind name [] are taken = taken_kind words behind name are taken
+command_kind words behind name (kind ∷ more) are is =
+    let refused : AreRefused words = record { name = name; behind = behind; are = are; refused = λ none. some (sym is ∙ none) } in
+    of_refused refused (reads_refused words refused)
+  where
+    some : kind ∷ more ≡ [] → ⊥
+    some e = cc
+
+word_kind : (word : List ℕ) (behind : List (List ℕ)) (found : Option CommandName) → command_named word ≡ found → Kind (word ∷ behind)
+unfolding words_of
+word_kind word behind None is =
+    of_none (λ name rest are. unlike name (sym is ∙ ap command_named (first are) ∙ named_back name)) (ap (λ found. read_behind found behind) is)
+  where
+    first : {rest : List (List ℕ)} {text : List ℕ} → word ∷ behind ≡ text ∷ rest → word ≡ text
+    first are = cc
+
+    unlike : (name : CommandName) → None ≡ Some name → ⊥
+    unlike name e = cc
+word_kind word behind (Some name) is =
+    command_kind (word ∷ behind) behind name (fault_of (app_of_command name) behind) (ap (λ w. w ∷ behind) (named_is word name is)) refl
 
 -- each list of words is of one kind
 pub kind : (words : List (List ℕ)) → Kind words
-kind words = kind_with words (form_of words) refl
+unfolding words_of
+kind [] = of_none (λ name behind are. unlike are) refl
+  where
+    unlike : {word : List ℕ} {behind : List (List ℕ)} → [] ≡ word ∷ behind → ⊥
+    unlike e = cc
+kind (word ∷ behind) = word_kind word behind (command_named word) refl

@@ -1,27 +1,30 @@
--- What is found among the words, where it stands there.
+-- What is found among the words.
+use Rattle.std.specs.Prelude.{◌≡◌, ◌≢◌, ℕ, List, [], Result, Ok, Err}
 use Rattle.std.specs.Option.{option_copied}
-use Rattle.esdk_args.specs.declared.form.Options.{Options}
-use Rattle.esdk_args.specs.declared.form.Form.{Form}
-use Rattle.esdk_args.specs.declared.form.Form.TheVariants as found
-use Rattle.esdk_args.specs.declared.form.Migration.{Migration}
+use Rattle.clap.specs.Words.{fault_of, found_of, matches_of, rows_of}
+use Rattle.clap.specs.declared.error.kind.ErrorKind.{ErrorKind}
+use Rattle.clap.specs.declared.error.kind.ErrorKind.TheVariants.{OutOfMemory}
+use Rattle.clap.specs.declared.parser.matches.ArgMatches.{ArgMatches}
+use Rattle.esdk_args.specs.declared.commands.CommandName.{CommandName}
 use Rattle.esdk_args.specs.declared.pair_words.PairWord.{PairWord}
 use Rattle.esdk_args.specs.declared.pair_words.PairParts.{PairParts}
-use Rattle.esdk_args.specs.Form.{OptionsValue, MigrationValue, FormValue, list, encrypt, decrypt, migrate}
-
--- the options
-abbrev pub options_value : Options → OptionsValue
-options_value options = record { keyring = options.keyring.now; first = option_copied options.first; second = option_copied options.second; uncommitted = options.uncommitted; pairs = options.pairs.now }
-
-abbrev pub migration_value : Migration → MigrationValue
-migration_value migration = record { keyring = migration.keyring.now; retire = option_copied migration.retire }
-
--- the form
-abbrev pub form_value : Form → FormValue
-form_value (found.List uncommitted) = list uncommitted
-form_value (found.Encrypt options) = encrypt (options_value options)
-form_value (found.Decrypt options) = decrypt (options_value options)
-form_value (found.Migrate migration) = migrate (migration_value migration)
+use Rattle.esdk_args.specs.declared.request.WordsFault.{WordsFault}
+use Rattle.esdk_args.specs.declared.request.WordsFault.TheVariants.{NotRead, BadNumber, BadPair, Memory}
+use Rattle.esdk_args.specs.Commands.{app_of_command}
 
 -- the pair
 abbrev pub pair_value : PairParts → PairWord
 pair_value parts = record { key = parts.key.now; value = option_copied parts.value; required = parts.required }
+
+-- what an error of `clap` of this kind comes to
+abbrev pub refusal_of : ErrorKind → WordsFault
+refusal_of OutOfMemory = Memory
+refusal_of kind = NotRead
+
+-- `clap` takes the words behind the command and finds these matches, or refuses them; want of memory may come at any time
+abbrev pub Parses : CommandName → List (List ℕ) → Result ArgMatches WordsFault → Type 0
+Parses name words (Ok m) = (fault_of (app_of_command name) words ≡ []) × (rows_of (found_of m) ≡ matches_of (app_of_command name) words)
+Parses name words (Err NotRead) = fault_of (app_of_command name) words ≢ []
+Parses name words (Err (BadNumber option)) = ⊥
+Parses name words (Err (BadPair n)) = ⊥
+Parses name words (Err Memory) = Unit {0}

@@ -1,14 +1,19 @@
 -- What the laws of this crate say of words.
-use Rattle.std.specs.Prelude.{◌≡◌, ◌≢◌, ◌↔◌, ◌≤◌, ◌<◌, ◌+◌, ◌^◌, ℕ, List, ◌++◌, length, replicate, decimal, Ok, Err}
+use Rattle.std.specs.Prelude.{◌≡◌, ◌≢◌, ◌↔◌, ◌≤◌, ◌<◌, ◌+◌, ◌^◌, ℕ, Bool, List, ◌∷◌, ◌++◌, length, replicate, decimal, codes, IsSome, [], Ok, Err}
+use Rattle.clap.specs.Words.{fault_of, first_of, matches_of}
+use Rattle.esdk_args.specs.declared.commands.CommandName.{CommandName}
+use Rattle.esdk_args.specs.declared.commands.CommandName.TheVariants as commands
+use Rattle.esdk_args.specs.Commands.{app_of_command}
 use Rattle.esdk_args.specs.declared.options.OptionName.{OptionName}
 use Rattle.esdk_args.specs.declared.request.Request.TheVariants as requests
 use Rattle.esdk_args.specs.declared.request.ListWords.{ListWords}
 use Rattle.esdk_args.specs.declared.request.EncryptWords.{EncryptWords}
 use Rattle.esdk_args.specs.declared.request.DecryptWords.{DecryptWords}
 use Rattle.esdk_args.specs.declared.request.MigrateWords.{MigrateWords}
-use Rattle.esdk_args.specs.declared.request.WordsFault.TheVariants.{NotBuilt, BadNumber, BadPair, Memory}
-use Rattle.esdk_args.specs.Words.{words_of}
-use Rattle.esdk_args.specs.Spelling.{AsksList, AsksEncrypt, AsksDecrypt, AsksMigrate, AreNoForm, HasBadNumber, HasBadPair, Writes}
+use Rattle.esdk_args.specs.declared.request.WordsFault.TheVariants.{NotRead, BadNumber, BadPair, Memory}
+use Rattle.esdk_args.specs.Words.{MigrationValue, OptionsValue, decrypt_of, encrypt_of, migrate_of, words_of}
+use Rattle.esdk_args.specs.Plain.{AreForm, AreMigrationForm, flag_words}
+use Rattle.esdk_args.specs.Spelling.{AreNotRead, AsksList, AsksEncrypt, AsksDecrypt, AsksMigrate, HasBadNumber, HasBadPair, Writes, decryption, encryption}
 
 -- Words are read as a listing exactly where they ask for it.
 abbrev pub ReadsList : Type 0
@@ -26,9 +31,9 @@ ReadsDecrypt = (words : List (List ℕ)) (asked : DecryptWords) → (words_of wo
 abbrev pub ReadsMigrate : Type 0
 ReadsMigrate = (words : List (List ℕ)) (asked : MigrateWords) → (words_of words ≡ Ok (requests.Migrate asked)) ↔ AsksMigrate words asked
 
--- Words are not built exactly where they are of no form.
-abbrev pub BuildsNoOthers : Type 0
-BuildsNoOthers = (words : List (List ℕ)) → (words_of words ≡ Err NotBuilt) ↔ AreNoForm words
+-- Words are not read exactly where they begin with no command, or `clap` refuses those behind it.
+abbrev pub ReadsNoOthers : Type 0
+ReadsNoOthers = (words : List (List ℕ)) → (words_of words ≡ Err NotRead) ↔ AreNotRead words
 
 -- A bad number of an option is named exactly where the words have one, and it is the first.
 abbrev pub NamesBadNumbers : Type 0
@@ -38,9 +43,27 @@ NamesBadNumbers = (words : List (List ℕ)) (name : OptionName) → (words_of wo
 abbrev pub NamesBadPairs : Type 0
 NamesBadPairs = (words : List (List ℕ)) (n : ℕ) → (words_of words ≡ Err (BadPair n)) ↔ HasBadPair words n
 
+-- Words that `clap` takes behind a command with `--keyring` give it a value.
+abbrev pub GivesKeyrings : Type 0
+GivesKeyrings = (name : CommandName) (words : List (List ℕ)) → name ≢ commands.List → fault_of (app_of_command name) words ≡ []
+    → IsSome (first_of (codes "keyring") (matches_of (app_of_command name) words))
+
 -- No words mean want of memory. So each list of words is one of those above.
 abbrev pub NeverMemory : Type 0
 NeverMemory = (words : List (List ℕ)) → words_of words ≢ Err Memory
+
+-- Words in the plain form ask for what the values, the flag and the pair words that they write ask for: the numbers are read in the order of the table, then the pairs.
+abbrev pub ReadsPlainLists : Type 0
+ReadsPlainLists = (uncommitted : Bool) → words_of (codes "list" ∷ flag_words uncommitted) ≡ Ok (requests.List (record { uncommitted = uncommitted }))
+
+abbrev pub ReadsPlainEncryptions : Type 0
+ReadsPlainEncryptions = (words : List (List ℕ)) (options : OptionsValue) → AreForm encryption words options → words_of words ≡ encrypt_of options
+
+abbrev pub ReadsPlainDecryptions : Type 0
+ReadsPlainDecryptions = (words : List (List ℕ)) (options : OptionsValue) → AreForm decryption words options → words_of words ≡ decrypt_of options
+
+abbrev pub ReadsPlainMigrations : Type 0
+ReadsPlainMigrations = (words : List (List ℕ)) (migration : MigrationValue) → AreMigrationForm words migration → words_of words ≡ migrate_of migration
 
 -- A number below 2^64 in decimal, with zeros before it to at most 20 digits, writes that number.
 abbrev pub ReadsWrittenNumbers : Type 0

@@ -1,9 +1,10 @@
 pub mod Options
-pub mod Form
+pub mod Commands
 pub mod Faults
 pub mod Numbers
 pub mod PairWords
 pub mod Found
 pub mod Words
 pub mod Spelling
+pub mod Plain
 pub mod Laws

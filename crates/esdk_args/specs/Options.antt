@@ -1,4 +1,4 @@
--- The options that take a number, and the flag, which takes none.
+-- The options that take a number.
 use Rattle.std.specs.Prelude.{ℕ, List, codes}
 use Rattle.esdk_args.specs.declared.options.OptionName.{OptionName}
 use Rattle.esdk_args.specs.declared.options.OptionName.TheVariants.{Frame, MaxKeys, MaxUnit, Retire}
@@ -10,9 +10,12 @@ option_text MaxKeys = codes "--max-keys"
 option_text MaxUnit = codes "--max-unit"
 option_text Retire = codes "--retire"
 
--- the flag as it is written: messages without a commitment may be read
-abbrev pub flag_text : List ℕ
-flag_text = codes "--allow-uncommitted"
+-- its name, which stands behind two dashes
+abbrev pub option_name : OptionName → List ℕ
+option_name Frame = codes "frame"
+option_name MaxKeys = codes "max-keys"
+option_name MaxUnit = codes "max-unit"
+option_name Retire = codes "retire"
 
 -- the greatest number that it takes; the least is 1
 abbrev pub greatest : OptionName → ℕ

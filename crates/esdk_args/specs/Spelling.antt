@@ -1,4 +1,4 @@
--- The same acceptance without reading: which words ask for which request, and which have which fault.
+-- The same without reading: which words ask for which request, which have which fault, and which plain lists of words `clap` takes with which options.
 use Rattle.std.specs.Prelude.{◌≡◌, ◌≢◌, ◌≤◌, ◌⊎◌, ℕ, ◌+◌, ◌-◌, ◌^◌, min, Bool, true, false, List, [], ◌∷◌, ◌++◌, length, map, All, Option, Some, None, IsSome, IsSomeAnd, IfSome, codes}
 use Rattle.std.specs.Int.{IsInRange}
 use Rattle.esdk_args.specs.declared.options.OptionName.{OptionName}
@@ -8,15 +8,15 @@ use Rattle.esdk_args.specs.declared.request.ListWords.{ListWords}
 use Rattle.esdk_args.specs.declared.request.EncryptWords.{EncryptWords}
 use Rattle.esdk_args.specs.declared.request.DecryptWords.{DecryptWords}
 use Rattle.esdk_args.specs.declared.request.MigrateWords.{MigrateWords}
-use Rattle.esdk_args.specs.Options.{option_text, flag_text, greatest}
-use Rattle.esdk_args.specs.Form.{OptionsValue, MigrationValue}
+use Rattle.clap.specs.Words.{fault_of, matches_of}
+use Rattle.esdk_args.specs.declared.commands.CommandName.{CommandName}
+use Rattle.esdk_args.specs.declared.commands.CommandName.TheVariants as commands
+use Rattle.esdk_args.specs.Commands.{app_of_command, command_text}
+use Rattle.esdk_args.specs.Options.{greatest}
+use Rattle.esdk_args.specs.Words.{MigrationValue, OptionsValue, migration_in, options_in, uncommitted_in}
 use Rattle.esdk_args.specs.Numbers.{decimal_value}
 
 -- ---- one word
-
--- an option's value or a pair word: a word that doesn't begin with `-` (45)
-abbrev pub IsValue : List ℕ → Type 0
-IsValue word = (rest : List ℕ) → word ≢ 45 ∷ rest
 
 -- The word writes this number: 1 to 20 digits, `0` (48) to `9` (57), of this decimal value.
 pub record Writes (word : List ℕ) (n : ℕ) : Type 0 where
@@ -43,77 +43,23 @@ value_text None = []
 abbrev pub pair_text : PairWord → List ℕ
 pair_text pair = pair.key ++ colon_text pair.required ++ value_text pair.value
 
--- A word names this pair: its key isn't empty, has no `=`, and doesn't begin with `-`. A key that isn't required doesn't end in a colon, and has a value.
+-- A word names this pair: its key isn't empty and has no `=`. A key that isn't required doesn't end in a colon, and has a value.
 pub record IsPair (pair : PairWord) : Type 0 where
   pub some : pair.key ≢ []
   pub plain : All (λ b. b ≢ 61) pair.key
-  pub undashed : IsValue pair.key
   pub optional : pair.required ≡ false → IsSome pair.value × ((front : List ℕ) → pair.key ≢ front ++ 58 ∷ [])
 
--- ---- requests
-
--- these words give the option this number
-pub record GivesNumber (name : OptionName) (words : List (List ℕ)) (n : ℕ) : Type 0 where
-  pub word : List ℕ
-  pub are : words ≡ option_text name ∷ word ∷ []
-  pub writes : WritesFor name word n
-
--- nothing, or the number
-abbrev pub MayGive : OptionName → List (List ℕ) → Option ℕ → Type 0
-MayGive name words None = words ≡ []
-MayGive name words (Some n) = GivesNumber name words n
-
--- nothing for 4,096, or the frame length
-abbrev pub GivesFrame : List (List ℕ) → ℕ → Type 0
-GivesFrame words frame = ((words ≡ []) × (frame ≡ 4096)) ⊎ GivesNumber Frame words frame
-
--- nothing, or the flag
-abbrev pub flag_words : Bool → List (List ℕ)
-flag_words true = flag_text ∷ []
-flag_words false = []
-
--- the words ask for this listing
-abbrev pub AsksList : List (List ℕ) → ListWords → Type 0
-AsksList words asked = words ≡ codes "list" ∷ flag_words asked.uncommitted
-
--- The words ask for this encryption.
-pub record AsksEncrypt (words : List (List ℕ)) (asked : EncryptWords) : Type 0 where
-  pub frame_words : List (List ℕ)
-  pub max_keys_words : List (List ℕ)
-  pub are : words ≡ codes "encrypt" ∷ codes "--keyring" ∷ asked.keyring ∷ frame_words ++ max_keys_words ++ map pair_text asked.pairs
-  pub keyring : IsValue asked.keyring
-  pub frame : GivesFrame frame_words asked.frame
-  pub max_keys : MayGive MaxKeys max_keys_words asked.max_keys
-  pub pairs : All IsPair asked.pairs
-
--- The words ask for this decryption.
-pub record AsksDecrypt (words : List (List ℕ)) (asked : DecryptWords) : Type 0 where
-  pub max_keys_words : List (List ℕ)
-  pub max_unit_words : List (List ℕ)
-  pub are : words ≡ codes "decrypt" ∷ codes "--keyring" ∷ asked.keyring ∷ max_keys_words ++ max_unit_words ++ flag_words asked.uncommitted ++ map pair_text asked.pairs
-  pub keyring : IsValue asked.keyring
-  pub max_keys : MayGive MaxKeys max_keys_words asked.max_keys
-  pub max_unit : MayGive MaxUnit max_unit_words asked.max_unit
-  pub pairs : All IsPair asked.pairs
-
--- The words ask for this migration.
-pub record AsksMigrate (words : List (List ℕ)) (asked : MigrateWords) : Type 0 where
-  pub retire_words : List (List ℕ)
-  pub are : words ≡ codes "migrate" ∷ codes "--keyring" ∷ asked.keyring ∷ retire_words
-  pub keyring : IsValue asked.keyring
-  pub retire : MayGive Retire retire_words asked.retire
-
--- ---- faults
+-- ---- what `clap` takes
 
 -- A command with pairs.
 pub data Command : Type 0 where
   encryption : Command
   decryption : Command
 
--- the command as it is written
-abbrev pub command_text : Command → List ℕ
-command_text encryption = codes "encrypt"
-command_text decryption = codes "decrypt"
+-- its row of the table
+abbrev pub row_of : Command → CommandName
+row_of encryption = commands.Encrypt
+row_of decryption = commands.Decrypt
 
 -- its options that take a number, in their order
 abbrev pub first_of : Command → OptionName
@@ -124,36 +70,86 @@ abbrev pub second_of : Command → OptionName
 second_of encryption = MaxKeys
 second_of decryption = MaxUnit
 
--- whether the command has the flag
-abbrev pub has_flag : Command → Bool
-has_flag encryption = false
-has_flag decryption = true
+-- The words are `list`, and `clap` takes those behind it, with the flag or without it.
+pub record AreListing (words : List (List ℕ)) (uncommitted : Bool) : Type 0 where
+  pub behind : List (List ℕ)
+  pub are : words ≡ codes "list" ∷ behind
+  pub taken : fault_of (app_of_command commands.List) behind ≡ []
+  pub flag : uncommitted_in (matches_of (app_of_command commands.List) behind) ≡ uncommitted
 
--- the option and its value, where it has one
-abbrev pub option_words : List ℕ → Option (List ℕ) → List (List ℕ)
-option_words option (Some value) = option ∷ value ∷ []
-option_words option None = []
+-- The words are the command, and `clap` takes those behind it, with these values of its options and these pair words.
+pub record AreTaken (name : Command) (words : List (List ℕ)) (options : OptionsValue) : Type 0 where
+  pub behind : List (List ℕ)
+  pub are : words ≡ command_text (row_of name) ∷ behind
+  pub taken : fault_of (app_of_command (row_of name)) behind ≡ []
+  pub options_are : options_in (first_of name) (second_of name) (matches_of (app_of_command (row_of name)) behind) ≡ options
 
--- The words are the command with these values of its options and these pair words.
-pub record AreForm (command : Command) (words : List (List ℕ)) (options : OptionsValue) : Type 0 where
-  pub are : words ≡ command_text command ∷ codes "--keyring" ∷ options.keyring ∷ option_words (option_text (first_of command)) options.first ++ option_words (option_text (second_of command)) options.second
-      ++ flag_words options.uncommitted ++ options.pairs
-  pub keyring : IsValue options.keyring
-  pub first : IfSome options.first IsValue
-  pub second : IfSome options.second IsValue
-  pub flag : options.uncommitted ≡ true → has_flag command ≡ true
-  pub pairs : All IsValue options.pairs
-
--- The words are `migrate` with these values of its options.
+-- The words are `migrate`, and `clap` takes those behind it, with these values of its options.
 pub record AreMigration (words : List (List ℕ)) (migration : MigrationValue) : Type 0 where
-  pub are : words ≡ codes "migrate" ∷ codes "--keyring" ∷ migration.keyring ∷ option_words (option_text Retire) migration.retire
-  pub keyring : IsValue migration.keyring
-  pub retire : IfSome migration.retire IsValue
+  pub behind : List (List ℕ)
+  pub are : words ≡ codes "migrate" ∷ behind
+  pub taken : fault_of (app_of_command commands.Migrate) behind ≡ []
+  pub options_are : migration_in (matches_of (app_of_command commands.Migrate) behind) ≡ migration
 
--- the words are of no form
-abbrev pub AreNoForm : List (List ℕ) → Type 0
-AreNoForm words = ((uncommitted : Bool) → words ≢ codes "list" ∷ flag_words uncommitted) × ((command : Command) (options : OptionsValue) → ¬ (AreForm command words options))
-    × ((migration : MigrationValue) → ¬ (AreMigration words migration))
+-- The words are a command, and `clap` refuses those behind it.
+pub record AreRefused (words : List (List ℕ)) : Type 0 where
+  pub name : CommandName
+  pub behind : List (List ℕ)
+  pub are : words ≡ command_text name ∷ behind
+  pub refused : fault_of (app_of_command name) behind ≢ []
+
+-- The words begin with no command.
+abbrev pub NameNoCommand : List (List ℕ) → Type 0
+NameNoCommand words = (name : CommandName) (behind : List (List ℕ)) → words ≢ command_text name ∷ behind
+
+-- ---- requests
+
+-- no word, or one that writes this number
+abbrev pub MayGive : OptionName → Option (List ℕ) → Option ℕ → Type 0
+MayGive name word None = word ≡ None
+MayGive name word (Some n) = IsSomeAnd word (λ text. WritesFor name text n)
+
+-- no word for 4,096, or one that writes the frame length
+abbrev pub GivesFrame : Option (List ℕ) → ℕ → Type 0
+GivesFrame word frame = ((word ≡ None) × (frame ≡ 4096)) ⊎ IsSomeAnd word (λ text. WritesFor Frame text frame)
+
+-- the words ask for this listing
+abbrev pub AsksList : List (List ℕ) → ListWords → Type 0
+AsksList words asked = AreListing words asked.uncommitted
+
+-- The words ask for this encryption.
+pub record AsksEncrypt (words : List (List ℕ)) (asked : EncryptWords) : Type 0 where
+  pub options : OptionsValue
+  pub taken : AreTaken encryption words options
+  pub keyring : options.keyring ≡ asked.keyring
+  pub frame : GivesFrame options.first asked.frame
+  pub max_keys : MayGive MaxKeys options.second asked.max_keys
+  pub pairs_are : options.pairs ≡ map pair_text asked.pairs
+  pub pairs : All IsPair asked.pairs
+
+-- The words ask for this decryption.
+pub record AsksDecrypt (words : List (List ℕ)) (asked : DecryptWords) : Type 0 where
+  pub options : OptionsValue
+  pub taken : AreTaken decryption words options
+  pub keyring : options.keyring ≡ asked.keyring
+  pub max_keys : MayGive MaxKeys options.first asked.max_keys
+  pub max_unit : MayGive MaxUnit options.second asked.max_unit
+  pub flag : options.uncommitted ≡ asked.uncommitted
+  pub pairs_are : options.pairs ≡ map pair_text asked.pairs
+  pub pairs : All IsPair asked.pairs
+
+-- The words ask for this migration.
+pub record AsksMigrate (words : List (List ℕ)) (asked : MigrateWords) : Type 0 where
+  pub migration : MigrationValue
+  pub taken : AreMigration words migration
+  pub keyring : migration.keyring ≡ asked.keyring
+  pub retire : MayGive Retire migration.retire asked.retire
+
+-- ---- faults
+
+-- the words ask for nothing: they begin with no command, or `clap` refuses those behind it
+abbrev pub AreNotRead : List (List ℕ) → Type 0
+AreNotRead words = NameNoCommand words ⊎ AreRefused words
 
 -- the option has no value, or one that writes a number that it takes
 abbrev pub IsGoodNumber : OptionName → Option (List ℕ) → Type 0
@@ -167,18 +163,18 @@ IsBadNumber name value = IsSomeAnd value (λ word. (n : ℕ) → ¬ (WritesFor n
 pub record HasFirstBadNumber (words : List (List ℕ)) (name : OptionName) : Type 0 where
   pub command : Command
   pub options : OptionsValue
-  pub form : AreForm command words options
+  pub taken : AreTaken command words options
   pub first_bad : ((name ≡ first_of command) × IsBadNumber name options.first)
       ⊎ (IsGoodNumber (first_of command) options.first × (name ≡ second_of command) × IsBadNumber name options.second)
 
 -- The words are `migrate`, and its number is bad.
 pub record HasBadRetire (words : List (List ℕ)) (name : OptionName) : Type 0 where
   pub migration : MigrationValue
-  pub form : AreMigration words migration
+  pub taken : AreMigration words migration
   pub option : name ≡ Retire
   pub bad : IsBadNumber Retire migration.retire
 
--- the words are of the form, and this option is the first with a bad number
+-- `clap` takes the words, and this option is the first with a bad number
 abbrev pub HasBadNumber : List (List ℕ) → OptionName → Type 0
 HasBadNumber words name = HasFirstBadNumber words name ⊎ HasBadRetire words name
 
@@ -192,11 +188,11 @@ pub record IsFirstBadPair (words : List (List ℕ)) (n : ℕ) : Type 0 where
   pub no_pair : (pair : PairWord) → IsPair pair → bad ≢ pair_text pair
   pub number : n ≡ min (length before + 1) (2 ^ 32 - 1)
 
--- The words are of the form, no number is bad, and the n-th pair word is the first bad one.
+-- `clap` takes the words, no number is bad, and the n-th pair word is the first bad one.
 pub record HasBadPair (words : List (List ℕ)) (n : ℕ) : Type 0 where
   pub command : Command
   pub options : OptionsValue
-  pub form : AreForm command words options
+  pub taken : AreTaken command words options
   pub first : IsGoodNumber (first_of command) options.first
   pub second : IsGoodNumber (second_of command) options.second
   pub bad : IsFirstBadPair options.pairs n

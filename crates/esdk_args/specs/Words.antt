@@ -1,16 +1,80 @@
--- What the words ask for: the form first, then the numbers in their order, then the pairs.
-use Rattle.std.specs.Prelude.{◌≤◌, ℕ, List, Option, Some, None, Result, Ok, Err}
-use Rattle.esdk_args.specs.declared.options.OptionName.TheVariants.{MaxKeys, MaxUnit, Retire}
+-- What the words ask for: the first word names the command, and `clap` reads the words behind it; then the numbers in their order, then the pairs.
+use Rattle.std.specs.Prelude.{◌≤◌, ℕ, Bool, true, false, List, [], ◌∷◌, find, Option, Some, None, Result, Ok, Err, codes, option_and_then, unwrap_or}
+use Rattle.std.specs.Str.{bytes_eq}
+use Rattle.clap.specs.Words.{Kinds, Row, all_of, fault_of, first_of, matches_of}
+use Rattle.clap.specs.declared.parser.matches.ValueSource.{ValueSource}
+use Rattle.clap.specs.declared.parser.matches.ValueSource.TheVariants.{CommandLine}
+use Rattle.esdk_args.specs.declared.commands.CommandName.{CommandName}
+use Rattle.esdk_args.specs.declared.commands.CommandName.TheVariants as commands
+use Rattle.esdk_args.specs.declared.options.OptionName.{OptionName}
+use Rattle.esdk_args.specs.declared.options.OptionName.TheVariants.{Frame, MaxKeys, MaxUnit, Retire}
 use Rattle.esdk_args.specs.declared.request.Request.{Request}
 use Rattle.esdk_args.specs.declared.request.Request.TheVariants as requests
 use Rattle.esdk_args.specs.declared.request.WordsFault.{WordsFault}
-use Rattle.esdk_args.specs.declared.request.WordsFault.TheVariants.{NotBuilt}
-use Rattle.esdk_args.specs.Form.{OptionsValue, MigrationValue, FormValue, list, encrypt, decrypt, migrate, form_of}
+use Rattle.esdk_args.specs.declared.request.WordsFault.TheVariants.{NotRead}
+use Rattle.esdk_args.specs.Commands.{app_of_command, command_named}
 use Rattle.esdk_args.specs.Faults.{◌>>=◌}
 use Rattle.esdk_args.specs.Numbers.{frame_given, number_given}
+use Rattle.esdk_args.specs.Options.{option_name}
 use Rattle.esdk_args.specs.PairWords.{pairs_of}
 
--- the request of a command's options
+-- What a command with pairs is given: the value of `--keyring`, the words of its two numbers where their options are given, whether the flag is given, and
+-- the pair words.
+pub record OptionsValue : Type 0 where
+  pub keyring : List ℕ
+  pub first : Option (List ℕ)
+  pub second : Option (List ℕ)
+  pub uncommitted : Bool
+  pub pairs : List (List ℕ)
+
+-- What `migrate` is given: the value of `--keyring`, and the word of its number where its option is given.
+pub record MigrationValue : Type 0 where
+  pub keyring : List ℕ
+  pub retire : Option (List ℕ)
+
+-- ---- what `clap` found
+
+-- the value of `--keyring`; where a command has it, `clap` takes no words without one (law `keyrings_are_given`)
+abbrev pub keyring_in : List Row → List ℕ
+keyring_in rows = unwrap_or (first_of (codes "keyring") rows) []
+
+-- the word of the option's number, where the option is given
+abbrev pub number_in : OptionName → List Row → Option (List ℕ)
+number_in name rows = first_of (option_name name) rows
+
+-- the words gave it, and not a default
+abbrev pub is_from_words : Option ValueSource → Bool
+is_from_words (Some CommandLine) = true
+is_from_words _ = false
+
+-- where the value of this name came from
+abbrev pub source_in : List ℕ → List Row → Option ValueSource
+source_in name rows = option_and_then (λ r. r.source) (find (λ r. bytes_eq r.id name) rows)
+
+-- whether the flag is given
+abbrev pub uncommitted_in : List Row → Bool
+uncommitted_in rows = is_from_words (source_in (codes "allow-uncommitted") rows)
+
+-- the pair words
+abbrev pub pairs_in : List Row → List (List ℕ)
+pairs_in rows = unwrap_or (all_of (codes "pairs") rows) []
+
+-- what a command with these two numbers is given
+abbrev pub options_in : OptionName → OptionName → List Row → OptionsValue
+options_in first second rows = record {
+  keyring = keyring_in rows;
+  first = number_in first rows;
+  second = number_in second rows;
+  uncommitted = uncommitted_in rows;
+  pairs = pairs_in rows;
+}
+
+-- what `migrate` is given
+abbrev pub migration_in : List Row → MigrationValue
+migration_in rows = record { keyring = keyring_in rows; retire = number_in Retire rows }
+
+-- ---- the request
+
 abbrev pub encrypt_of : OptionsValue → Result Request WordsFault
 encrypt_of options = do
   frame ← frame_given options.first
@@ -23,24 +87,41 @@ decrypt_of options = do
   max_keys ← number_given MaxKeys options.first
   max_unit ← number_given MaxUnit options.second
   pairs ← pairs_of options.pairs
-  Ok (requests.Decrypt (record { keyring = options.keyring; max_keys = max_keys; max_unit = max_unit; uncommitted = options.uncommitted; pairs = pairs }))
+  Ok (requests.Decrypt (record {
+    keyring = options.keyring;
+    max_keys = max_keys;
+    max_unit = max_unit;
+    uncommitted = options.uncommitted;
+    pairs = pairs;
+  }))
 
 abbrev pub migrate_of : MigrationValue → Result Request WordsFault
 migrate_of migration = do
   retire ← number_given Retire migration.retire
   Ok (requests.Migrate (record { keyring = migration.keyring; retire = retire }))
 
--- the request of a form
-abbrev pub request_of : Option FormValue → Result Request WordsFault
-request_of None = Err NotBuilt
-request_of (Some (list uncommitted)) = Ok (requests.List (record { uncommitted = uncommitted }))
-request_of (Some (encrypt options)) = encrypt_of options
-request_of (Some (decrypt options)) = decrypt_of options
-request_of (Some (migrate migration)) = migrate_of migration
+-- the request of a command, by what `clap` found
+abbrev pub request_of : CommandName → List Row → Result Request WordsFault
+request_of commands.List rows = Ok (requests.List (record { uncommitted = uncommitted_in rows }))
+request_of commands.Encrypt rows = encrypt_of (options_in Frame MaxKeys rows)
+request_of commands.Decrypt rows = decrypt_of (options_in MaxKeys MaxUnit rows)
+request_of commands.Migrate rows = migrate_of (migration_in rows)
+
+-- where `clap` refuses the words, they ask for nothing
+abbrev pub unless_refused : Kinds → Result Request WordsFault → Result Request WordsFault
+unless_refused [] request = request
+unless_refused (kind ∷ more) request = Err NotRead
+
+-- what the words behind a command ask for
+abbrev pub read_behind : Option CommandName → List (List ℕ) → Result Request WordsFault
+read_behind None words = Err NotRead
+read_behind (Some name) words =
+    unless_refused (fault_of (app_of_command name) words) (request_of name (matches_of (app_of_command name) words))
 
 -- what the words ask for
 unfoldable pub words_of : List (List ℕ) → Result Request WordsFault
-words_of words = request_of (form_of words)
+words_of [] = Err NotRead
+words_of (word ∷ behind) = read_behind (command_named word) behind
 
 -- A frame length is at least 1.
 abbrev pub HasFrame : Request → Type 0

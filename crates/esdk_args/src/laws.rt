@@ -1,6 +1,6 @@
 //! Laws about words. A law is a function that does nothing: its contract is what is proved.
 
-ghost use Rattle.esdk_args.specs.Laws.{ReadsList, ReadsEncrypt, ReadsDecrypt, ReadsMigrate, BuildsNoOthers, NamesBadNumbers, NamesBadPairs, NeverMemory, ReadsWrittenNumbers};
+ghost use Rattle.esdk_args.specs.Laws.{ReadsList, ReadsEncrypt, ReadsDecrypt, ReadsMigrate, ReadsNoOthers, NamesBadNumbers, NamesBadPairs, NeverMemory, GivesKeyrings, ReadsPlainLists, ReadsPlainEncryptions, ReadsPlainDecryptions, ReadsPlainMigrations, ReadsWrittenNumbers};
 
 /// Which words ask for which request.
 pub fn requests_are_read()
@@ -10,10 +10,16 @@ pub fn requests_are_read()
     ensures migrate { ReadsMigrate }
 {}
 
-/// Which words are not built: those of no form. Words of a form ask for a request, have a bad number, or have a bad pair word.
-pub fn other_words_are_not_built()
-    ensures others { BuildsNoOthers }
+/// Which words aren't read: those that begin with no command, and those that `clap` refuses. Others ask for a request, have a bad number, or have a bad pair
+/// word.
+pub fn other_words_are_not_read()
+    ensures others { ReadsNoOthers }
     ensures memory { NeverMemory }
+{}
+
+/// `--keyring` is required: words that `clap` takes behind `encrypt`, `decrypt` and `migrate` give it a value.
+pub fn keyrings_are_given()
+    ensures { GivesKeyrings }
 {}
 
 /// Which words have a bad number, and of which option: the first.
@@ -24,6 +30,15 @@ pub fn bad_numbers_are_named()
 /// Which words have a bad pair word, and at which number: the first.
 pub fn bad_pairs_are_named()
     ensures { NamesBadPairs }
+{}
+
+/// What words in the plain form ask for: a command, `--keyring` with a value and each option with a value as two words in the order of the table, then the flag,
+/// then the pair words, where no value and no pair word begins with `-`.
+pub fn plain_words_are_read()
+    ensures list { ReadsPlainLists }
+    ensures encrypt { ReadsPlainEncryptions }
+    ensures decrypt { ReadsPlainDecryptions }
+    ensures migrate { ReadsPlainMigrations }
 {}
 
 /// A number that is written in decimal is read back, also with zeros before it.

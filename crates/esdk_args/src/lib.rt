@@ -1,5 +1,4 @@
-//! The words of the command line: what they ask for. The words are read in one narrow form: the command, then its options in a fixed order, each at most
-//! once, and then, where the command has them, pair words. An option is two words, its name and its value, but the flag is one.
+//! The words of the command line: what they ask for. The first word names a command, and `clap` reads the words behind it.
 //!
 //! ```text
 //! list [--allow-uncommitted]
@@ -10,20 +9,22 @@
 //!
 //! A pair word is `KEY=VALUE`, `KEY:=VALUE` where the key is required, or `KEY:` where it is required and no pair is given.
 //!
-//! `specs/Words.antt` says what words ask for, `specs/PairWords.antt` what a pair word says, `specs/Spelling.antt` the same without reading.
+//! `specs/Commands.antt` has the table of commands, `specs/Words.antt` says what words ask for, `specs/PairWords.antt` what a pair word says. `specs/Spelling.antt`
+//! says the same without reading the numbers and the pairs, `specs/Plain.antt` has a plain form of the words, which is read without a word of `clap`.
 #![tactic(auto)]
 
-mod form;
+mod commands;
 mod laws;
 mod numbers;
 mod options;
 mod pair_words;
+mod parse;
 mod request;
 mod words;
 
 pub use laws::{
-    bad_numbers_are_named, bad_pairs_are_named, other_words_are_not_built, requests_are_read,
-    written_numbers_are_read,
+    bad_numbers_are_named, bad_pairs_are_named, keyrings_are_given, other_words_are_not_read,
+    plain_words_are_read, requests_are_read, written_numbers_are_read,
 };
 pub use options::{OptionName, option_text};
 pub use pair_words::{PairWord, PairWords};

@@ -10,7 +10,6 @@ ghost use Rattle.esdk_args.specs.Numbers.{is_numeral, number_of, number_given, f
 
 use crate::options::{OptionName, greatest};
 use crate::request::WordsFault;
-use esdk_fields::Text;
 
 /// The most digits that a number may have.
 const MOST_DIGITS: usize = 20;
@@ -19,42 +18,42 @@ const MOST_DIGITS: usize = 20;
 const DEFAULT_FRAME: u32 = 4096;
 
 /// The frame length, given by this word or by none.
-pub(crate) fn frame_given(word: Option<&Text>) -> Result<u32, WordsFault>
+pub(crate) fn frame_given(word: Option<&str>) -> Result<u32, WordsFault>
     ensures read { result ≡ frame_given (option_copied word.entry) }
     ensures least { IfOk result (λ frame. 1 ≤ frame) }
 {
     match word {
-        Some(word) => Ok(number_of(OptionName::Frame, word.as_str())? as u32),
+        Some(word) => Ok(number_of(OptionName::Frame, word)? as u32),
         None => Ok(DEFAULT_FRAME),
     }
 }
 
 /// The greatest number of encrypted data keys, where a word gives one.
-pub(crate) fn max_keys_given(word: Option<&Text>) -> Result<Option<u16>, WordsFault>
+pub(crate) fn max_keys_given(word: Option<&str>) -> Result<Option<u16>, WordsFault>
     ensures { result ≡ number_given MaxKeys (option_copied word.entry) }
 {
     match word {
-        Some(word) => Ok(Some(number_of(OptionName::MaxKeys, word.as_str())? as u16)),
+        Some(word) => Ok(Some(number_of(OptionName::MaxKeys, word)? as u16)),
         None => Ok(None),
     }
 }
 
 /// The greatest length of a frame or a single block, where a word gives one.
-pub(crate) fn max_unit_given(word: Option<&Text>) -> Result<Option<u64>, WordsFault>
+pub(crate) fn max_unit_given(word: Option<&str>) -> Result<Option<u64>, WordsFault>
     ensures { result ≡ number_given MaxUnit (option_copied word.entry) }
 {
     match word {
-        Some(word) => Ok(Some(number_of(OptionName::MaxUnit, word.as_str())?)),
+        Some(word) => Ok(Some(number_of(OptionName::MaxUnit, word)?)),
         None => Ok(None),
     }
 }
 
 /// The number of the node that is to be retired, where a word gives one.
-pub(crate) fn retire_given(word: Option<&Text>) -> Result<Option<u32>, WordsFault>
+pub(crate) fn retire_given(word: Option<&str>) -> Result<Option<u32>, WordsFault>
     ensures { result ≡ number_given Retire (option_copied word.entry) }
 {
     match word {
-        Some(word) => Ok(Some(number_of(OptionName::Retire, word.as_str())? as u32)),
+        Some(word) => Ok(Some(number_of(OptionName::Retire, word)? as u32)),
         None => Ok(None),
     }
 }

@@ -1,10 +1,7 @@
-//! The options that take a number, and the flag, which takes none.
+//! The options that take a number.
 
 ghost use Rattle.std.specs.Prelude.{◌≡◌};
-ghost use Rattle.esdk_args.specs.Options.{option_text, greatest};
-
-/// The flag of `list` and `decrypt`: messages without a commitment may be read.
-pub(crate) const FLAG: &str = "--allow-uncommitted";
+ghost use Rattle.esdk_args.specs.Options.{option_name, option_text, greatest};
 
 /// An option that takes a number.
 #[derive(Debug, Clone, Copy, PartialEq, Eq)]
@@ -28,6 +25,18 @@ pub fn option_text(name: OptionName) -> &'static str
         OptionName::MaxKeys => "--max-keys",
         OptionName::MaxUnit => "--max-unit",
         OptionName::Retire => "--retire",
+    }
+}
+
+/// The option's name, which stands behind two dashes.
+pub(crate) fn option_name<'a>(name: OptionName) -> &'a str
+    ensures { result.now ≡ option_name name }
+{
+    match name {
+        OptionName::Frame => "frame",
+        OptionName::MaxKeys => "max-keys",
+        OptionName::MaxUnit => "max-unit",
+        OptionName::Retire => "retire",
     }
 }
 

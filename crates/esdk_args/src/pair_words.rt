@@ -1,6 +1,6 @@
 //! Pair words: keys, the values that they are given, and the keys that are required.
 
-ghost use Rattle.std.specs.Prelude.{◌≡◌, IfOk};
+ghost use Rattle.std.specs.Prelude.{◌≡◌, IfOk, map};
 ghost use Rattle.std.specs.Option.{option_map};
 ghost use Rattle.std.specs.Io.BufRead.{ends_with_byte, strip_last};
 ghost use Rattle.esdk_args.specs.Faults.{Answers};
@@ -57,12 +57,12 @@ struct PairParts<'a> {
 
 /// What these pair words say. `BadPair` with the number of the first word that has neither form or whose key is empty: they are counted from 1, and the count
 /// stands still at 4,294,967,295. `Memory` where memory runs out.
-pub(crate) fn pairs_of(alloc: Global, words: &[Text]) -> Result<PairWords, WordsFault>
-    ensures { Answers result (pairs_of words.now) }
+pub(crate) fn pairs_of(alloc: Global, words: &[&str]) -> Result<PairWords, WordsFault>
+    ensures { Answers result (pairs_of (map (λ w. w.now) words.now)) }
 {
     let mut pairs = Vec::new(alloc);
     for (before, word) in words.iter().enumerate() {
-        match pair_of(word.as_str()) {
+        match pair_of(word) {
             Some(parts) => pairs.push(owned(alloc, parts)?)?,
             None => return Err(WordsFault::BadPair(number_after(before))),
         }

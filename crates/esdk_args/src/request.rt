@@ -67,12 +67,12 @@ pub struct MigrateWords {
 /// Why the words ask for nothing.
 #[derive(Debug, Drop)]
 pub enum WordsFault {
-    /// The words aren't of the form, or name no command.
-    NotBuilt,
-    /// The words are of the form, and this option is the first whose word isn't 1 to 20 digits that write a number of its range.
+    /// There is no word, the first word names no command, or `clap` refuses the words behind it.
+    NotRead,
+    /// `clap` takes the words, and this option is the first whose word isn't 1 to 20 digits that write a number of its range.
     BadNumber(OptionName),
-    /// The words are of the form, the numbers are good, and the pair word of this number is the first that has neither form or whose key is empty. Pair words
-    /// are counted from 1, and the count stands still at 4,294,967,295.
+    /// `clap` takes the words, the numbers are good, and the pair word of this number is the first that has neither form or whose key is empty. Pair words are
+    /// counted from 1, and the count stands still at 4,294,967,295.
     BadPair(u32),
     /// Memory ran out.
     Memory,
@@ -81,7 +81,7 @@ pub enum WordsFault {
 impl fmt::Display for WordsFault {
     fn fmt<W: fmt::Write>(&self, f: &mut fmt::Formatter<W>) -> fmt::Result {
         match self {
-            WordsFault::NotBuilt => f.write_str("the words are those of no command"),
+            WordsFault::NotRead => f.write_str("the words are those of no command"),
             WordsFault::BadNumber(option) => {
                 write!(f, "{} has no number of its range", option_text(*option))
             }

@@ -1,14 +1,19 @@
 //! Reading the words.
 
-ghost use Rattle.std.specs.Prelude.{IfOk};
+ghost use Rattle.std.specs.Prelude.{IfOk, Some, map};
+ghost use Rattle.clap.specs.Words.{found_of, rows_of};
+ghost use Rattle.esdk_args.specs.declared.options.OptionName.TheVariants.{Frame, MaxKeys, MaxUnit};
 ghost use Rattle.esdk_args.specs.Faults.{Answers};
-ghost use Rattle.esdk_args.specs.Found.{migration_value, options_value};
-ghost use Rattle.esdk_args.specs.Words.{words_of, encrypt_of, decrypt_of, migrate_of, HasFrame};
+ghost use Rattle.esdk_args.specs.Words.{words_of, read_behind, request_of, encrypt_of, decrypt_of, migrate_of, migration_in, options_in, pairs_in, HasFrame};
+ghost use Rattle.esdk_args.specs.PairWords.{pairs_of};
 
-use crate::form::{Form, Migration, Options, form_of};
+use crate::commands::{CommandName, PAIRS, command_named};
 use crate::numbers::{frame_given, max_keys_given, max_unit_given, retire_given};
-use crate::pair_words::pairs_of;
+use crate::options::OptionName;
+use crate::pair_words::{PairWords, pairs_of};
+use crate::parse::{borrowed, is_uncommitted, keyring_of, number_word, parse};
 use crate::request::{DecryptWords, EncryptWords, ListWords, MigrateWords, Request, WordsFault};
+use clap::ArgMatches;
 use esdk_fields::Text;
 use std::alloc::Global;
 
@@ -21,32 +26,67 @@ use std::alloc::Global;
 /// migrate --keyring NAME [--retire N]
 /// ```
 ///
-/// `NotBuilt` where the words are of none of these forms; no NAME, N and PAIR starts with `-`. Else `BadNumber` with the first option whose N isn't 1 to 20
-/// digits that write a number of its range. Else `BadPair` with the number of the first PAIR that is none of `KEY=VALUE`, `KEY:=VALUE` and `KEY:`, where KEY
-/// isn't empty and has no `=`; they are counted from 1. `Memory` where memory runs out.
+/// The first word names the command, and the words behind it are read by `clap`, each command with just the options of its line: in any order, each at most
+/// once, before, between or behind the pairs; an option's value as a word of its own, which doesn't start with `-` unless it is `-` alone, or as
+/// `--option=value`. A PAIR that starts with `-` stands behind the word `--`, and behind that word all are pairs.
+///
+/// `NotRead` where there is no word, the first names no command, or `clap` refuses the others. Else `BadNumber` with the first option, as they are written
+/// above, whose N isn't 1 to 20 digits that write a number of its range. Else `BadPair` with the number of the first PAIR that is none of `KEY=VALUE`,
+/// `KEY:=VALUE` and `KEY:`, where KEY isn't empty and has no `=`; they are counted from 1. `Memory` where memory runs out.
 #[tactic(auto, unfolding(crate::specs::Words::words_of))]
 pub fn read_words(alloc: Global, words: &[Text]) -> Result<Request, WordsFault>
     ensures read { Answers result (words_of words.now) }
     ensures frame { IfOk result HasFrame }
 {
-    match form_of(words) {
-        None => Err(WordsFault::NotBuilt),
-        Some(Form::List(uncommitted)) => Ok(Request::List(ListWords { uncommitted })),
-        Some(Form::Encrypt(options)) => encrypt_words(alloc, options),
-        Some(Form::Decrypt(options)) => decrypt_words(alloc, options),
-        Some(Form::Migrate(migration)) => migrate_words(alloc, migration),
+    let Some((word, behind)) = words.split_first() else {
+        return Err(WordsFault::NotRead);
+    };
+    let Some(name) = command_named(word.as_str()) else {
+        return Err(WordsFault::NotRead);
+    };
+    let behind = borrowed(alloc, behind)?;
+    read_behind(alloc, name, &behind)
+}
+
+/// What the words behind the command ask for. `NotRead` where `clap` refuses them; else as `read_words` has them.
+fn read_behind(alloc: Global, name: CommandName, words: &[&str]) -> Result<Request, WordsFault>
+    ensures read { Answers result (read_behind (Some name) (map (λ w. w.now) words.now)) }
+    ensures frame { IfOk result HasFrame }
+{
+    match parse(alloc, name, words) {
+        Ok(matches) => request(alloc, name, &matches),
+        Err(fault) => Err(fault),
     }
 }
 
-/// The encryption that these options ask for.
-fn encrypt_words(alloc: Global, options: Options<'_>) -> Result<Request, WordsFault>
-    ensures read { Answers result (encrypt_of (options_value options.entry)) }
+/// The request of the command, by what `clap` found.
+fn request(
+    alloc: Global,
+    name: CommandName,
+    matches: &ArgMatches<'_>,
+) -> Result<Request, WordsFault>
+    ensures read { Answers result (request_of name (rows_of (found_of matches.now))) }
     ensures frame { IfOk result HasFrame }
 {
-    let frame = frame_given(options.first)?;
-    let max_keys = max_keys_given(options.second)?;
-    let pairs = pairs_of(alloc, options.pairs)?;
-    let keyring = Text::new(alloc, options.keyring.as_str())?;
+    match name {
+        CommandName::List => Ok(Request::List(ListWords {
+            uncommitted: is_uncommitted(matches),
+        })),
+        CommandName::Encrypt => encrypt_words(alloc, matches),
+        CommandName::Decrypt => decrypt_words(alloc, matches),
+        CommandName::Migrate => migrate_words(alloc, matches),
+    }
+}
+
+/// The encryption that the words behind `encrypt` ask for.
+fn encrypt_words(alloc: Global, matches: &ArgMatches<'_>) -> Result<Request, WordsFault>
+    ensures read { Answers result (encrypt_of (options_in Frame MaxKeys (rows_of (found_of matches.now)))) }
+    ensures frame { IfOk result HasFrame }
+{
+    let frame = frame_given(number_word(matches, OptionName::Frame))?;
+    let max_keys = max_keys_given(number_word(matches, OptionName::MaxKeys))?;
+    let pairs = pairs_given(alloc, matches)?;
+    let keyring = Text::new(alloc, keyring_of(matches))?;
     Ok(Request::Encrypt(EncryptWords {
         keyring,
         frame,
@@ -55,30 +95,40 @@ fn encrypt_words(alloc: Global, options: Options<'_>) -> Result<Request, WordsFa
     }))
 }
 
-/// The decryption that these options ask for.
-fn decrypt_words(alloc: Global, options: Options<'_>) -> Result<Request, WordsFault>
-    ensures read { Answers result (decrypt_of (options_value options.entry)) }
+/// The decryption that the words behind `decrypt` ask for.
+fn decrypt_words(alloc: Global, matches: &ArgMatches<'_>) -> Result<Request, WordsFault>
+    ensures read { Answers result (decrypt_of (options_in MaxKeys MaxUnit (rows_of (found_of matches.now)))) }
     ensures frame { IfOk result HasFrame }
 {
-    let max_keys = max_keys_given(options.first)?;
-    let max_unit = max_unit_given(options.second)?;
-    let pairs = pairs_of(alloc, options.pairs)?;
-    let keyring = Text::new(alloc, options.keyring.as_str())?;
+    let max_keys = max_keys_given(number_word(matches, OptionName::MaxKeys))?;
+    let max_unit = max_unit_given(number_word(matches, OptionName::MaxUnit))?;
+    let pairs = pairs_given(alloc, matches)?;
+    let keyring = Text::new(alloc, keyring_of(matches))?;
     Ok(Request::Decrypt(DecryptWords {
         keyring,
         max_keys,
         max_unit,
-        uncommitted: options.uncommitted,
+        uncommitted: is_uncommitted(matches),
         pairs,
     }))
 }
 
-/// The migration that these options ask for.
-fn migrate_words(alloc: Global, migration: Migration<'_>) -> Result<Request, WordsFault>
-    ensures read { Answers result (migrate_of (migration_value migration.entry)) }
+/// The migration that the words behind `migrate` ask for.
+fn migrate_words(alloc: Global, matches: &ArgMatches<'_>) -> Result<Request, WordsFault>
+    ensures read { Answers result (migrate_of (migration_in (rows_of (found_of matches.now)))) }
     ensures frame { IfOk result HasFrame }
 {
-    let retire = retire_given(migration.retire)?;
-    let keyring = Text::new(alloc, migration.keyring.as_str())?;
+    let retire = retire_given(number_word(matches, OptionName::Retire))?;
+    let keyring = Text::new(alloc, keyring_of(matches))?;
     Ok(Request::Migrate(MigrateWords { keyring, retire }))
+}
+
+/// What the pair words say. `BadPair` and `Memory` as `pairs_of` has them.
+fn pairs_given(alloc: Global, matches: &ArgMatches<'_>) -> Result<PairWords, WordsFault>
+    ensures { Answers result (pairs_of (pairs_in (rows_of (found_of matches.now)))) }
+{
+    match matches.get_strs(PAIRS) {
+        Some(words) => pairs_of(alloc, words),
+        None => pairs_of(alloc, &[]),
+    }
 }

@@ -192,7 +192,7 @@ going_refused uncommitted first now new taken piece reader grown (failures.Fault
       });
       told = fault_told uncommitted first.left new.left bytes fault feeds.0 all.consumed feeds.1;
     }
-going_refused uncommitted first now new taken piece reader grown failures.NotBuilt going came feeds = absurd feeds
+going_refused uncommitted first now new taken piece reader grown failures.NotRead going came feeds = absurd feeds
 going_refused uncommitted first now new taken piece reader grown (failures.BadNumber name) going came feeds = absurd feeds
 going_refused uncommitted first now new taken piece reader grown (failures.BadPair number) going came feeds = absurd feeds
 going_refused uncommitted first now new taken piece reader grown (failures.File refusal) going came feeds = absurd feeds

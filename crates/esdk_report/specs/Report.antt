@@ -13,7 +13,7 @@ use Rattle.esdk_report.specs.ContextLine.{context_json}
 
 -- the line of a failure, without `esdk: ` and without its line feed
 abbrev pub line_of : Failure → List ℕ
-line_of failures.NotBuilt = codes "words NotBuilt"
+line_of failures.NotRead = codes "words NotRead"
 line_of (failures.BadNumber name) = codes "words BadNumber " ++ option_text name
 line_of (failures.BadPair number) = codes "words BadPair " ++ decimal number
 line_of (failures.Fault fault) = fault_line fault
@@ -24,7 +24,7 @@ line_of failures.Memory = codes "Memory"
 
 -- the exit status of a failure
 abbrev pub code_of : Failure → ℕ
-code_of failures.NotBuilt = 2
+code_of failures.NotRead = 2
 code_of (failures.BadNumber name) = 2
 code_of (failures.BadPair number) = 2
 code_of (failures.Fault fault) = 1

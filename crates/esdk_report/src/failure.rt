@@ -11,8 +11,8 @@ use std::fmt;
 /// Why a run ends without its result.
 #[derive(Drop)]
 pub enum Failure {
-    /// The words aren't of the form of a command.
-    NotBuilt,
+    /// The words name no command, or the command doesn't take the others.
+    NotRead,
     /// The number of this option isn't one that it takes.
     BadNumber(OptionName),
     /// The pair word of this number, counted from 1, is none.
@@ -32,7 +32,7 @@ pub enum Failure {
 impl fmt::Display for Failure {
     fn fmt<W: fmt::Write>(&self, f: &mut fmt::Formatter<W>) -> fmt::Result {
         match self {
-            Failure::NotBuilt => f.write_str("words NotBuilt"),
+            Failure::NotRead => f.write_str("words NotRead"),
             Failure::BadNumber(option) => write!(f, "words BadNumber {}", option_text(*option)),
             Failure::BadPair(number) => write!(f, "words BadPair {number}"),
             Failure::Fault(fault) => fmt::Display::fmt(fault, f),

@@ -23,7 +23,7 @@ pub fn report_failure<R: Sink>(alloc: Global, failure: &Failure, report: &mut R)
     ensures { Reports failure.now result.code (R.state report.old) (R.state report.new) }
 {
     match failure {
-        Failure::NotBuilt => report_not_built(report),
+        Failure::NotRead => report_not_read(report),
         Failure::BadNumber(name) => report_number(*name, report),
         Failure::BadPair(number) => report_pair(alloc, *number, report),
         Failure::Fault(fault) => report_fault(alloc, fault, report),
@@ -34,12 +34,12 @@ pub fn report_failure<R: Sink>(alloc: Global, failure: &Failure, report: &mut R)
     }
 }
 
-/// Puts the line of words that aren't those of a command that is built.
+/// Puts the line of words that name no command, or that their command does not take.
 #[tactic(auto, unfolding(crate::specs::Lines::printed_line))]
-fn report_not_built<R: Sink>(report: &mut R) -> Status
-    ensures { Answers failures.NotBuilt result.code (R.state report.old) (R.state report.new) }
+fn report_not_read<R: Sink>(report: &mut R) -> Status
+    ensures { Answers failures.NotRead result.code (R.state report.old) (R.state report.new) }
 {
-    put_line(b"esdk: words NotBuilt\n", report);
+    put_line(b"esdk: words NotRead\n", report);
     Status::WORDS
 }
 

@@ -12,7 +12,7 @@ impl Status {
     pub const DONE: Status = Status { code: 0 };
     /// The message has a fault.
     pub const FAULT: Status = Status { code: 1 };
-    /// The words aren't those of a command that is built, or a number or a pair among them is refused.
+    /// The words aren't taken by a command, or a number or a pair among them is refused.
     pub const WORDS: Status = Status { code: 2 };
     /// The keyring file is refused.
     pub const FILE: Status = Status { code: 3 };

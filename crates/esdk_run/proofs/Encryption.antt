@@ -60,7 +60,7 @@ record HadTree (trees : Trees) (asked : EncryptWords) (before after : Objects) (
 failed_with : (trees : Trees) (asked : EncryptWords) (before after : Objects) (entropy spent : EntropyState) (untouched unread undrawn : Type 0) (code : ℕ) (report reported : SinkState)
     (left : KeyringMeaning) (failure : Failure) → trees.kept ≡ Some left → EncryptFails trees asked before after entropy spent untouched unread undrawn failure
     → Reports failure code report reported → HadTree trees asked before after entropy spent untouched code report reported
-failed_with trees asked before after entropy spent untouched unread undrawn code report reported left failures.NotBuilt kept fails said = absurd fails
+failed_with trees asked before after entropy spent untouched unread undrawn code report reported left failures.NotRead kept fails said = absurd fails
 failed_with trees asked before after entropy spent untouched unread undrawn code report reported left (failures.BadNumber option) kept fails said = absurd fails
 failed_with trees asked before after entropy spent untouched unread undrawn code report reported left (failures.BadPair number) kept fails said = absurd fails
 failed_with trees asked before after entropy spent untouched unread undrawn code report reported left (failures.Fault fault) kept fails said = absurd fails
@@ -96,7 +96,7 @@ fails_back : (trees : Trees) (asked : EncryptWords) (before after : Objects) (en
     (failure : Failure) (context : List KeyValue) (tree : KeyringMeaning) → context_in asked.pairs ≡ Ok context → HoldsTree trees before.shelf.files asked.keyring tree
     → Stayed before.shelf.faults after.shelf.faults → EncryptFails trees asked before after entropy spent untouched unread undrawn failure → Reports failure code report reported
     → (code ≡ 5) ⊎ GivesTree trees tree
-fails_back trees asked before after entropy spent untouched unread undrawn code report reported failures.NotBuilt context tree is holds stayed fails said = absurd fails
+fails_back trees asked before after entropy spent untouched unread undrawn code report reported failures.NotRead context tree is holds stayed fails said = absurd fails
 fails_back trees asked before after entropy spent untouched unread undrawn code report reported (failures.BadNumber option) context tree is holds stayed fails said = absurd fails
 fails_back trees asked before after entropy spent untouched unread undrawn code report reported (failures.BadPair number) context tree is holds stayed fails said = absurd fails
 fails_back trees asked before after entropy spent untouched unread undrawn code report reported (failures.Fault fault) context tree is holds stayed fails said = absurd fails

@@ -34,7 +34,7 @@ fails_held : (asked : MigrateWords) (old new : ShelfState) (before after : SinkS
     → Holds old.files asked.keyring bytes → length bytes ≤ most_file → value_asked asked bytes ≡ Ok value
     → Stayed old.faults new.faults → Stayed before.faults after.faults
     → MigrateFails asked old new before after unwritten failure → Reports failure code report reported → IsDoneOrMemory code
-fails_held asked old new before after unwritten code report reported bytes value failures.NotBuilt holds few is reading writing fails said = absurd fails.0
+fails_held asked old new before after unwritten code report reported bytes value failures.NotRead holds few is reading writing fails said = absurd fails.0
 fails_held asked old new before after unwritten code report reported bytes value (failures.BadNumber name) holds few is reading writing fails said = absurd fails.0
 fails_held asked old new before after unwritten code report reported bytes value (failures.BadPair number) holds few is reading writing fails said = absurd fails.0
 fails_held asked old new before after unwritten code report reported bytes value (failures.Fault fault) holds few is reading writing fails said = absurd fails.0

@@ -13,7 +13,7 @@ memory_status failure code old new is said = (subst (λ (f : Failure). Reports f
 
 -- no failure is done
 pub not_done : (failure : Failure) (code : ℕ) (old new : SinkState) → Reports failure code old new → code ≡ 0 → ⊥
-not_done failures.NotBuilt code old new said done = omega (arith, said.status, done)
+not_done failures.NotRead code old new said done = omega (arith, said.status, done)
 not_done (failures.BadNumber name) code old new said done = omega (arith, said.status, done)
 not_done (failures.BadPair number) code old new (inl said) done = omega (arith, said.status, done)
 not_done (failures.BadPair number) code old new (inr said) done = omega (arith, said.status, done)
@@ -34,7 +34,7 @@ pub record IsFault (failure : Failure) (old new : SinkState) : Type 0 where
 
 -- status 1 is a fault's
 pub fault_status : (failure : Failure) (code : ℕ) (old new : SinkState) → Reports failure code old new → code ≡ 1 → IsFault failure old new
-fault_status failures.NotBuilt code old new said one = absurd (omega (arith, said.status, one))
+fault_status failures.NotRead code old new said one = absurd (omega (arith, said.status, one))
 fault_status (failures.BadNumber name) code old new said one = absurd (omega (arith, said.status, one))
 fault_status (failures.BadPair number) code old new (inl said) one = absurd (omega (arith, said.status, one))
 fault_status (failures.BadPair number) code old new (inr said) one = absurd (omega (arith, said.status, one))

@@ -60,7 +60,7 @@ pub record HadTree (trees : Trees) (asked : DecryptWords) (before after : Object
 failed_with : (trees : Trees) (asked : DecryptWords) (before after : Objects) (untouched unwritten unread : Type 0) (code : ℕ) (report reported : SinkState) (left : KeyringMeaning)
     (failure : Failure) → trees.kept ≡ Some left → DecryptFails trees asked before after untouched unwritten unread failure → Reports failure code report reported
     → HadTree trees asked before after unwritten code report reported
-failed_with trees asked before after untouched unwritten unread code report reported left failures.NotBuilt kept fails said = absurd fails
+failed_with trees asked before after untouched unwritten unread code report reported left failures.NotRead kept fails said = absurd fails
 failed_with trees asked before after untouched unwritten unread code report reported left (failures.BadNumber option) kept fails said = absurd fails
 failed_with trees asked before after untouched unwritten unread code report reported left (failures.BadPair number) kept fails said = absurd fails
 failed_with trees asked before after untouched unwritten unread code report reported left (failures.Fault fault) kept fails said =
@@ -91,7 +91,7 @@ fails_back : (trees : Trees) (asked : DecryptWords) (before after : Objects) (un
     (context : List KeyValue) (tree : KeyringMeaning) → context_in asked.pairs ≡ Ok context → HoldsTree trees before.shelf.files asked.keyring tree
     → Stayed before.shelf.faults after.shelf.faults → DecryptFails trees asked before after untouched unwritten unread failure → Reports failure code report reported
     → (code ≡ 5) ⊎ GivesTree trees tree
-fails_back trees asked before after untouched unwritten unread code report reported failures.NotBuilt context tree is holds stayed fails said = absurd fails
+fails_back trees asked before after untouched unwritten unread code report reported failures.NotRead context tree is holds stayed fails said = absurd fails
 fails_back trees asked before after untouched unwritten unread code report reported (failures.BadNumber option) context tree is holds stayed fails said = absurd fails
 fails_back trees asked before after untouched unwritten unread code report reported (failures.BadPair number) context tree is holds stayed fails said = absurd fails
 fails_back trees asked before after untouched unwritten unread code report reported (failures.Fault fault) context tree is holds stayed fails said =

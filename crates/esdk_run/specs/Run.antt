@@ -60,7 +60,7 @@ pub record IsDone (code : ℕ) (report reported : SinkState) : Type 0 where
 
 -- the failure for which words are refused
 abbrev pub words_failure : WordsFault → Failure
-words_failure words.NotBuilt = failures.NotBuilt
+words_failure words.NotRead = failures.NotRead
 words_failure (words.BadNumber name) = failures.BadNumber name
 words_failure (words.BadPair number) = failures.BadPair number
 words_failure words.Memory = failures.Memory

@@ -32,7 +32,7 @@ use std::alloc::Global;
 /// the key retired that its words name. The plugs are the keyrings that a keyring
 /// file may name. Where a run fails, the report gets one line, and nothing
 /// more is read or written; a report that fails then changes nothing. The status is 0 where all was done,
-/// 1 for a fault of the input, 2 for words that aren't of the form of a command or have a bad number or a
+/// 1 for a fault of the input, 2 for words that no command takes or that have a bad number or a
 /// bad pair, 3 for a keyring file that is refused, 4 for a failure of the input, the output, the report of
 /// a context, the shelf, the entropy or a keyring or an input that is too long, 5 where memory ran out, and 6 for a
 /// request that is refused.

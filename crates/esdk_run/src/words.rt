@@ -10,7 +10,7 @@ pub fn words_failure(fault: WordsFault) -> Failure
     ensures { result ≡ words_failure fault }
 {
     match fault {
-        WordsFault::NotBuilt => Failure::NotBuilt,
+        WordsFault::NotRead => Failure::NotRead,
         WordsFault::BadNumber(name) => Failure::BadNumber(name),
         WordsFault::BadPair(number) => Failure::BadPair(number),
         WordsFault::Memory => Failure::Memory,

@@ -76,14 +76,14 @@ fn plugs_of(rt: HostRuntime) -> Result<Vec<Plug<Keydir>>, Failure>
     Ok(Vec::from_array(alloc, [Plug { name, keyring }])?)
 }
 
-/// The words of the command line after the program's name. Words that aren't UTF-8 aren't those of
-/// a command that is built.
+/// The words of the command line after the program's name. Words that aren't UTF-8 are read by no
+/// command.
 fn words_of(rt: &HostRuntime) -> Result<Vec<Text>, Failure> {
     let alloc = rt.alloc();
     let words = match arguments(rt) {
         Ok(words) => words,
         Err(error) if error.kind() == ErrorKind::OutOfMemory => return Err(Failure::Memory),
-        Err(_) => return Err(Failure::NotBuilt),
+        Err(_) => return Err(Failure::NotRead),
     };
     let mut texts = Vec::with_capacity(alloc, words.len())?;
     for word in &words {

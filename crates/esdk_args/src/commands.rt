@@ -1,0 +1,171 @@
+//! The table of commands: what may stand behind each, and the command of `clap` that reads it.
+
+ghost use Rattle.std.specs.Prelude.{◌≡◌, false, IfOk};
+ghost use Rattle.clap.specs.Words.{app_of, rule_of, with_rule};
+ghost use Rattle.esdk_args.specs.declared.commands.Argument.TheVariants.{Keyring, AllowUncommitted, Pairs};
+ghost use Rattle.esdk_args.specs.Commands.{app_of_command, argument_rule, arguments, bare_app, command_named, command_text, option_rule};
+
+use crate::options::{OptionName, option_name};
+use clap::{Arg, ArgAction, Command};
+use std::alloc::{AllocError, Global};
+
+/// The name of the keyring's option.
+pub(crate) const KEYRING: &str = "keyring";
+
+/// The name of the flag of `list` and `decrypt`: messages without a commitment may be read.
+pub(crate) const ALLOW_UNCOMMITTED: &str = "allow-uncommitted";
+
+/// The name of the pair words.
+pub(crate) const PAIRS: &str = "pairs";
+
+/// A command of the program.
+#[derive(Clone, Copy)]
+pub(crate) enum CommandName {
+    List,
+    Encrypt,
+    Decrypt,
+    Migrate,
+}
+
+/// What may stand behind a command.
+#[derive(Clone, Copy)]
+pub(crate) enum Argument {
+    /// `--keyring NAME`, which has to stand there.
+    Keyring,
+    /// An option with a number.
+    Number(OptionName),
+    /// The flag `--allow-uncommitted`.
+    AllowUncommitted,
+    /// Any number of pair words.
+    Pairs,
+}
+
+static LIST: [Argument; 1] = [Argument::AllowUncommitted];
+
+static ENCRYPT: [Argument; 4] = [
+    Argument::Keyring,
+    Argument::Number(OptionName::Frame),
+    Argument::Number(OptionName::MaxKeys),
+    Argument::Pairs,
+];
+
+static DECRYPT: [Argument; 5] = [
+    Argument::Keyring,
+    Argument::Number(OptionName::MaxKeys),
+    Argument::Number(OptionName::MaxUnit),
+    Argument::AllowUncommitted,
+    Argument::Pairs,
+];
+
+static MIGRATE: [Argument; 2] = [Argument::Keyring, Argument::Number(OptionName::Retire)];
+
+/// What may stand behind the command.
+fn arguments(name: CommandName) -> &'static [Argument]
+    ensures { result.now ≡ arguments name }
+{
+    match name {
+        CommandName::List => LIST.as_slice(),
+        CommandName::Encrypt => ENCRYPT.as_slice(),
+        CommandName::Decrypt => DECRYPT.as_slice(),
+        CommandName::Migrate => MIGRATE.as_slice(),
+    }
+}
+
+/// The command as it is written among the words.
+fn command_text<'a>(name: CommandName) -> &'a str
+    ensures { result.now ≡ command_text name }
+{
+    match name {
+        CommandName::List => "list",
+        CommandName::Encrypt => "encrypt",
+        CommandName::Decrypt => "decrypt",
+        CommandName::Migrate => "migrate",
+    }
+}
+
+/// The command that the word names. None where it names no command.
+pub(crate) fn command_named(word: &str) -> Option<CommandName>
+    ensures { result ≡ command_named word.now }
+{
+    match word {
+        "list" => Some(CommandName::List),
+        "encrypt" => Some(CommandName::Encrypt),
+        "decrypt" => Some(CommandName::Decrypt),
+        "migrate" => Some(CommandName::Migrate),
+        _ => None,
+    }
+}
+
+/// The command of `clap` that reads the words behind this command. `AllocError` where memory runs out.
+pub(crate) fn clap_command<'a>(alloc: Global, name: CommandName) -> Result<Command<'a>, AllocError>
+    ensures { IfOk result (λ made. app_of made ≡ app_of_command name) }
+{
+    let mut made = bare(alloc, command_text(name));
+    for argument in arguments(name) {
+        made = with(made, rule(alloc, *argument))?;
+    }
+    Ok(made)
+}
+
+/// A command of `clap` with no argument, no help flag and no version flag, whose words don't begin with the program's name.
+fn bare<'a>(alloc: Global, name: &'a str) -> Command<'a>
+    ensures { app_of result ≡ bare_app name.entry.now }
+{
+    Command::new(alloc, name)
+        .no_binary_name(true)
+        .disable_help_flag(true)
+        .disable_version_flag(true)
+}
+
+/// The command of `clap` with one more argument.
+fn with<'a>(made: Command<'a>, arg: Arg<'a>) -> Result<Command<'a>, AllocError>
+    requires { arg.global ≡ false }
+    ensures { IfOk result (λ r. app_of r ≡ with_rule (app_of made.entry) (rule_of arg.entry)) }
+{
+    made.arg(arg)
+}
+
+/// The argument as `clap` has it.
+fn rule<'a>(alloc: Global, argument: Argument) -> Arg<'a>
+    ensures rule { rule_of result ≡ argument_rule argument }
+    ensures local { result.global ≡ false }
+{
+    match argument {
+        Argument::Keyring => keyring(alloc),
+        Argument::Number(name) => option(alloc, option_name(name)),
+        Argument::AllowUncommitted => allow_uncommitted(alloc),
+        Argument::Pairs => pairs(alloc),
+    }
+}
+
+/// `--keyring`, which is required.
+fn keyring<'a>(alloc: Global) -> Arg<'a>
+    ensures rule { rule_of result ≡ argument_rule Keyring }
+    ensures local { result.global ≡ false }
+{
+    option(alloc, KEYRING).required(true)
+}
+
+/// The flag `--allow-uncommitted`.
+fn allow_uncommitted<'a>(alloc: Global) -> Arg<'a>
+    ensures rule { rule_of result ≡ argument_rule AllowUncommitted }
+    ensures local { result.global ≡ false }
+{
+    option(alloc, ALLOW_UNCOMMITTED).action(ArgAction::SetTrue)
+}
+
+/// The pair words: a positional with any number of values.
+fn pairs<'a>(alloc: Global) -> Arg<'a>
+    ensures rule { rule_of result ≡ argument_rule Pairs }
+    ensures local { result.global ≡ false }
+{
+    Arg::new(alloc, PAIRS).action(ArgAction::Append)
+}
+
+/// An option of one text value.
+fn option<'a>(alloc: Global, name: &'a str) -> Arg<'a>
+    ensures rule { rule_of result ≡ option_rule name.entry.now }
+    ensures local { result.global ≡ false }
+{
+    Arg::new(alloc, name).long(name)
+}
