@@ -1,0 +1,10 @@
+pub mod Machines
+pub mod Openers
+pub mod Live
+pub mod Beginnings
+pub mod Desks
+pub mod Feeds
+pub mod StillLive
+pub mod Openings
+pub mod Apart
+pub mod Fed

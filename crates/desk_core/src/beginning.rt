@@ -1,0 +1,153 @@
+//! The beginning of a session that seals a message.
+
+ghost use Rattle.std.specs.Prelude.{◌≡◌, ◌+◌, ◌*◌, ◌<◌, ◌++◌, true, List, length, vec_len, vec_capacity, Some, None, IfOk, IfErr, OnOk};
+ghost use Rattle.keyring_trait.specs.declared.journal.JournalLine.{JournalLine};
+ghost use Rattle.keyring_trait.specs.declared.journal.Kind.TheVariants.{Seal};
+ghost use Rattle.keyring_trait.specs.Manager.{ManagerGoes, TellsOn};
+ghost use Rattle.stream_seal.specs.Start.{start_refusal};
+ghost use Rattle.desk_core.specs.Session.{manager_error, rest_in};
+ghost use Rattle.desk_core.specs.Desk.{lines_of};
+ghost use Rattle.desk_core.specs.Stands.{StandsFor};
+ghost use Rattle.desk_core.specs.Beginning.{Begins, NotBegun, begun_value};
+ghost use Rattle.desk_core.specs.Calls.{giving_of};
+
+use crate::errors::DeskError;
+use crate::seal_request::SealRequest;
+use crate::session::{Session, sealer_failed};
+use keyring_trait::{EncMaterials, JournalLine, Kind, Manager, ManagerError};
+use std::alloc::Global;
+use stream_seal::Sealer;
+
+/// The session of a message that is sealed with the manager's materials. The manager's answer is recorded; the room of its line is taken before it is asked.
+pub(crate) fn begin_sealing<M: Manager>(
+    alloc: Global,
+    manager: &mut M,
+    journal: &mut Vec<JournalLine>,
+    request: &SealRequest,
+    id: u64,
+    now: u64,
+    random: &[u8],
+) -> Result<Session, DeskError>
+    requires { length random.now ≡ 64 + 12 * (M.meaning manager.old).wraps }
+    ensures begins { Begins
+        (giving_of (M.meaning manager.old) (M.meaning manager.new) (M.tells manager.old) (M.exact manager.old) (M.gave manager.new) request.now.wish now (rest_in random.now))
+        request.now id now random.now result journal.old.items journal.new.items }
+    ensures goes { ManagerGoes (M.meaning manager.old) (M.meaning manager.new) }
+    ensures tells { TellsOn (M.tells manager.old) (M.tells manager.new) }
+    ensures same { (M.meaning manager.old).plain ≡ true → TellsOn (M.tells manager.new) (M.tells manager.old) }
+    ensures exact { M.exact manager.old → M.exact manager.new }
+    ensures bears { M.bears manager.old journal.old.items → M.bears manager.new journal.new.items }
+    ensures limits { (lines : List JournalLine) → M.within manager.new lines → M.within manager.old lines }
+{
+    // Where the manager isn't asked, it stays as it is: `wraps` says so of a steady one's count.
+    let _wraps = manager.wraps();
+    match journal.try_reserve(1) {
+        Ok(()) => begin_recorded(alloc, manager, journal, request, id, now, random),
+        Err(_) => Err(DeskError::Memory),
+    }
+}
+
+/// The same, where the journal has room for the line.
+fn begin_recorded<M: Manager>(
+    alloc: Global,
+    manager: &mut M,
+    journal: &mut Vec<JournalLine>,
+    request: &SealRequest,
+    id: u64,
+    now: u64,
+    random: &[u8],
+) -> Result<Session, DeskError>
+    requires drawn { length random.now ≡ 64 + 12 * (M.meaning manager.old).wraps }
+    requires room { vec_len journal.old < vec_capacity journal.old }
+    ensures begins { Begins
+        (giving_of (M.meaning manager.old) (M.meaning manager.new) (M.tells manager.old) (M.exact manager.old) (M.gave manager.new) request.now.wish now (rest_in random.now))
+        request.now id now random.now result journal.old.items journal.new.items }
+    ensures goes { ManagerGoes (M.meaning manager.old) (M.meaning manager.new) }
+    ensures tells { TellsOn (M.tells manager.old) (M.tells manager.new) }
+    ensures same { (M.meaning manager.old).plain ≡ true → TellsOn (M.tells manager.new) (M.tells manager.old) }
+    ensures exact { M.exact manager.old → M.exact manager.new }
+    ensures bears { M.bears manager.old journal.old.items → M.bears manager.new journal.new.items }
+    ensures limits { (lines : List JournalLine) → M.within manager.new lines → M.within manager.old lines }
+{
+    let (message_id, rest) = random.split_at(32);
+    match manager.for_encryption(alloc, request.wish(), now, rest) {
+        Ok(materials) => {
+            record(journal, &materials, request, id, now);
+            begin(alloc, &materials, request, message_id)
+        }
+        Err(error) => Err(manager_failed(error)),
+    }
+}
+
+/// Records how the materials were served. There is room for the line.
+fn record(
+    journal: &mut Vec<JournalLine>,
+    materials: &EncMaterials,
+    request: &SealRequest,
+    id: u64,
+    now: u64,
+)
+    requires { vec_len journal.old < vec_capacity journal.old }
+    ensures { journal.new.items ≡ journal.old.items ++ lines_of id Seal now request.now.wish.declared (Some materials.now.served) }
+{
+    let line = JournalLine {
+        session: id,
+        kind: Kind::Seal,
+        served: materials.served(),
+        now,
+        length: request.wish().declared(),
+    };
+    let Ok(()) = journal.push(line) else {
+        unreachable!()
+    };
+}
+
+/// The session of a message with these materials, under this id.
+fn begin(
+    alloc: Global,
+    materials: &EncMaterials,
+    request: &SealRequest,
+    message_id: &[u8],
+) -> Result<Session, DeskError>
+    requires { length message_id.now ≡ 32 }
+    ensures stands { IfOk result (λ machine. StandsFor machine (begun_value materials.now request.now message_id.now)) }
+    ensures taken { OnOk result (start_refusal materials.now request.now.max_keys message_id.now ≡ None) }
+    ensures cause { IfErr result (NotBegun (start_refusal materials.now request.now.max_keys message_id.now)) }
+{
+    let declared = request.wish().declared();
+    let id = array_of(message_id);
+    match Sealer::begin(
+        alloc,
+        materials,
+        declared,
+        request.frame_length(),
+        request.max_keys(),
+        &id,
+    ) {
+        Ok(sealer) => Ok(Session::Sealing(sealer)),
+        Err(error) => Err(sealer_failed(error)),
+    }
+}
+
+/// The bytes as an array of their number.
+fn array_of<const N: usize>(bytes: &[u8]) -> [u8; N]
+    requires { length bytes.now ≡ N }
+    ensures { result ≡ bytes.now }
+{
+    let mut array = [0; N];
+    array.copy_from_slice(bytes);
+    array
+}
+
+/// What the desk calls a manager's reason to give no materials.
+fn manager_failed(error: ManagerError) -> DeskError
+    ensures { result ≡ manager_error error }
+{
+    match error {
+        ManagerError::Refusal(refusal) => DeskError::Refusal(refusal),
+        ManagerError::KeyringFault => DeskError::KeyringFault,
+        ManagerError::Memory => DeskError::Memory,
+        // A manager names none here, since there is no header yet.
+        ManagerError::Fault(fault) => DeskError::Fault(fault),
+    }
+}

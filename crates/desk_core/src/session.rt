@@ -1,0 +1,93 @@
+//! One session: a machine that seals a message, or one that opens one.
+
+ghost use Rattle.std.specs.Prelude.{◌≡◌, ◌-◌, ◌<◌, ◌≤◌, List, length, IfOk};
+ghost use Rattle.std.specs.Option.{option_copied};
+ghost use Rattle.stream_seal.specs.declared.errors.SealError.{SealError};
+ghost use Rattle.desk_core.specs.Session.{SessionValue, out_of, header_of, context_of, finish_answer, finished, seal_error, open_error};
+ghost use Rattle.desk_core.specs.Stands.{StandsFor};
+
+use crate::errors::DeskError;
+use context_codec::Context;
+use stream_open::{OpenError, Opener};
+use stream_seal::{SealError, Sealer};
+
+/// A session of a desk.
+#[derive(Drop)]
+pub(crate) enum Session {
+    /// A message that is sealed.
+    Sealing(Sealer),
+    /// A message that is opened.
+    Opening(Opener),
+}
+
+impl Session {
+    /// What the last step, or `finish`, gave.
+    pub(crate) fn given(&self) -> &[u8]
+        ensures { (s : SessionValue) → StandsFor self.now s → result.now ≡ out_of s }
+    {
+        match self {
+            Session::Sealing(sealer) => sealer.out(),
+            Session::Opening(opener) => opener.out(),
+        }
+    }
+
+    /// What a message begins with that is sealed; nothing, of one that is opened.
+    pub(crate) fn header(&self) -> &[u8]
+        ensures { (s : SessionValue) → StandsFor self.now s → result.now ≡ header_of s }
+    {
+        match self {
+            Session::Sealing(sealer) => sealer.header(),
+            Session::Opening(_) => &[],
+        }
+    }
+
+    /// The whole context of a message that is opened, once its header is unlocked.
+    pub(crate) fn context(&self) -> Option<&Context>
+        ensures { (s : SessionValue) → StandsFor self.now s → option_copied result ≡ context_of s }
+    {
+        match self {
+            Session::Sealing(_) => None,
+            Session::Opening(opener) => opener.context(),
+        }
+    }
+
+    /// Ends the message.
+    pub(crate) fn finish(&mut self) -> Result<(), DeskError>
+        ensures answer { (s : SessionValue) → StandsFor self.old s → result ≡ finish_answer s }
+        ensures stands { (s : SessionValue) → StandsFor self.old s → StandsFor self.new (finished s) }
+    {
+        match self {
+            Session::Sealing(sealer) => match sealer.finish() {
+                Ok(()) => Ok(()),
+                Err(error) => Err(sealer_failed(error)),
+            },
+            Session::Opening(opener) => match opener.finish() {
+                Ok(()) => Ok(()),
+                Err(error) => Err(opener_failed(error)),
+            },
+        }
+    }
+}
+
+/// What the desk calls the error of a sealer. A session that is live isn't stopped.
+pub(crate) fn sealer_failed(error: SealError) -> DeskError
+    ensures { result ≡ seal_error error }
+{
+    match error {
+        SealError::Refusal(refusal) => DeskError::Refusal(refusal),
+        SealError::Stopped => DeskError::NotLive,
+        SealError::Memory => DeskError::Memory,
+    }
+}
+
+/// What the desk calls the error of an opener.
+pub(crate) fn opener_failed(error: OpenError) -> DeskError
+    ensures { result ≡ open_error error }
+{
+    match error {
+        OpenError::Fault(fault) => DeskError::Fault(fault),
+        OpenError::KeyringFault => DeskError::KeyringFault,
+        OpenError::Stopped => DeskError::NotLive,
+        OpenError::Memory => DeskError::Memory,
+    }
+}

@@ -1,0 +1,201 @@
+//! A step of one session, which is recorded where the manager answered in it.
+
+ghost use Rattle.std.specs.Prelude.{◌≡◌, ℕ, ◌++◌, ◌-◌, ◌<◌, ◌≤◌, true, List, length, vec_len, vec_capacity, Option, Some, None, IfOk};
+ghost use Rattle.std.specs.BTreeMap.{get};
+ghost use Rattle.std.specs.Ordering.{nat_cmp};
+ghost use Rattle.keyring_trait.specs.declared.journal.JournalLine.{JournalLine};
+ghost use Rattle.keyring_trait.specs.declared.journal.Kind.TheVariants.{Unseal};
+ghost use Rattle.keyring_trait.specs.Manager.{ManagerGoes, TellsOn};
+ghost use Rattle.stream_open.specs.Asking.{asking_of};
+ghost use Rattle.stream_open.specs.Session.{OpeningValue, asked_of};
+ghost use Rattle.stream_open.specs.Stands.{Stands};
+ghost use Rattle.desk_core.specs.Session.{SessionValue, Opening, asked_by};
+ghost use Rattle.desk_core.specs.Desk.{lines_of};
+ghost use Rattle.desk_core.specs.Stands.{StandsFor, IsLive, AreLive, work_in};
+ghost use Rattle.desk_core.specs.Steps.{Steps, StepsAt, StepsOpener};
+
+use crate::errors::DeskError;
+use crate::session::{Session, opener_failed, sealer_failed};
+use keyring_trait::{JournalLine, Kind, Manager};
+use std::alloc::Global;
+use std::collections::BTreeMap;
+use stream_open::Opener;
+
+/// A step of the session of this number, where it is live; else `NotLive`. Any error ends the session.
+pub(crate) fn step_at<M: Manager>(
+    alloc: Global,
+    sessions: &mut BTreeMap<u64, Session>,
+    manager: &mut M,
+    journal: &mut Vec<JournalLine>,
+    id: u64,
+    now: u64,
+    piece: &[u8],
+) -> Result<usize, DeskError>
+    ensures steps { (live : ℕ → Option SessionValue) → AreLive sessions.old live → StepsAt
+        (asking_of (M.meaning manager.old) (M.meaning manager.new) (M.tells manager.old) (M.exact manager.old) (M.found manager.new) (M.bears manager.old) (M.bears manager.new) now)
+        live id now piece.now result sessions.new journal.old.items journal.new.items }
+    ensures within { (live : ℕ → Option SessionValue) → AreLive sessions.old live → IfOk result (λ used. used ≤ length piece.now) }
+    ensures falls { (live : ℕ → Option SessionValue) → AreLive sessions.old live
+        → IfOk result (λ used. 1 ≤ length piece.now
+        → work_in (get nat_cmp sessions.new id) (length piece.now - used) < work_in (get nat_cmp sessions.old id) (length piece.now)) }
+    ensures goes { ManagerGoes (M.meaning manager.old) (M.meaning manager.new) }
+    ensures tells { TellsOn (M.tells manager.old) (M.tells manager.new) }
+    ensures same { (M.meaning manager.old).plain ≡ true → TellsOn (M.tells manager.new) (M.tells manager.old) }
+    ensures exact { M.exact manager.old → M.exact manager.new }
+    ensures limits { (lines : List JournalLine) → M.within manager.new lines → M.within manager.old lines }
+    ensures unasked { (live : ℕ → Option SessionValue) → AreLive sessions.old live → asked_by (live id) piece.now ≡ None → manager.new ≡ manager.old }
+{
+    // Where the manager isn't asked, it stays as it is: `wraps` says so of a steady one's count.
+    let _wraps = manager.wraps();
+    let answer = match sessions.get_mut(&id) {
+        Some(session) => step(alloc, session, manager, journal, id, now, piece),
+        None => return Err(DeskError::NotLive),
+    };
+    match answer {
+        Ok(used) => Ok(used),
+        Err(error) => {
+            sessions.remove(&id);
+            Err(error)
+        }
+    }
+}
+
+/// A step of a session. The manager is asked where the header of a message that is opened becomes whole, and its answer is recorded.
+fn step<M: Manager>(
+    alloc: Global,
+    session: &mut Session,
+    manager: &mut M,
+    journal: &mut Vec<JournalLine>,
+    id: u64,
+    now: u64,
+    piece: &[u8],
+) -> Result<usize, DeskError>
+    requires { ManagerGoes (M.meaning manager.old) (M.meaning manager.old) }
+    ensures steps { (s : SessionValue) → StandsFor session.old s → IsLive s → Steps
+        (asking_of (M.meaning manager.old) (M.meaning manager.new) (M.tells manager.old) (M.exact manager.old) (M.found manager.new) (M.bears manager.old) (M.bears manager.new) now)
+        s id now piece.now result session.new journal.old.items journal.new.items }
+    ensures within { (s : SessionValue) → StandsFor session.old s → IfOk result (λ used. used ≤ length piece.now) }
+    ensures falls { (s : SessionValue) → StandsFor session.old s
+        → IfOk result (λ used. 1 ≤ length piece.now → work_in (Some session.new) (length piece.now - used) < work_in (Some session.old) (length piece.now)) }
+    ensures goes { ManagerGoes (M.meaning manager.old) (M.meaning manager.new) }
+    ensures tells { TellsOn (M.tells manager.old) (M.tells manager.new) }
+    ensures same { (M.meaning manager.old).plain ≡ true → TellsOn (M.tells manager.new) (M.tells manager.old) }
+    ensures exact { M.exact manager.old → M.exact manager.new }
+    ensures limits { (lines : List JournalLine) → M.within manager.new lines → M.within manager.old lines }
+    ensures unasked { (s : SessionValue) → StandsFor session.old s → asked_by (Some s) piece.now ≡ None → manager.new ≡ manager.old }
+{
+    match session {
+        Session::Sealing(sealer) => match sealer.step(piece) {
+            Ok(used) => Ok(used),
+            Err(error) => Err(sealer_failed(error)),
+        },
+        Session::Opening(opener) => step_opener(alloc, opener, manager, journal, id, now, piece),
+    }
+}
+
+/// A step of a session that opens a message. The room of its journal line is taken before the manager is asked.
+fn step_opener<M: Manager>(
+    alloc: Global,
+    opener: &mut Opener,
+    manager: &mut M,
+    journal: &mut Vec<JournalLine>,
+    id: u64,
+    now: u64,
+    piece: &[u8],
+) -> Result<usize, DeskError>
+    requires { ManagerGoes (M.meaning manager.old) (M.meaning manager.old) }
+    ensures steps { (v : OpeningValue) → Stands opener.old v → IsLive (Opening v) → Steps
+        (asking_of (M.meaning manager.old) (M.meaning manager.new) (M.tells manager.old) (M.exact manager.old) (M.found manager.new) (M.bears manager.old) (M.bears manager.new) now)
+        (Opening v) id now piece.now result (Session.Opening opener.new) journal.old.items journal.new.items }
+    ensures within { (v : OpeningValue) → Stands opener.old v → IfOk result (λ used. used ≤ length piece.now) }
+    ensures some { (v : OpeningValue) → Stands opener.old v → IfOk result (λ used. 1 ≤ length piece.now → 1 ≤ used) }
+    ensures goes { ManagerGoes (M.meaning manager.old) (M.meaning manager.new) }
+    ensures tells { TellsOn (M.tells manager.old) (M.tells manager.new) }
+    ensures same { (M.meaning manager.old).plain ≡ true → TellsOn (M.tells manager.new) (M.tells manager.old) }
+    ensures exact { M.exact manager.old → M.exact manager.new }
+    ensures limits { (lines : List JournalLine) → M.within manager.new lines → M.within manager.old lines }
+    ensures unasked { (v : OpeningValue) → Stands opener.old v → asked_of v piece.now ≡ None → manager.new ≡ manager.old }
+{
+    match opener.context() {
+        Some(_) => step_unrecorded(alloc, opener, manager, now, piece),
+        None => match journal.try_reserve(1) {
+            Ok(()) => step_locked(alloc, opener, manager, journal, id, now, piece),
+            Err(_) => Err(DeskError::Memory),
+        },
+    }
+}
+
+/// A step of an opener, which isn't recorded.
+fn step_unrecorded<M: Manager>(
+    alloc: Global,
+    opener: &mut Opener,
+    manager: &mut M,
+    now: u64,
+    piece: &[u8],
+) -> Result<usize, DeskError>
+    requires { ManagerGoes (M.meaning manager.old) (M.meaning manager.old) }
+    ensures steps { (v : OpeningValue) → Stands opener.old v → StepsOpener
+        (asking_of (M.meaning manager.old) (M.meaning manager.new) (M.tells manager.old) (M.exact manager.old) (M.found manager.new) (M.bears manager.old) (M.bears manager.new) now)
+        v piece.now result opener.new }
+    ensures within { (v : OpeningValue) → Stands opener.old v → IfOk result (λ used. used ≤ length piece.now) }
+    ensures some { (v : OpeningValue) → Stands opener.old v → IfOk result (λ used. 1 ≤ length piece.now → 1 ≤ used) }
+    ensures goes { ManagerGoes (M.meaning manager.old) (M.meaning manager.new) }
+    ensures tells { TellsOn (M.tells manager.old) (M.tells manager.new) }
+    ensures same { (M.meaning manager.old).plain ≡ true → TellsOn (M.tells manager.new) (M.tells manager.old) }
+    ensures exact { M.exact manager.old → M.exact manager.new }
+    ensures limits { (lines : List JournalLine) → M.within manager.new lines → M.within manager.old lines }
+    ensures unasked { (v : OpeningValue) → Stands opener.old v → asked_of v piece.now ≡ None → manager.new ≡ manager.old }
+{
+    match opener.step(alloc, manager, now, piece) {
+        Ok(used) => Ok(used),
+        Err(error) => Err(opener_failed(error)),
+    }
+}
+
+/// A step while the header isn't unlocked, which is recorded where the manager answers. There is room for the line.
+fn step_locked<M: Manager>(
+    alloc: Global,
+    opener: &mut Opener,
+    manager: &mut M,
+    journal: &mut Vec<JournalLine>,
+    id: u64,
+    now: u64,
+    piece: &[u8],
+) -> Result<usize, DeskError>
+    requires manager { ManagerGoes (M.meaning manager.old) (M.meaning manager.old) }
+    requires room { vec_len journal.old < vec_capacity journal.old }
+    ensures steps { (v : OpeningValue) → Stands opener.old v → IsLive (Opening v) → v.served ≡ None → Steps
+        (asking_of (M.meaning manager.old) (M.meaning manager.new) (M.tells manager.old) (M.exact manager.old) (M.found manager.new) (M.bears manager.old) (M.bears manager.new) now)
+        (Opening v) id now piece.now result (Session.Opening opener.new) journal.old.items journal.new.items }
+    ensures within { (v : OpeningValue) → Stands opener.old v → IfOk result (λ used. used ≤ length piece.now) }
+    ensures some { (v : OpeningValue) → Stands opener.old v → IfOk result (λ used. 1 ≤ length piece.now → 1 ≤ used) }
+    ensures goes { ManagerGoes (M.meaning manager.old) (M.meaning manager.new) }
+    ensures tells { TellsOn (M.tells manager.old) (M.tells manager.new) }
+    ensures same { (M.meaning manager.old).plain ≡ true → TellsOn (M.tells manager.new) (M.tells manager.old) }
+    ensures exact { M.exact manager.old → M.exact manager.new }
+    ensures limits { (lines : List JournalLine) → M.within manager.new lines → M.within manager.old lines }
+    ensures unasked { (v : OpeningValue) → Stands opener.old v → asked_of v piece.now ≡ None → manager.new ≡ manager.old }
+{
+    let answer = step_unrecorded(alloc, opener, manager, now, piece);
+    record_served(journal, opener, id, now);
+    answer
+}
+
+/// Records how the manager's materials were served, where it answered with some. There is room for the line.
+fn record_served(journal: &mut Vec<JournalLine>, opener: &Opener, id: u64, now: u64)
+    requires { vec_len journal.old < vec_capacity journal.old }
+    ensures { (v : OpeningValue) → Stands opener.now v → journal.new.items ≡ journal.old.items ++ lines_of id Unseal now None v.served }
+{
+    if let Some(served) = opener.served() {
+        let line = JournalLine {
+            session: id,
+            kind: Kind::Unseal,
+            served,
+            now,
+            length: None,
+        };
+        let Ok(()) = journal.push(line) else {
+            unreachable!()
+        };
+    }
+}
