@@ -1,0 +1,5 @@
+pub mod Clashing
+pub mod Counted
+pub mod Held
+pub mod Listed
+pub mod Rows

@@ -1,0 +1,34 @@
+-- What the code finds, where it stands in the file.
+use Rattle.std.specs.Prelude.{◌≡◌, ◌≤◌, length, Bool, true, false, Option, Some, None, IfSome, Result, Ok, Err}
+use Rattle.esdk_fields.specs.declared.refusals.FileRefusal.{FileRefusal}
+use Rattle.keyring_file.specs.declared.key_file.TreeError.{TreeError}
+use Rattle.keyring_file.specs.declared.key_file.TreeError.TheVariants.{File, Memory}
+use Rattle.serde_json.specs.View.{items_view}
+use Rattle.cmm_caching.specs.Limits.{AreLimits}
+use Rattle.job_file.specs.declared.head.Head as head
+use Rattle.job_file.specs.JobForm.{Head}
+
+-- what a file says of itself
+abbrev pub head_value : head.Head → Head
+head_value h = record { keyring = h.keyring.now; width = h.width; piece = h.piece; cache = h.cache; jobs = items_view h.jobs.now }
+
+-- this value, where the test says so
+abbrev pub only_if : {A : Type 0} → Bool → A → Option A
+only_if true x = Some x
+only_if false x = None
+
+-- What a head of a job file keeps.
+pub record IsHead (h : head.Head) : Type 0 where
+  pub wide : 1 ≤ h.width
+  pub narrow : h.width ≤ 64
+  pub some : 1 ≤ h.piece
+  pub short : h.piece ≤ 65536
+  pub limits : IfSome h.cache AreLimits
+  pub jobs : 1 ≤ length h.jobs.now
+  pub few : length h.jobs.now ≤ 1000
+
+-- What this value means, or this refusal; want of memory may come at any time.
+abbrev pub Reads : {A B : Type 0} → (A → B) → Result A TreeError → Result B FileRefusal → Type 0
+Reads means (Ok x) reading = reading ≡ Ok (means x)
+Reads means (Err (File refusal)) reading = reading ≡ Err refusal
+Reads means (Err Memory) reading = Unit {0}

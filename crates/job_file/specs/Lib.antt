@@ -1,0 +1,4 @@
+pub mod JobForm
+pub mod JobFile
+pub mod Jobs
+pub mod Found
