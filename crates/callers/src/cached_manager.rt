@@ -1,0 +1,25 @@
+//! A manager with a cache.
+
+ghost use Rattle.std.specs.Prelude.{◌≡◌, ◌^◌, Some, IfOk};
+ghost use Rattle.cmm_caching.specs.Asked.{limits_of};
+
+use crate::errors::CallError;
+use cmm_caching::{CacheLimits, CachingCmm};
+use cmm_default::DefaultCmm;
+use keyring_trait::Keyring;
+use std::alloc::Global;
+
+/// The manager of a keyring, with a cache of 100 entries. One entry serves for five minutes, and for 1,000 messages of 2^30 bytes in all.
+///
+/// Limits out of their ranges would be None, and None switches the cache off: here the contract says that they aren't.
+pub(crate) fn cached_manager<K: Keyring>(
+    alloc: Global,
+    ring: K,
+) -> Result<CachingCmm<DefaultCmm<K>>, CallError>
+    ensures ring { IfOk result (λ manager. manager.0 ≡ ring) }
+    ensures limits { IfOk result (λ manager. limits_of manager.1
+        ≡ Some (record { capacity = 100; age = 300; messages = 1000; bytes = 2 ^ 30 })) }
+{
+    let limits = CacheLimits::new(100, 300, 1_000, 1 << 30);
+    Ok(CachingCmm::new(alloc, DefaultCmm::new(ring), limits)?)
+}

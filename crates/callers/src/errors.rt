@@ -1,0 +1,75 @@
+//! Why a caller here gives up.
+
+use keyring_file::TreeError;
+use keyring_trait::ManagerError;
+use raw_aes_keyring::RawError;
+use std::alloc::{AllocError, AllocFailed};
+use stream_open::OpenError;
+use stream_seal::SealError;
+
+/// Why a caller here gives up: the error of the call that failed.
+#[derive(Drop)]
+pub(crate) enum CallError {
+    /// A manager gave no materials.
+    Manager(ManagerError),
+    /// A message isn't sealed.
+    Seal(SealError),
+    /// A message isn't opened.
+    Open(OpenError),
+    /// A keyring isn't made.
+    Key(RawError),
+    /// A keyring file isn't read.
+    File(TreeError),
+    /// The output failed.
+    Output,
+    /// Memory ran out.
+    Memory,
+}
+
+impl From<ManagerError> for CallError {
+    fn from(error: ManagerError) -> CallError {
+        CallError::Manager(error)
+    }
+}
+
+impl From<SealError> for CallError {
+    fn from(error: SealError) -> CallError {
+        CallError::Seal(error)
+    }
+}
+
+impl From<OpenError> for CallError {
+    fn from(error: OpenError) -> CallError {
+        CallError::Open(error)
+    }
+}
+
+impl From<RawError> for CallError {
+    fn from(error: RawError) -> CallError {
+        CallError::Key(error)
+    }
+}
+
+impl From<TreeError> for CallError {
+    fn from(error: TreeError) -> CallError {
+        CallError::File(error)
+    }
+}
+
+impl From<esdk_base::Failed> for CallError {
+    fn from(_: esdk_base::Failed) -> CallError {
+        CallError::Output
+    }
+}
+
+impl From<AllocError> for CallError {
+    fn from(_: AllocError) -> CallError {
+        CallError::Memory
+    }
+}
+
+impl<T: Drop> From<AllocFailed<T>> for CallError {
+    fn from(_: AllocFailed<T>) -> CallError {
+        CallError::Memory
+    }
+}

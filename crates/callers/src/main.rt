@@ -1,0 +1,28 @@
+//! Callers to copy: who takes the library finds here one short function for each of its uses. `docs/CALLING.md` shows them.
+//!
+//! The program calls each of them once, and compares what comes of it with a message that another implementation of the format made.
+#![tactic(auto)]
+
+mod cached_manager;
+mod errors;
+mod file_manager;
+mod opening;
+mod own_keyring;
+mod sealing;
+mod shown;
+
+use std::io;
+
+/// Prints of each caller whether it did what it is for.
+fn main(rt: HostRuntime) -> io::Result<()> {
+    let alloc = rt.alloc();
+    println!(rt; "seal_pieces: {}", shown::seals(alloc).unwrap_or(false))?;
+    println!(rt; "open_pieces: {}", shown::opens(alloc).unwrap_or(false))?;
+    println!(rt; "CountedRing: {}", shown::counts(alloc).unwrap_or(false))?;
+    println!(rt; "cached_manager: {}", shown::caches(alloc).unwrap_or(false))?;
+    println!(rt;
+        "file_manager: {}",
+        shown::reads_a_file(alloc).unwrap_or(false)
+    )?;
+    Ok(())
+}

@@ -1,0 +1,67 @@
+//! A message that comes in pieces, opened.
+
+ghost use Rattle.std.specs.Prelude.{◌++◌, List, ℕ, Option, map, IfOk, OnOk};
+ghost use Rattle.std.specs.List.{concat};
+ghost use Rattle.header_codec.specs.declared.settings.Settings.{Settings};
+ghost use Rattle.callers.specs.Opening.{IsGoing, IsTaken, OpensWhole, no_limits};
+
+use crate::errors::CallError;
+use context_codec::Context;
+use esdk_base::Sink;
+use esdk_fields::Fault;
+use header_codec::Settings;
+use keyring_trait::Manager;
+use std::alloc::Global;
+use stream_open::{OpenError, Opener};
+
+/// Opens a message that comes in pieces, of a writer who required that these pairs are given. `now` is the moment in seconds, for a manager with a cache.
+///
+/// At Ok all pieces, one behind the other, are one whole message, the output gained its text, and this is its whole context. Each content is written as soon as
+/// it is authenticated; where there is an error, what was written is a front of the text, and no one knows that the message ends there.
+pub(crate) fn open_pieces<M: Manager, O: Sink>(
+    alloc: Global,
+    manager: &mut M,
+    given: Context,
+    now: u64,
+    pieces: &[&[u8]],
+    output: &mut O,
+) -> Result<Context, CallError>
+    ensures whole { IfOk result (λ context. OpensWhole no_limits (concat (map (λ piece. piece.now) pieces.now)) context
+        (O.state output.old).written (O.state output.new).written) }
+{
+    let mut opener = Opener::new(alloc, Settings::none(), given);
+    for piece in pieces {
+        open_piece(alloc, manager, now, &mut opener, piece, output)?;
+    }
+    opener.finish()?;
+    match opener.into_context() {
+        Some(context) => Ok(context),
+        // There is none only where the header wasn't unlocked; then more bytes were wanted.
+        None => Err(CallError::Open(OpenError::Fault(Fault::Truncated))),
+    }
+}
+
+/// Feeds one piece: each step takes bytes up to the end of the header, of a frame or of the piece.
+fn open_piece<M: Manager, O: Sink>(
+    alloc: Global,
+    manager: &mut M,
+    now: u64,
+    opener: &mut Opener,
+    piece: &[u8],
+    output: &mut O,
+) -> Result<(), CallError>
+    requires going { IsGoing opener.old }
+    ensures going { OnOk result (IsGoing opener.new) }
+    ensures taken { (settings : Settings) (bytes : List ℕ) (before : Option (List ℕ))
+        → IsTaken settings bytes before (O.state output.old).written opener.old
+        → OnOk result (IsTaken settings (bytes ++ piece.now) before (O.state output.new).written opener.new) }
+{
+    let mut left = piece;
+    while !left.is_empty() {
+        let used = opener.step(alloc, manager, now, left)?;
+        output.put(opener.out())?;
+        let (_taken, rest) = left.split_at(used);
+        left = rest;
+    }
+    Ok(())
+}
