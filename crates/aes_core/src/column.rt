@@ -58,7 +58,8 @@ pub fn word(a: u8, b: u8, c: u8, d: u8) -> u32
 #[inline(always)]
 pub fn column(a: u8, b: u8, c: u8, d: u8, key: u32) -> u32
     ensures { to_le_bytes w32 result
-        ≡ add_word (mixed_column (sub_byte a) (sub_byte b) (sub_byte c) (sub_byte d)) (to_le_bytes w32 key) }
+        ≡ add_word (mixed_column (sub_byte a) (sub_byte b) (sub_byte c) (sub_byte d))
+        (to_le_bytes w32 key) }
 {
     PRODUCTS[a as usize]
         ^ PRODUCTS[b as usize].rotate_left(8)

@@ -57,7 +57,8 @@ fn states(keys: &[Planes<u8x16>; 15], x: &[[u8; 16]; 8]) -> Planes<u8x16>
 /// Eight blocks, each enciphered under the round keys.
 #[inline(always)]
 pub fn cipher(keys: &[Planes<u8x16>; 15], x: &[[u8; 16]; 8]) -> [[u8; 16]; 8]
-    ensures { (schedule : List (List ℕ)) → HasKeys lane_bit 8 keys.now schedule → result ≡ map (cipher schedule) x.now }
+    ensures { (schedule : List (List ℕ)) → HasKeys lane_bit 8 keys.now schedule
+        → result ≡ map (cipher schedule) x.now }
 {
     stored(&states(keys, x))
 }

@@ -57,7 +57,8 @@ fn states(keys: &[Planes<u64>; 15], x: &[[u8; 16]; 4]) -> Planes<u64>
 /// Four blocks, each enciphered under the round keys.
 #[inline(always)]
 pub fn cipher(keys: &[Planes<u64>; 15], x: &[[u8; 16]; 4]) -> [[u8; 16]; 4]
-    ensures { (schedule : List (List ℕ)) → HasKeys word_bit 4 keys.now schedule → result ≡ map (cipher schedule) x.now }
+    ensures { (schedule : List (List ℕ)) → HasKeys word_bit 4 keys.now schedule
+        → result ≡ map (cipher schedule) x.now }
 {
     stored(&states(keys, x))
 }

@@ -27,7 +27,8 @@ impl Model for Key256 {
 
     ghost view = { λ k. k.bytes };
 
-    ghost invariant = { λ k. (k.schedule ≡ round_keys k.bytes) × HasKeys lane_bit 8 k.eights k.schedule };
+    ghost invariant = { λ k. (k.schedule ≡ round_keys k.bytes)
+        × HasKeys lane_bit 8 k.eights k.schedule };
 }
 
 impl Key256 {
@@ -50,8 +51,8 @@ impl Key256 {
         cipher(&self.schedule, x)
     }
 
-    /// Four blocks, each enciphered under the key. The round keys' planes for four blocks are made in
-    /// each call, since a key that held them would be nearly half as large again.
+    /// Four blocks, each enciphered under the key. The round keys' planes for four blocks are made
+    /// in each call, since a key that held them would be nearly half as large again.
     pub fn blocks4(&self, x: [[u8; 16]; 4]) -> [[u8; 16]; 4]
         ensures { result ≡ map (aes self.now) x }
     {

@@ -2,8 +2,9 @@
 
 ghost use Rattle.body_format.specs.Laws.{JudgesFramesByTheTable, JudgesBlocksByTheTable, FindsTheFirst, FaultsStay, UnitsStay, RefusesTrailingBytes, FrontsAreGoing, FramedBodiesAreWhole, PiecesAreTheText, BlocksAreWhole, HasFramedSize, FrontsReleaseFrames, ReleasesFullFrames};
 
-/// A body is judged as the table says, which has no reader in it: where a unit is good, the first slot that isn't a good regular frame, and the
-/// verdicts line by line. The offset where the body begins doesn't matter.
+/// A body is judged as the table says, which has no reader in it: where a unit is good, the first
+/// slot that isn't a good regular frame, and the verdicts line by line. The offset where the body
+/// begins doesn't matter.
 pub fn bodies_are_judged_by_the_table()
     ensures frames { JudgesFramesByTheTable }
     ensures block { JudgesBlocksByTheTable }
@@ -30,7 +31,8 @@ pub fn fronts_go_on()
     ensures { FrontsAreGoing }
 {}
 
-/// A body that was written is whole, its units are the pieces of the text, and these, joined, are the text. A single block likewise.
+/// A body that was written is whole, its units are the pieces of the text, and these, joined, are
+/// the text. A single block likewise.
 pub fn written_bodies_are_whole()
     ensures frames { FramedBodiesAreWhole }
     ensures text { PiecesAreTheText }

@@ -1,8 +1,9 @@
-//! The body of a message: its units one after another, and what is said of any bytes that are to be one.
-//! Standard: AWS Encryption SDK Specification, message body.
+//! The body of a message: its units one after another, and what is said of any bytes that are to be
+//! one. Standard: AWS Encryption SDK Specification, message body.
 //!
-//! `specs/Body.antt` says how any bytes are judged, over the units' readers of `frame_codec`; `specs/Table.antt` says it a second time by the
-//! fields alone; `specs/Written.antt` says how a text is written in frames. The crate has no code but laws about these.
+//! `specs/Body.antt` says how any bytes are judged, over the units' readers of `frame_codec`;
+//! `specs/Table.antt` says it a second time by the fields alone; `specs/Written.antt` says how a
+//! text is written in frames. The crate has no code but laws about these.
 #![tactic(auto)]
 
 mod laws;

@@ -9,9 +9,11 @@ use cmm_default::DefaultCmm;
 use keyring_trait::Keyring;
 use std::alloc::Global;
 
-/// The manager of a keyring, with a cache of 100 entries. One entry serves for five minutes, and for 1,000 messages of 2^30 bytes in all.
+/// The manager of a keyring, with a cache of 100 entries. One entry serves for five minutes, and
+/// for 1,000 messages of 2^30 bytes in all.
 ///
-/// Limits out of their ranges would be None, and None switches the cache off: here the contract says that they aren't.
+/// Limits out of their ranges would be None, and None switches the cache off: here the contract
+/// says that they aren't.
 pub(crate) fn cached_manager<K: Keyring>(
     alloc: Global,
     ring: K,

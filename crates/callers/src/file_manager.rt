@@ -14,7 +14,8 @@ use keyring_trait::Keyring;
 use multi_keyring::Node;
 use std::alloc::Global;
 
-/// The manager of the keyring tree that a file describes, in which the file names the plug as a leaf; it requires these keys of every context.
+/// The manager of the keyring tree that a file describes, in which the file names the plug as a
+/// leaf; it requires these keys of every context.
 pub(crate) fn file_manager<P: Keyring>(
     alloc: Global,
     file: &[u8],

@@ -1,6 +1,8 @@
-//! Callers to copy: who takes the library finds here one short function for each of its uses. `docs/CALLING.md` shows them.
+//! Callers to copy: who takes the library finds here one short function for each of its uses.
+//! `docs/CALLING.md` shows them.
 //!
-//! The program calls each of them once, and compares what comes of it with a message that another implementation of the format made.
+//! The program calls each of them once, and compares what comes of it with a message that another
+//! implementation of the format made.
 #![tactic(auto)]
 
 mod cached_manager;

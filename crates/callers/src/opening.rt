@@ -14,10 +14,13 @@ use keyring_trait::Manager;
 use std::alloc::Global;
 use stream_open::{OpenError, Opener};
 
-/// Opens a message that comes in pieces, of a writer who required that these pairs are given. `now` is the moment in seconds, for a manager with a cache.
+/// Opens a message that comes in pieces, of a writer who required that these pairs are given. `now`
+/// is the moment in seconds, for a manager with a cache.
 ///
-/// At Ok all pieces, one behind the other, are one whole message, the output gained its text, and this is its whole context. Each content is written as soon as
-/// it is authenticated; where there is an error, what was written is a front of the text, and no one knows that the message ends there.
+/// At Ok all pieces, one behind the other, are one whole message, the output gained its text, and
+/// this is its whole context. Each content is written as soon as it is authenticated; where there
+/// is an error, what was written is a front of the text, and no one knows that the message ends
+/// there.
 pub(crate) fn open_pieces<M: Manager, O: Sink>(
     alloc: Global,
     manager: &mut M,
@@ -26,7 +29,8 @@ pub(crate) fn open_pieces<M: Manager, O: Sink>(
     pieces: &[&[u8]],
     output: &mut O,
 ) -> Result<Context, CallError>
-    ensures whole { IfOk result (λ context. OpensWhole no_limits (concat (map (λ piece. piece.now) pieces.now)) context
+    ensures whole { IfOk result (λ context. OpensWhole no_limits
+        (concat (map (λ piece. piece.now) pieces.now)) context
         (O.state output.old).written (O.state output.new).written) }
 {
     let mut opener = Opener::new(alloc, Settings::none(), given);
@@ -54,7 +58,8 @@ fn open_piece<M: Manager, O: Sink>(
     ensures going { OnOk result (IsGoing opener.new) }
     ensures taken { (settings : Settings) (bytes : List ℕ) (before : Option (List ℕ))
         → IsTaken settings bytes before (O.state output.old).written opener.old
-        → OnOk result (IsTaken settings (bytes ++ piece.now) before (O.state output.new).written opener.new) }
+        → OnOk result (IsTaken settings (bytes ++ piece.now) before
+        (O.state output.new).written opener.new) }
 {
     let mut left = piece;
     while !left.is_empty() {

@@ -32,7 +32,8 @@ impl<K> CountedRing<K> {
     }
 }
 
-/// To its callers it is the keyring that it asks: it means the same, and so each clause of the trait is the other keyring's.
+/// To its callers it is the keyring that it asks: it means the same, and so each clause of the
+/// trait is the other keyring's.
 impl<K: Keyring> Keyring for CountedRing<K> {
     ghost meaning = { λ counted. K.meaning counted.ring };
 
@@ -62,8 +63,10 @@ impl<K: Keyring> Keyring for CountedRing<K> {
         entries: &[DataKeyEntry],
     ) -> Result<Option<DataKey>, RingError>
         ensures goes { KeyringGoes (K.meaning self.old.ring) (K.meaning self.new.ring) }
-        ensures opens { IfOk result (Opens (K.meaning self.old.ring) (K.meaning self.new.ring) context.now entries.now) }
-        ensures cause { IfErr result (UnwrapCause (K.meaning self.old.ring).faults (K.meaning self.new.ring).faults) }
+        ensures opens { IfOk result (Opens (K.meaning self.old.ring)
+            (K.meaning self.new.ring) context.now entries.now) }
+        ensures cause { IfErr result (UnwrapCause (K.meaning self.old.ring).faults
+            (K.meaning self.new.ring).faults) }
         ensures counted { self.new.asked ≡ min (self.old.asked + 1) (2 ^ 64 - 1) }
     {
         self.asked = self.asked.saturating_add(1);

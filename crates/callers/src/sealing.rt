@@ -17,8 +17,9 @@ use keyring_trait::{EncMaterials, EncRequest, Keyring, Manager};
 use std::alloc::Global;
 use stream_seal::Sealer;
 
-/// The materials of one message over this context: a data key, which is the first 32 of the random bytes, wrapped by the keyring. A cryptographic generator
-/// has to give the random bytes, anew for each message: 32, and 12 for each entry that the keyring makes.
+/// The materials of one message over this context: a data key, which is the first 32 of the random
+/// bytes, wrapped by the keyring. A cryptographic generator has to give the random bytes, anew for
+/// each message: 32, and 12 for each entry that the keyring makes.
 pub(crate) fn materials_for<K: Keyring>(
     alloc: Global,
     ring: K,
@@ -35,8 +36,9 @@ pub(crate) fn materials_for<K: Keyring>(
     Ok(manager.for_encryption(alloc, &request, 0, random)?)
 }
 
-/// Seals a text that comes in pieces, in frames of `frame_length` bytes: at Ok the output gained the message of all pieces, one behind the other.
-/// The message id has to be random, and is used once. Where there is an error, what was written is no message, and is to be thrown away.
+/// Seals a text that comes in pieces, in frames of `frame_length` bytes: at Ok the output gained
+/// the message of all pieces, one behind the other. The message id has to be random, and is used
+/// once. Where there is an error, what was written is no message, and is to be thrown away.
 pub(crate) fn seal_pieces<O: Sink>(
     alloc: Global,
     materials: &EncMaterials,
@@ -47,7 +49,8 @@ pub(crate) fn seal_pieces<O: Sink>(
 ) -> Result<(), CallError>
     requires some { 1 ≤ frame_length }
     ensures message { OnOk result (Appends (O.state output.old).written (O.state output.new).written
-        (message_of materials.now frame_length message_id.now (concat (map (λ piece. piece.now) pieces.now)))) }
+        (message_of materials.now frame_length message_id.now
+        (concat (map (λ piece. piece.now) pieces.now)))) }
 {
     let mut sealer = Sealer::begin(alloc, materials, None, frame_length, None, message_id)?;
     output.put(sealer.header())?;
@@ -62,7 +65,8 @@ pub(crate) fn seal_pieces<O: Sink>(
 /// Feeds one piece: each step takes some of it, or gives a frame that is full.
 fn seal_piece<O: Sink>(sealer: &mut Sealer, piece: &[u8], output: &mut O) -> Result<(), CallError>
     ensures { (v : SealingValue) → Stands sealer.old v → IsFed v
-        → OnOk result (TakesPiece v piece.now (O.state output.old).written (O.state output.new).written sealer.new) }
+        → OnOk result (TakesPiece v piece.now (O.state output.old).written
+        (O.state output.new).written sealer.new) }
 {
     let mut left = piece;
     while !left.is_empty() {

@@ -1,4 +1,5 @@
-//! Each caller called once, over a message that another implementation of the format made over OpenSSL.
+//! Each caller called once, over a message that another implementation of the format made over
+//! OpenSSL.
 
 use crate::cached_manager::cached_manager;
 use crate::errors::CallError;
@@ -15,8 +16,9 @@ use keyring_trait::{Keyring, Manager};
 use raw_aes_keyring::RawAes;
 use std::alloc::Global;
 
-/// Nine bytes, `123456789`, in three frames of 4. The header ends at 169. The key has the namespace `ns`, the name `k` and the bytes 00 to 1f;
-/// the message id, the data key and its initialization vector are all bytes 22.
+/// Nine bytes, `123456789`, in three frames of 4. The header ends at 169. The key has the namespace
+/// `ns`, the name `k` and the bytes 00 to 1f; the message id, the data key and its initialization
+/// vector are all bytes 22.
 const NINE_BYTES: &[u8] =
     b"\x02\x04\x78\x22\x22\x22\x22\x22\x22\x22\x22\x22\x22\x22\x22\x22\x22\x22\x22\x22\x22\x22\x22\x22\
     \x22\x22\x22\x22\x22\x22\x22\x22\x22\x22\x22\x00\x00\x00\x01\x00\x02\x6e\x73\x00\x15\x6b\x00\x00\

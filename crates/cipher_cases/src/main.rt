@@ -1,4 +1,5 @@
-//! `cipher_cases` reads calls of the ciphers from its input, one a line, and prints what each answers.
+//! `cipher_cases` reads calls of the ciphers from its input, one a line, and prints what each
+//! answers.
 //!
 //! A line is a name, a verb and the verb's arguments, with one space between any two. The program
 //! prints the name and the answer. A line that can't be read ends it with status 1, and a last line
@@ -19,8 +20,8 @@
 //! | `commitment KEY ID` | the commitment to a data key |
 //! | `suite ID` | `known` or `unknown` |
 //!
-//! An argument is bytes: `-` for none, `@SEED:LENGTH` for made ones, else hexadecimal digits. Bytes are
-//! printed as `shown` says.
+//! An argument is bytes: `-` for none, `@SEED:LENGTH` for made ones, else hexadecimal digits. Bytes
+//! are printed as `shown` says.
 #![tactic(auto)]
 
 mod bytes;

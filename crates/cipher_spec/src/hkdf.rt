@@ -18,18 +18,22 @@ pub fn hmac_bytes()
 
 /// HKDF derives as many bytes as are asked for.
 pub fn hkdf_length()
-    ensures short { (ikm salt info : List ℕ) (count : ℕ) → length (hkdf256 ikm salt info count) ≡ count }
-    ensures long { (ikm salt info : List ℕ) (count : ℕ) → length (hkdf512 ikm salt info count) ≡ count }
+    ensures short { (ikm salt info : List ℕ) (count : ℕ)
+        → length (hkdf256 ikm salt info count) ≡ count }
+    ensures long { (ikm salt info : List ℕ) (count : ℕ)
+        → length (hkdf512 ikm salt info count) ≡ count }
 {}
 
 /// What HKDF derives is made of bytes.
 pub fn hkdf_bytes()
-    ensures short { (ikm salt info : List ℕ) (count : ℕ) → All (λ b. b < 256) (hkdf256 ikm salt info count) }
-    ensures long { (ikm salt info : List ℕ) (count : ℕ) → All (λ b. b < 256) (hkdf512 ikm salt info count) }
+    ensures short { (ikm salt info : List ℕ) (count : ℕ)
+        → All (λ b. b < 256) (hkdf256 ikm salt info count) }
+    ensures long { (ikm salt info : List ℕ) (count : ℕ)
+        → All (λ b. b < 256) (hkdf512 ikm salt info count) }
 {}
 
-/// The empty salt means what RFC 5869 says of a salt that is not given: as many zeros as a digest has
-/// bytes (section 2.2).
+/// The empty salt means what RFC 5869 says of a salt that is not given: as many zeros as a digest
+/// has bytes (section 2.2).
 pub fn hkdf_without_salt()
     ensures short { (ikm info : List ℕ) (count : ℕ)
         → hkdf256 ikm [] info count ≡ hkdf256 ikm (replicate 32 0) info count }

@@ -1,6 +1,7 @@
 //! The ciphers as their standards define them, and the laws that callers want of them.
 //!
-//! The definitions stand in `specs/`; a law is a function with an empty body, whose contract is the law.
+//! The definitions stand in `specs/`; a law is a function with an empty body, whose contract is the
+//! law.
 #![tactic(auto)]
 
 pub mod aes;

@@ -18,7 +18,8 @@ use std::alloc::{AllocError, Global};
 use std::marker::Model;
 use std::num::NonZeroUsize;
 
-/// The entries of the cache under their names, the last used first, and the number of the next entry. A contract sees a `Store`.
+/// The entries of the cache under their names, the last used first, and the number of the next
+/// entry. A contract sees a `Store`.
 #[derive(Drop)]
 pub(crate) struct Cache {
     limits: CacheLimits,
@@ -33,7 +34,12 @@ impl Model for Cache {
 
     ghost Value = { Store };
 
-    ghost view = { λ c. record { limits = c.limits; width = c.width; entries = c.entries.entries; next = c.next } };
+    ghost view = { λ c. record {
+      limits = c.limits;
+      width = c.width;
+      entries = c.entries.entries;
+      next = c.next;
+    } };
 
     ghost invariant = { λ c.
         (c.entries.cap ≡ c.limits.capacity)
@@ -41,7 +47,8 @@ impl Model for Cache {
 }
 
 impl Cache {
-    /// The cache with these limits and no entry, for a manager that makes so many encrypted data keys. Fails only where memory runs out.
+    /// The cache with these limits and no entry, for a manager that makes so many encrypted data
+    /// keys. Fails only where memory runs out.
     pub(crate) fn new(alloc: Global, limits: CacheLimits, width: u32) -> Result<Cache, AllocError>
         ensures { IfOk result (λ c. c ≡ tallied limits width empty) }
     {
@@ -54,7 +61,8 @@ impl Cache {
         })
     }
 
-    /// Whether a manager that makes so many encrypted data keys isn't the one that the cache was made for.
+    /// Whether a manager that makes so many encrypted data keys isn't the one that the cache was
+    /// made for.
     pub(crate) fn is_past(&self, wraps: u32) -> bool
         ensures past { result ≡ is_past wraps self.now }
         ensures sound { Sound self.now }
@@ -62,16 +70,19 @@ impl Cache {
         wraps != self.width
     }
 
-    /// Whether a request goes past the cache: to encrypt, where its length isn't declared or is above the limit; and any, once 2^63 entries were made.
+    /// Whether a request goes past the cache: to encrypt, where its length isn't declared or is
+    /// above the limit; and any, once 2^63 entries were made.
     pub(crate) fn is_direct(&self, seal: bool, declared: Option<u64>) -> bool
-        ensures direct { result ≡ ((seal && is_over self.now.limits declared) || nat_lt (2 ^ 63) self.now.next) }
+        ensures direct { result ≡ ((seal && is_over self.now.limits declared) || nat_lt
+            (2 ^ 63) self.now.next) }
         ensures sound { Sound self.now }
     {
         (seal && self.limits.is_over(declared)) || self.next > 1 << 63
     }
 
-    /// The materials and the number of the entry of that name, where it serves. It gains this use and becomes the last used.
-    /// Fails only where memory runs out, and leaves the cache as it was then.
+    /// The materials and the number of the entry of that name, where it serves. It gains this use
+    /// and becomes the last used. Fails only where memory runs out, and leaves the cache as it was
+    /// then.
     pub(crate) fn serve(
         &mut self,
         alloc: Global,
@@ -79,7 +90,8 @@ impl Cache {
         declared: Option<u64>,
         now: u64,
     ) -> Result<Option<(Given, u64)>, AllocError>
-        ensures hit { IfOk result (λ hit. hit ≡ option_map given_again (kept_for self.old (asked_for name.now declared) now)) }
+        ensures hit { IfOk result (λ hit. hit ≡ option_map given_again
+            (kept_for self.old (asked_for name.now declared) now)) }
         ensures ok { OnOk result (self.new ≡ after_look self.old (asked_for name.now declared) now) }
         ensures err { OnErr result (self.new ≡ self.old) }
         ensures fits { IfOk result (λ hit. IfSome hit (λ p. FitsName self.old.width name.now p.0)) }
@@ -99,8 +111,9 @@ impl Cache {
         Ok(Some((given, number)))
     }
 
-    /// Keeps materials as a new entry, the last used, and answers its number. It replaces an entry of the same name; else the one that wasn't used for the longest
-    /// time drops, where the cache is full. Fails only where memory runs out, and leaves the cache as it was then.
+    /// Keeps materials as a new entry, the last used, and answers its number. It replaces an entry
+    /// of the same name; else the one that wasn't used for the longest time drops, where the cache
+    /// is full. Fails only where memory runs out, and leaves the cache as it was then.
     pub(crate) fn keep(
         &mut self,
         name: Name,
@@ -145,18 +158,22 @@ fn look<'a>(entries: &'a LruCache<Name, Kept>, name: &Name) -> Option<&'a Kept>
 
 /// Adds a use to the entry of that name, which becomes the last used.
 fn use_again(entries: &mut LruCache<Name, Kept>, name: &Name, declared: Option<u64>)
-    requires { (k : Kept) → lookup (name_eq name.now) entries.old.entries ≡ Some k → HasRoom declared k }
+    requires { (k : Kept) → lookup (name_eq name.now) entries.old.entries ≡ Some k
+        → HasRoom declared k }
     ensures { (k : Kept) → lookup (name_eq name.now) entries.old.entries ≡ Some k
-        → entries.new ≡ lru_cache (moved name.now (used_again declared k) entries.old.entries) entries.old.cap }
+        → entries.new ≡ lru_cache (moved name.now (used_again declared k) entries.old.entries)
+        entries.old.cap }
 {
     if let Some(kept) = entries.get_mut(name) {
         kept.use_again(declared);
     }
 }
 
-/// Puts an entry first, as the last used. Fails only where memory runs out, and leaves the entries as they were then.
+/// Puts an entry first, as the last used. Fails only where memory runs out, and leaves the entries
+/// as they were then.
 fn put_first(entries: &mut LruCache<Name, Kept>, name: Name, kept: Kept) -> Result<(), AllocError>
-    ensures ok { OnOk result (entries.new ≡ lru_cache (put_first entries.old.cap name kept entries.old.entries) entries.old.cap) }
+    ensures ok { OnOk result (entries.new ≡ lru_cache
+        (put_first entries.old.cap name kept entries.old.entries) entries.old.cap) }
     ensures err { OnErr result (entries.new ≡ entries.old) }
 {
     entries.put(name, kept)?;

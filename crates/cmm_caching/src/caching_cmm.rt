@@ -23,11 +23,14 @@ use keyring_trait::{
 use std::alloc::{AllocError, Global};
 use std::marker::Model;
 
-/// The materials manager that keeps the materials of another one, and serves the same request from them for a while. Without limits it keeps none.
+/// The materials manager that keeps the materials of another one, and serves the same request from
+/// them for a while. Without limits it keeps none.
 ///
-/// The cache is a list of entries, the last used first. An entry has a name, a number from 1 on, the moment when it was made, its materials, and its uses, which are
-/// the encryptions that it gave. Its name is the whole request: to encrypt, the context and the required keys; to decrypt, the suite, the stored pairs, the given
-/// pairs and all encrypted data keys. Names are compared as values.
+/// The cache is a list of entries, the last used first. An entry has a name, a number from 1 on,
+/// the moment when it was made, its materials, and its uses, which are the encryptions that it
+/// gave. Its name is the whole request: to encrypt, the context and the required keys; to decrypt,
+/// the suite, the stored pairs, the given pairs and all encrypted data keys. Names are compared as
+/// values.
 ///
 /// A contract sees the inner manager, and the cache where there is one.
 #[derive(Drop)]
@@ -46,7 +49,8 @@ impl<M> Model for CachingCmm<M> {
 }
 
 impl<M: Manager> CachingCmm<M> {
-    /// The manager over this inner one, with no entry yet. None switches the cache off. Fails only where memory runs out.
+    /// The manager over this inner one, with no entry yet. None switches the cache off. Fails only
+    /// where memory runs out.
     pub fn new(
         alloc: Global,
         inner: M,
@@ -55,9 +59,11 @@ impl<M: Manager> CachingCmm<M> {
         ensures inner { IfOk result (λ c. c.0 ≡ inner) }
         ensures limits { IfOk result (λ c. limits_of c.1 ≡ limits) }
         ensures stands { IfOk result (λ c. StandsFor (M.meaning inner).wraps c.1 empty) }
-        ensures tells { IfOk result (λ c. (keys : List WrapKeyValue) → M.tells inner keys → (M.meaning inner).steady ≡ true
+        ensures tells { IfOk result (λ c. (keys : List WrapKeyValue) → M.tells inner keys
+            → (M.meaning inner).steady ≡ true
             → CachingTells c.1 (M.meaning inner) (M.tells inner) keys) }
-        ensures exact { IfOk result (λ c. M.exact inner → CachingExact c.1 (M.meaning inner) (M.exact inner)) }
+        ensures exact { IfOk result (λ c. M.exact inner
+            → CachingExact c.1 (M.meaning inner) (M.exact inner)) }
     {
         let cache = match limits {
             Some(limits) => Some(Cache::new(alloc, limits, inner.wraps())?),
@@ -73,26 +79,32 @@ impl<M: Manager> CachingCmm<M> {
         self.inner
     }
 
-    /// A journal of what this manager served, one line for each answer, is within the limits: no entry served beyond its age, nor for more encryptions or bytes than the
-    /// limits say. Without a cache everything was served directly. It has no work to do, and takes no memory.
+    /// A journal of what this manager served, one line for each answer, is within the limits: no
+    /// entry served beyond its age, nor for more encryptions or bytes than the limits say. Without
+    /// a cache everything was served directly. It has no work to do, and takes no memory.
     pub fn journal_within(&self, lines: &[JournalLine])
         requires { BearsWith self.now.1 lines.now }
         ensures { KeepsWithin (limits_of self.now.1) lines.now }
     {}
 }
 
-/// A request is direct where the cache is off, where it is to encrypt and its length isn't declared or is above the limit, and once 2^63 entries were made; also to
-/// encrypt, where the inner manager makes another number of encrypted data keys than it did at first, which no manager does. The inner manager answers it, the cache
-/// stays, and it is served `Direct`.
+/// A request is direct where the cache is off, where it is to encrypt and its length isn't declared
+/// or is above the limit, and once 2^63 entries were made; also to encrypt, where the inner manager
+/// makes another number of encrypted data keys than it did at first, which no manager does. The
+/// inner manager answers it, the cache stays, and it is served `Direct`.
 ///
-/// An entry of the request's name serves exactly where the moment is at least the one when it was made, and less than the age later; and, to encrypt, where its uses and
-/// one more are within the limit, and so is the sum of their lengths with this one. It becomes the last used, gains this use, and `Served` is `Hit` with its number.
-/// The inner manager isn't asked then, and nothing but want of memory is an error.
+/// An entry of the request's name serves exactly where the moment is at least the one when it was
+/// made, and less than the age later; and, to encrypt, where its uses and one more are within the
+/// limit, and so is the sum of their lengths with this one. It becomes the last used, gains this
+/// use, and `Served` is `Hit` with its number. The inner manager isn't asked then, and nothing but
+/// want of memory is an error.
 ///
-/// Else the inner manager is asked, and its materials become a new entry, the last used. An entry of the same name is replaced; else the one that wasn't used for the
-/// longest time drops, where the cache is full. `Served` is `New` with the number.
+/// Else the inner manager is asked, and its materials become a new entry, the last used. An entry
+/// of the same name is replaced; else the one that wasn't used for the longest time drops, where
+/// the cache is full. `Served` is `New` with the number.
 ///
-/// What the inner manager refuses is refused. After any error, `Memory` too, the cache is as before.
+/// What the inner manager refuses is refused. After any error, `Memory` too, the cache is as
+/// before.
 impl<M: Manager> Manager for CachingCmm<M> {
     ghost meaning = { λ m. caching_meaning m.1 (M.meaning m.0) };
 
@@ -125,30 +137,41 @@ impl<M: Manager> Manager for CachingCmm<M> {
         random: &[u8],
     ) -> Result<EncMaterials, ManagerError>
         requires { length random.now ≡ 32 + 12 * (M.meaning self.old.0).wraps }
-        ensures goes { ManagerGoes (caching_meaning self.old.1 (M.meaning self.old.0)) (caching_meaning self.new.1 (M.meaning self.new.0)) }
-        ensures tells { TellsOn (CachingTells self.old.1 (M.meaning self.old.0) (M.tells self.old.0)) (CachingTells self.new.1 (M.meaning self.new.0) (M.tells self.new.0)) }
+        ensures goes { ManagerGoes (caching_meaning self.old.1 (M.meaning self.old.0))
+            (caching_meaning self.new.1 (M.meaning self.new.0)) }
+        ensures tells { TellsOn (CachingTells self.old.1 (M.meaning self.old.0)
+            (M.tells self.old.0)) (CachingTells self.new.1 (M.meaning self.new.0)
+            (M.tells self.new.0)) }
         ensures same { (caching_meaning self.old.1 (M.meaning self.old.0)).plain ≡ true
-            → TellsOn (CachingTells self.new.1 (M.meaning self.new.0) (M.tells self.new.0)) (CachingTells self.old.1 (M.meaning self.old.0) (M.tells self.old.0)) }
+            → TellsOn (CachingTells self.new.1 (M.meaning self.new.0) (M.tells self.new.0))
+            (CachingTells self.old.1 (M.meaning self.old.0) (M.tells self.old.0)) }
         ensures exact { CachingExact self.old.1 (M.meaning self.old.0) (M.exact self.old.0)
             → CachingExact self.new.1 (M.meaning self.new.0) (M.exact self.new.0) }
         ensures gives { IfOk result (GivesMaterials
             (caching_meaning self.old.1 (M.meaning self.old.0))
             (CachingTells self.old.1 (M.meaning self.old.0) (M.tells self.old.0))
-            (CachingExact self.old.1 (M.meaning self.old.0) (M.exact self.old.0)) request.now random.now) }
+            (CachingExact self.old.1 (M.meaning self.old.0) (M.exact self.old.0)) request.now
+            random.now) }
         ensures cause { IfErr result (GivesNone
-            (caching_meaning self.old.1 (M.meaning self.old.0)) (caching_meaning self.new.1 (M.meaning self.new.0))
+            (caching_meaning self.old.1 (M.meaning self.old.0))
+            (caching_meaning self.new.1 (M.meaning self.new.0))
             (CachingExact self.old.1 (M.meaning self.old.0) (M.exact self.old.0)) request.now) }
-        ensures bears { BearsOn (BearsWith self.old.1) (BearsWith self.new.1) Seal now request.now.declared enc_served result }
-        ensures within { (lines : List JournalLine) → KeepsWithin (limits_of self.new.1) lines → KeepsWithin (limits_of self.old.1) lines }
+        ensures bears { BearsOn (BearsWith self.old.1)
+            (BearsWith self.new.1) Seal now request.now.declared enc_served result }
+        ensures within { (lines : List JournalLine) → KeepsWithin (limits_of self.new.1) lines
+            → KeepsWithin (limits_of self.old.1) lines }
         ensures gave { IfOk result (CachingGave (M.gave self.new.0 request.now now random.now)) }
         ensures answers { (s : State) → StandsFor (M.meaning self.old.0).wraps self.old.1 s
             → AnswersAs enc_handed (limits_of self.old.1) s (enc_wish request.now) now result }
         ensures stands { (s : State) → StandsFor (M.meaning self.old.0).wraps self.old.1 s
-            → StandsAfter enc_handed (limits_of self.old.1) (M.meaning self.new.0).wraps self.new.1 s (enc_wish request.now) now result }
+            → StandsAfter enc_handed (limits_of self.old.1)
+            (M.meaning self.new.0).wraps self.new.1 s (enc_wish request.now) now result }
         ensures spares { (s : State) → StandsFor (M.meaning self.old.0).wraps self.old.1 s
-            → WhereAnswered (limits_of self.old.1) s (enc_wish request.now) now (self.new.0 ≡ self.old.0) }
+            → WhereAnswered (limits_of self.old.1) s (enc_wish request.now) now
+            (self.new.0 ≡ self.old.0) }
         ensures certain { (s : State) → StandsFor (M.meaning self.old.0).wraps self.old.1 s
-            → WhereAnswered (limits_of self.old.1) s (enc_wish request.now) now (IfErr result (λ error. error ≡ Memory)) }
+            → WhereAnswered (limits_of self.old.1) s (enc_wish request.now) now
+            (IfErr result (λ error. error ≡ Memory)) }
         ensures limits { limits_of self.new.1 ≡ limits_of self.old.1 }
     {
         seal(
@@ -167,31 +190,42 @@ impl<M: Manager> Manager for CachingCmm<M> {
         request: &DecRequest,
         now: u64,
     ) -> Result<DecMaterials, ManagerError>
-        ensures goes { ManagerGoes (caching_meaning self.old.1 (M.meaning self.old.0)) (caching_meaning self.new.1 (M.meaning self.new.0)) }
-        ensures tells { TellsOn (CachingTells self.old.1 (M.meaning self.old.0) (M.tells self.old.0)) (CachingTells self.new.1 (M.meaning self.new.0) (M.tells self.new.0)) }
+        ensures goes { ManagerGoes (caching_meaning self.old.1 (M.meaning self.old.0))
+            (caching_meaning self.new.1 (M.meaning self.new.0)) }
+        ensures tells { TellsOn (CachingTells self.old.1 (M.meaning self.old.0)
+            (M.tells self.old.0)) (CachingTells self.new.1 (M.meaning self.new.0)
+            (M.tells self.new.0)) }
         ensures same { (caching_meaning self.old.1 (M.meaning self.old.0)).plain ≡ true
-            → TellsOn (CachingTells self.new.1 (M.meaning self.new.0) (M.tells self.new.0)) (CachingTells self.old.1 (M.meaning self.old.0) (M.tells self.old.0)) }
+            → TellsOn (CachingTells self.new.1 (M.meaning self.new.0) (M.tells self.new.0))
+            (CachingTells self.old.1 (M.meaning self.old.0) (M.tells self.old.0)) }
         ensures exact { CachingExact self.old.1 (M.meaning self.old.0) (M.exact self.old.0)
             → CachingExact self.new.1 (M.meaning self.new.0) (M.exact self.new.0) }
         ensures finds { IfOk result (FindsMaterials
-            (caching_meaning self.old.1 (M.meaning self.old.0)) (caching_meaning self.new.1 (M.meaning self.new.0))
+            (caching_meaning self.old.1 (M.meaning self.old.0))
+            (caching_meaning self.new.1 (M.meaning self.new.0))
             (CachingTells self.old.1 (M.meaning self.old.0) (M.tells self.old.0))
             (CachingExact self.old.1 (M.meaning self.old.0) (M.exact self.old.0)) request.now) }
         ensures cause { IfErr result (FindsNone
-            (caching_meaning self.old.1 (M.meaning self.old.0)) (caching_meaning self.new.1 (M.meaning self.new.0))
+            (caching_meaning self.old.1 (M.meaning self.old.0))
+            (caching_meaning self.new.1 (M.meaning self.new.0))
             (CachingTells self.old.1 (M.meaning self.old.0) (M.tells self.old.0))
             (CachingExact self.old.1 (M.meaning self.old.0) (M.exact self.old.0)) request.now) }
-        ensures bears { BearsOn (BearsWith self.old.1) (BearsWith self.new.1) Unseal now None dec_served result }
-        ensures within { (lines : List JournalLine) → KeepsWithin (limits_of self.new.1) lines → KeepsWithin (limits_of self.old.1) lines }
+        ensures bears { BearsOn (BearsWith self.old.1)
+            (BearsWith self.new.1) Unseal now None dec_served result }
+        ensures within { (lines : List JournalLine) → KeepsWithin (limits_of self.new.1) lines
+            → KeepsWithin (limits_of self.old.1) lines }
         ensures found { IfOk result (CachingFound (M.found self.new.0 request.now now)) }
         ensures answers { (s : State) → StandsFor (M.meaning self.old.0).wraps self.old.1 s
             → AnswersAs dec_handed (limits_of self.old.1) s (dec_wish request.now) now result }
         ensures stands { (s : State) → StandsFor (M.meaning self.old.0).wraps self.old.1 s
-            → StandsAfter dec_handed (limits_of self.old.1) (M.meaning self.new.0).wraps self.new.1 s (dec_wish request.now) now result }
+            → StandsAfter dec_handed (limits_of self.old.1)
+            (M.meaning self.new.0).wraps self.new.1 s (dec_wish request.now) now result }
         ensures spares { (s : State) → StandsFor (M.meaning self.old.0).wraps self.old.1 s
-            → WhereAnswered (limits_of self.old.1) s (dec_wish request.now) now (self.new.0 ≡ self.old.0) }
+            → WhereAnswered (limits_of self.old.1) s (dec_wish request.now) now
+            (self.new.0 ≡ self.old.0) }
         ensures certain { (s : State) → StandsFor (M.meaning self.old.0).wraps self.old.1 s
-            → WhereAnswered (limits_of self.old.1) s (dec_wish request.now) now (IfErr result (λ error. error ≡ Memory)) }
+            → WhereAnswered (limits_of self.old.1) s (dec_wish request.now) now
+            (IfErr result (λ error. error ≡ Memory)) }
         ensures limits { limits_of self.new.1 ≡ limits_of self.old.1 }
     {
         open(&mut self.cache, &mut self.inner, alloc, request, now)

@@ -10,7 +10,8 @@ use keyring_trait::{DataKey, DecMaterials, EncMaterials, Served};
 use std::alloc::{AllocError, Global};
 use std::marker::Model;
 
-/// Materials to encrypt or to decrypt with, all but how they were served. A contract sees a `GivenValue`.
+/// Materials to encrypt or to decrypt with, all but how they were served. A contract sees a
+/// `GivenValue`.
 #[derive(Drop)]
 pub(crate) struct Given {
     context: Context,
@@ -25,7 +26,14 @@ impl Model for Given {
 
     ghost Value = { GivenValue };
 
-    ghost view = { λ g. record { context = g.context; only = g.only; required = g.required; key = g.key; entries = g.entries.items } };
+    ghost view = { λ g. record {
+      context = g.context;
+      only = g.only;
+      required = g.required;
+      key =
+          g.key;
+      entries = g.entries.items;
+    } };
 }
 
 impl Given {

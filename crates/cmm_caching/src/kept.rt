@@ -5,7 +5,8 @@ ghost use Rattle.cmm_caching.specs.Store.{fresh_kept, used_again, HasRoom};
 
 use crate::given::Given;
 
-/// An entry of the cache: its number, the moment when it was made, its materials, how many encryptions it gave, and how many bytes these have together.
+/// An entry of the cache: its number, the moment when it was made, its materials, how many
+/// encryptions it gave, and how many bytes these have together.
 #[derive(Drop)]
 pub(crate) struct Kept {
     /// The number of the entry.

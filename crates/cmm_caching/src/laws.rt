@@ -7,7 +7,8 @@ pub fn names_are_compared_as_values()
     ensures { ComparesValues }
 {}
 
-/// Whatever run of requests a cache answers, whatever is served from one entry is what the entry was made with.
+/// Whatever run of requests a cache answers, whatever is served from one entry is what the entry
+/// was made with.
 pub fn hits_give_what_was_made()
     ensures { GivesWhatWasMade }
 {}

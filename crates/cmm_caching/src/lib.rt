@@ -1,8 +1,11 @@
-//! The caching materials manager: it keeps the materials that another manager gives, and serves the same request from them for a while.
+//! The caching materials manager: it keeps the materials that another manager gives, and serves the
+//! same request from them for a while.
 //!
-//! The definitions stand in `specs/`: `Names` is what a request is known by, `Ask` what a cache answers, `Limits` and `Journal` what bounds the use of its
-//! entries, `CachingCmm` what the manager means to its callers, `Holding` what it keeps of its entries, and `Laws` what is true of whole runs. `Store` is the cache as the code keeps it, and
-//! `Asked` says how an answer is the cache's.
+//! The definitions stand in `specs/`: `Names` is what a request is known by, `Ask` what a cache
+//! answers, `Limits` and `Journal` what bounds the use of its entries, `CachingCmm` what the
+//! manager means to its callers, `Holding` what it keeps of its entries, and `Laws` what is true of
+//! whole runs. `Store` is the cache as the code keeps it, and `Asked` says how an answer is the
+//! cache's.
 #![tactic(auto)]
 
 mod cache;

@@ -6,8 +6,9 @@ ghost use Rattle.cmm_caching.specs.Ask.{is_young, fits, serves, is_over};
 
 use std::marker::Model;
 
-/// How many entries a cache holds; and for how many seconds, how many encryptions and how many bytes an entry serves. A contract sees a `LimitsValue`.
-/// AWS Encryption SDK Specification, "Caching CMM", Initialization.
+/// How many entries a cache holds; and for how many seconds, how many encryptions and how many
+/// bytes an entry serves. A contract sees a `LimitsValue`. AWS Encryption SDK Specification,
+/// "Caching CMM", Initialization.
 #[derive(Clone, Copy)]
 pub struct CacheLimits {
     capacity: u32,
@@ -21,21 +22,42 @@ impl Model for CacheLimits {
 
     ghost Value = { LimitsValue };
 
-    ghost view = { λ l. record { capacity = l.capacity; age = l.age; messages = l.messages; bytes = l.bytes } };
+    ghost view = { λ l. record {
+      capacity = l.capacity;
+      age = l.age;
+      messages = l.messages;
+      bytes =
+          l.bytes;
+    } };
 
-    ghost invariant = { λ l. AreLimits (record { capacity = l.capacity; age = l.age; messages = l.messages; bytes = l.bytes }) };
+    ghost invariant = { λ l. AreLimits (record {
+      capacity = l.capacity;
+      age = l.age;
+      messages =
+          l.messages;
+      bytes = l.bytes;
+    }) };
 
-    ghost inverse = { λ l. record { capacity = l.capacity; age = l.age; messages = l.messages; bytes = l.bytes } };
+    ghost inverse = { λ l. record {
+      capacity = l.capacity;
+      age = l.age;
+      messages = l.messages;
+      bytes
+          = l.bytes;
+    } };
 }
 
 impl CacheLimits {
     /// Limits of so many entries, seconds, encryptions and bytes.
     ///
-    /// None exactly where the capacity is 0 or above 65,536, the age is 0, the encryptions are 0 or above 2^32, or the bytes are above 2^63 - 1.
+    /// None exactly where the capacity is 0 or above 65,536, the age is 0, the encryptions are 0 or
+    /// above 2^32, or the bytes are above 2^63 - 1.
     pub fn new(capacity: u32, age: u64, messages: u64, bytes: u64) -> Option<CacheLimits>
-        ensures value { IfSome result (λ l. l ≡ record { capacity = capacity; age = age; messages = messages; bytes = bytes }) }
+        ensures value { IfSome result (λ l. l ≡ record
+            { capacity = capacity; age = age; messages = messages; bytes = bytes }) }
         ensures taken { IfSome result AreLimits }
-        ensures none { IsNone result → AreLimits (record { capacity = capacity; age = age; messages = messages; bytes = bytes }) → ⊥ }
+        ensures none { IsNone result → AreLimits (record
+            { capacity = capacity; age = age; messages = messages; bytes = bytes }) → ⊥ }
     {
         if capacity == 0 || capacity > 65_536 || age == 0 {
             return None;

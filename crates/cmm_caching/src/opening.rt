@@ -26,11 +26,14 @@ fn ask_to_open<M: Manager>(
 ) -> Result<Given, ManagerError>
     ensures goes { ManagerGoes (M.meaning inner.old) (M.meaning inner.new) }
     ensures tells { TellsOn (M.tells inner.old) (M.tells inner.new) }
-    ensures same { (M.meaning inner.old).plain ≡ true → TellsOn (M.tells inner.new) (M.tells inner.old) }
+    ensures same { (M.meaning inner.old).plain ≡ true
+        → TellsOn (M.tells inner.new) (M.tells inner.old) }
     ensures exact { M.exact inner.old → M.exact inner.new }
-    ensures cause { IfErr result (FindsNone (M.meaning inner.old) (M.meaning inner.new) (M.tells inner.old) (M.exact inner.old) request.now) }
+    ensures cause { IfErr result (FindsNone (M.meaning inner.old) (M.meaning inner.new)
+        (M.tells inner.old) (M.exact inner.old) request.now) }
     ensures fits { IfOk result (FitsUnseal (dec_name request.now)) }
-    ensures got { IfOk result (GaveToOpen (M.meaning inner.old) (M.meaning inner.new) (M.tells inner.old) (M.exact inner.old) request.now) }
+    ensures got { IfOk result (GaveToOpen (M.meaning inner.old) (M.meaning inner.new)
+        (M.tells inner.old) (M.exact inner.old) request.now) }
     ensures last { IfOk result (WasFound (M.found inner.new request.now now)) }
 {
     let found = inner.for_decryption(alloc, request, now)?;
@@ -46,12 +49,15 @@ fn open_directly<M: Manager>(
 ) -> Result<DecMaterials, ManagerError>
     ensures goes { ManagerGoes (M.meaning inner.old) (M.meaning inner.new) }
     ensures tells { TellsOn (M.tells inner.old) (M.tells inner.new) }
-    ensures same { (M.meaning inner.old).plain ≡ true → TellsOn (M.tells inner.new) (M.tells inner.old) }
+    ensures same { (M.meaning inner.old).plain ≡ true
+        → TellsOn (M.tells inner.new) (M.tells inner.old) }
     ensures exact { M.exact inner.old → M.exact inner.new }
-    ensures cause { IfErr result (FindsNone (M.meaning inner.old) (M.meaning inner.new) (M.tells inner.old) (M.exact inner.old) request.now) }
+    ensures cause { IfErr result (FindsNone (M.meaning inner.old) (M.meaning inner.new)
+        (M.tells inner.old) (M.exact inner.old) request.now) }
     ensures direct { IfOk result (λ m. m.served ≡ Direct) }
     ensures fits { IfOk result (λ m. FitsUnseal (dec_name request.now) (dec_given m)) }
-    ensures got { IfOk result (λ m. GaveToOpen (M.meaning inner.old) (M.meaning inner.new) (M.tells inner.old) (M.exact inner.old) request.now (dec_given m)) }
+    ensures got { IfOk result (λ m. GaveToOpen (M.meaning inner.old) (M.meaning inner.new)
+        (M.tells inner.old) (M.exact inner.old) request.now (dec_given m)) }
     ensures last { IfOk result (λ m. WasFound (M.found inner.new request.now now) (dec_given m)) }
 {
     let given = ask_to_open(inner, alloc, request, now)?;
@@ -72,12 +78,16 @@ fn open_new<M: Manager>(
     requires missing { kept_for cache.old (dec_wish request.now) now ≡ None }
     ensures goes { ManagerGoes (M.meaning inner.old) (M.meaning inner.new) }
     ensures tells { TellsOn (M.tells inner.old) (M.tells inner.new) }
-    ensures same { (M.meaning inner.old).plain ≡ true → TellsOn (M.tells inner.new) (M.tells inner.old) }
+    ensures same { (M.meaning inner.old).plain ≡ true
+        → TellsOn (M.tells inner.new) (M.tells inner.old) }
     ensures exact { M.exact inner.old → M.exact inner.new }
-    ensures cause { IfErr result (FindsNone (M.meaning inner.old) (M.meaning inner.new) (M.tells inner.old) (M.exact inner.old) request.now) }
+    ensures cause { IfErr result (FindsNone (M.meaning inner.old) (M.meaning inner.new)
+        (M.tells inner.old) (M.exact inner.old) request.now) }
     ensures asked { Asked dec_handed false cache.old cache.new (dec_wish request.now) now result }
     ensures fits { IfOk result (λ m. FitsUnseal (dec_name request.now) (dec_given m)) }
-    ensures got { IfOk result (λ m. NotHit m.served (GaveToOpen (M.meaning inner.old) (M.meaning inner.new) (M.tells inner.old) (M.exact inner.old) request.now (dec_given m))) }
+    ensures got { IfOk result (λ m. NotHit m.served
+        (GaveToOpen (M.meaning inner.old) (M.meaning inner.new) (M.tells inner.old)
+        (M.exact inner.old) request.now (dec_given m))) }
     ensures last { IfOk result (CachingFound (M.found inner.new request.now now)) }
 {
     let given = ask_to_open(inner, alloc, request, now)?;
@@ -85,7 +95,8 @@ fn open_new<M: Manager>(
     Ok(given.into_opening(Served::New(number)))
 }
 
-/// What an entry of the request's name gives, where it serves; else what the inner manager gives, kept as a new one.
+/// What an entry of the request's name gives, where it serves; else what the inner manager gives,
+/// kept as a new one.
 fn open_through<M: Manager>(
     cache: &mut Cache,
     inner: &mut M,
@@ -96,15 +107,21 @@ fn open_through<M: Manager>(
     requires kept { is_direct cache.old.limits (dec_wish request.now) cache.old.next ≡ false }
     ensures goes { ManagerGoes (M.meaning inner.old) (M.meaning inner.new) }
     ensures tells { TellsOn (M.tells inner.old) (M.tells inner.new) }
-    ensures same { (M.meaning inner.old).plain ≡ true → TellsOn (M.tells inner.new) (M.tells inner.old) }
+    ensures same { (M.meaning inner.old).plain ≡ true
+        → TellsOn (M.tells inner.new) (M.tells inner.old) }
     ensures exact { M.exact inner.old → M.exact inner.new }
-    ensures cause { IfErr result (FindsNone (M.meaning inner.old) (M.meaning inner.new) (M.tells inner.old) (M.exact inner.old) request.now) }
+    ensures cause { IfErr result (FindsNone (M.meaning inner.old) (M.meaning inner.new)
+        (M.tells inner.old) (M.exact inner.old) request.now) }
     ensures asked { Asked dec_handed false cache.old cache.new (dec_wish request.now) now result }
     ensures fits { IfOk result (λ m. FitsUnseal (dec_name request.now) (dec_given m)) }
-    ensures got { IfOk result (λ m. NotHit m.served (GaveToOpen (M.meaning inner.old) (M.meaning inner.new) (M.tells inner.old) (M.exact inner.old) request.now (dec_given m))) }
+    ensures got { IfOk result (λ m. NotHit m.served
+        (GaveToOpen (M.meaning inner.old) (M.meaning inner.new) (M.tells inner.old)
+        (M.exact inner.old) request.now (dec_given m))) }
     ensures last { IfOk result (CachingFound (M.found inner.new request.now now)) }
-    ensures spares { WhereKept (λ _. false) (Some cache.old) (dec_wish request.now) now (inner.new ≡ inner.old) }
-    ensures certain { WhereKept (λ _. false) (Some cache.old) (dec_wish request.now) now (IfErr result (λ error. error ≡ Memory)) }
+    ensures spares { WhereKept (λ _. false) (Some cache.old) (dec_wish request.now) now
+        (inner.new ≡ inner.old) }
+    ensures certain { WhereKept (λ _. false) (Some cache.old) (dec_wish request.now) now
+        (IfErr result (λ error. error ≡ Memory)) }
 {
     unasked(inner);
     let name = Name::to_decrypt(alloc, request)?;
@@ -124,16 +141,22 @@ fn open_kept<M: Manager>(
 ) -> Result<DecMaterials, ManagerError>
     ensures goes { ManagerGoes (M.meaning inner.old) (M.meaning inner.new) }
     ensures tells { TellsOn (M.tells inner.old) (M.tells inner.new) }
-    ensures same { (M.meaning inner.old).plain ≡ true → TellsOn (M.tells inner.new) (M.tells inner.old) }
+    ensures same { (M.meaning inner.old).plain ≡ true
+        → TellsOn (M.tells inner.new) (M.tells inner.old) }
     ensures exact { M.exact inner.old → M.exact inner.new }
-    ensures cause { IfErr result (FindsNone (M.meaning inner.old) (M.meaning inner.new) (M.tells inner.old) (M.exact inner.old) request.now) }
+    ensures cause { IfErr result (FindsNone (M.meaning inner.old) (M.meaning inner.new)
+        (M.tells inner.old) (M.exact inner.old) request.now) }
     ensures asked { Asked dec_handed false cache.old cache.new (dec_wish request.now) now result }
     ensures fits { IfOk result (λ m. FitsUnseal (dec_name request.now) (dec_given m)) }
-    ensures got { IfOk result (λ m. NotHit m.served (GaveToOpen (M.meaning inner.old) (M.meaning inner.new) (M.tells inner.old) (M.exact inner.old) request.now (dec_given m))) }
+    ensures got { IfOk result (λ m. NotHit m.served
+        (GaveToOpen (M.meaning inner.old) (M.meaning inner.new) (M.tells inner.old)
+        (M.exact inner.old) request.now (dec_given m))) }
     ensures last { IfOk result (CachingFound (M.found inner.new request.now now)) }
     ensures sound { Sound cache.old }
-    ensures spares { WhereKept (λ _. false) (Some cache.old) (dec_wish request.now) now (inner.new ≡ inner.old) }
-    ensures certain { WhereKept (λ _. false) (Some cache.old) (dec_wish request.now) now (IfErr result (λ error. error ≡ Memory)) }
+    ensures spares { WhereKept (λ _. false) (Some cache.old) (dec_wish request.now) now
+        (inner.new ≡ inner.old) }
+    ensures certain { WhereKept (λ _. false) (Some cache.old) (dec_wish request.now) now
+        (IfErr result (λ error. error ≡ Memory)) }
 {
     if cache.is_direct(false, None) {
         return open_directly(inner, alloc, request, now);
@@ -151,16 +174,23 @@ pub(crate) fn open<M: Manager>(
 ) -> Result<DecMaterials, ManagerError>
     ensures goes { ManagerGoes (M.meaning inner.old) (M.meaning inner.new) }
     ensures tells { TellsOn (M.tells inner.old) (M.tells inner.new) }
-    ensures same { (M.meaning inner.old).plain ≡ true → TellsOn (M.tells inner.new) (M.tells inner.old) }
+    ensures same { (M.meaning inner.old).plain ≡ true
+        → TellsOn (M.tells inner.new) (M.tells inner.old) }
     ensures exact { M.exact inner.old → M.exact inner.new }
-    ensures cause { IfErr result (FindsNone (M.meaning inner.old) (M.meaning inner.new) (M.tells inner.old) (M.exact inner.old) request.now) }
-    ensures asked { AskedWith dec_handed (λ _. false) cache.old cache.new (dec_wish request.now) now result }
+    ensures cause { IfErr result (FindsNone (M.meaning inner.old) (M.meaning inner.new)
+        (M.tells inner.old) (M.exact inner.old) request.now) }
+    ensures asked { AskedWith dec_handed (λ _. false) cache.old cache.new
+        (dec_wish request.now) now result }
     ensures fits { IfOk result (λ m. FitsUnseal (dec_name request.now) (dec_given m)) }
-    ensures got { IfOk result (λ m. NotHit m.served (GaveToOpen (M.meaning inner.old) (M.meaning inner.new) (M.tells inner.old) (M.exact inner.old) request.now (dec_given m))) }
+    ensures got { IfOk result (λ m. NotHit m.served
+        (GaveToOpen (M.meaning inner.old) (M.meaning inner.new) (M.tells inner.old)
+        (M.exact inner.old) request.now (dec_given m))) }
     ensures last { IfOk result (CachingFound (M.found inner.new request.now now)) }
     ensures sound { IsSound cache.old }
-    ensures spares { WhereKept (λ _. false) cache.old (dec_wish request.now) now (inner.new ≡ inner.old) }
-    ensures certain { WhereKept (λ _. false) cache.old (dec_wish request.now) now (IfErr result (λ error. error ≡ Memory)) }
+    ensures spares { WhereKept (λ _. false) cache.old (dec_wish request.now) now
+        (inner.new ≡ inner.old) }
+    ensures certain { WhereKept (λ _. false) cache.old (dec_wish request.now) now
+        (IfErr result (λ error. error ≡ Memory)) }
 {
     match cache {
         Some(cache) => open_kept(cache, inner, alloc, request, now),

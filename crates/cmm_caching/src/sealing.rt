@@ -27,11 +27,14 @@ fn ask_to_seal<M: Manager>(
     requires { length random.now ≡ 32 + 12 * (M.meaning inner.old).wraps }
     ensures goes { ManagerGoes (M.meaning inner.old) (M.meaning inner.new) }
     ensures tells { TellsOn (M.tells inner.old) (M.tells inner.new) }
-    ensures same { (M.meaning inner.old).plain ≡ true → TellsOn (M.tells inner.new) (M.tells inner.old) }
+    ensures same { (M.meaning inner.old).plain ≡ true
+        → TellsOn (M.tells inner.new) (M.tells inner.old) }
     ensures exact { M.exact inner.old → M.exact inner.new }
-    ensures cause { IfErr result (GivesNone (M.meaning inner.old) (M.meaning inner.new) (M.exact inner.old) request.now) }
+    ensures cause { IfErr result (GivesNone (M.meaning inner.old) (M.meaning inner.new)
+        (M.exact inner.old) request.now) }
     ensures fits { IfOk result (FitsSeal (M.meaning inner.old).wraps (enc_name request.now)) }
-    ensures got { IfOk result (GaveToSeal (M.meaning inner.old) (M.tells inner.old) (M.exact inner.old) request.now random.now) }
+    ensures got { IfOk result (GaveToSeal (M.meaning inner.old) (M.tells inner.old)
+        (M.exact inner.old) request.now random.now) }
     ensures last { IfOk result (WasGiven (M.gave inner.new request.now now random.now)) }
 {
     let made = inner.for_encryption(alloc, request, now, random)?;
@@ -49,13 +52,18 @@ fn seal_directly<M: Manager>(
     requires { length random.now ≡ 32 + 12 * (M.meaning inner.old).wraps }
     ensures goes { ManagerGoes (M.meaning inner.old) (M.meaning inner.new) }
     ensures tells { TellsOn (M.tells inner.old) (M.tells inner.new) }
-    ensures same { (M.meaning inner.old).plain ≡ true → TellsOn (M.tells inner.new) (M.tells inner.old) }
+    ensures same { (M.meaning inner.old).plain ≡ true
+        → TellsOn (M.tells inner.new) (M.tells inner.old) }
     ensures exact { M.exact inner.old → M.exact inner.new }
-    ensures cause { IfErr result (GivesNone (M.meaning inner.old) (M.meaning inner.new) (M.exact inner.old) request.now) }
+    ensures cause { IfErr result (GivesNone (M.meaning inner.old) (M.meaning inner.new)
+        (M.exact inner.old) request.now) }
     ensures direct { IfOk result (λ m. m.served ≡ Direct) }
-    ensures fits { IfOk result (λ m. FitsSeal (M.meaning inner.old).wraps (enc_name request.now) (enc_given m)) }
-    ensures got { IfOk result (λ m. GaveToSeal (M.meaning inner.old) (M.tells inner.old) (M.exact inner.old) request.now random.now (enc_given m)) }
-    ensures last { IfOk result (λ m. WasGiven (M.gave inner.new request.now now random.now) (enc_given m)) }
+    ensures fits { IfOk result (λ m. FitsSeal (M.meaning inner.old).wraps (enc_name request.now)
+        (enc_given m)) }
+    ensures got { IfOk result (λ m. GaveToSeal (M.meaning inner.old) (M.tells inner.old)
+        (M.exact inner.old) request.now random.now (enc_given m)) }
+    ensures last { IfOk result (λ m. WasGiven (M.gave inner.new request.now now random.now)
+        (enc_given m)) }
 {
     let given = ask_to_seal(inner, alloc, request, now, random)?;
     Ok(given.into_sealing(Served::Direct))
@@ -78,12 +86,18 @@ fn seal_new<M: Manager>(
     requires missing { kept_for cache.old (enc_wish request.now) now ≡ None }
     ensures goes { ManagerGoes (M.meaning inner.old) (M.meaning inner.new) }
     ensures tells { TellsOn (M.tells inner.old) (M.tells inner.new) }
-    ensures same { (M.meaning inner.old).plain ≡ true → TellsOn (M.tells inner.new) (M.tells inner.old) }
+    ensures same { (M.meaning inner.old).plain ≡ true
+        → TellsOn (M.tells inner.new) (M.tells inner.old) }
     ensures exact { M.exact inner.old → M.exact inner.new }
-    ensures cause { IfErr result (GivesNone (M.meaning inner.old) (M.meaning inner.new) (M.exact inner.old) request.now) }
-    ensures asked { Asked enc_handed (is_past (M.meaning inner.old).wraps cache.old) cache.old cache.new (enc_wish request.now) now result }
-    ensures fits { IfOk result (λ m. FitsSeal (M.meaning inner.old).wraps (enc_name request.now) (enc_given m)) }
-    ensures got { IfOk result (λ m. NotHit m.served (GaveToSeal (M.meaning inner.old) (M.tells inner.old) (M.exact inner.old) request.now random.now (enc_given m))) }
+    ensures cause { IfErr result (GivesNone (M.meaning inner.old) (M.meaning inner.new)
+        (M.exact inner.old) request.now) }
+    ensures asked { Asked enc_handed (is_past (M.meaning inner.old).wraps cache.old) cache.old
+        cache.new (enc_wish request.now) now result }
+    ensures fits { IfOk result (λ m. FitsSeal (M.meaning inner.old).wraps (enc_name request.now)
+        (enc_given m)) }
+    ensures got { IfOk result (λ m. NotHit m.served
+        (GaveToSeal (M.meaning inner.old) (M.tells inner.old)
+        (M.exact inner.old) request.now random.now (enc_given m))) }
     ensures last { IfOk result (CachingGave (M.gave inner.new request.now now random.now)) }
 {
     let given = ask_to_seal(inner, alloc, request, now, random)?;
@@ -91,7 +105,8 @@ fn seal_new<M: Manager>(
     Ok(given.into_sealing(Served::New(number)))
 }
 
-/// What an entry of the request's name gives, where it serves; else what the inner manager gives, kept as a new one.
+/// What an entry of the request's name gives, where it serves; else what the inner manager gives,
+/// kept as a new one.
 fn seal_through<M: Manager>(
     cache: &mut Cache,
     inner: &mut M,
@@ -105,15 +120,23 @@ fn seal_through<M: Manager>(
     requires kept { is_direct cache.old.limits (enc_wish request.now) cache.old.next ≡ false }
     ensures goes { ManagerGoes (M.meaning inner.old) (M.meaning inner.new) }
     ensures tells { TellsOn (M.tells inner.old) (M.tells inner.new) }
-    ensures same { (M.meaning inner.old).plain ≡ true → TellsOn (M.tells inner.new) (M.tells inner.old) }
+    ensures same { (M.meaning inner.old).plain ≡ true
+        → TellsOn (M.tells inner.new) (M.tells inner.old) }
     ensures exact { M.exact inner.old → M.exact inner.new }
-    ensures cause { IfErr result (GivesNone (M.meaning inner.old) (M.meaning inner.new) (M.exact inner.old) request.now) }
-    ensures asked { Asked enc_handed (is_past (M.meaning inner.old).wraps cache.old) cache.old cache.new (enc_wish request.now) now result }
-    ensures fits { IfOk result (λ m. FitsSeal (M.meaning inner.old).wraps (enc_name request.now) (enc_given m)) }
-    ensures got { IfOk result (λ m. NotHit m.served (GaveToSeal (M.meaning inner.old) (M.tells inner.old) (M.exact inner.old) request.now random.now (enc_given m))) }
+    ensures cause { IfErr result (GivesNone (M.meaning inner.old) (M.meaning inner.new)
+        (M.exact inner.old) request.now) }
+    ensures asked { Asked enc_handed (is_past (M.meaning inner.old).wraps cache.old) cache.old
+        cache.new (enc_wish request.now) now result }
+    ensures fits { IfOk result (λ m. FitsSeal (M.meaning inner.old).wraps (enc_name request.now)
+        (enc_given m)) }
+    ensures got { IfOk result (λ m. NotHit m.served
+        (GaveToSeal (M.meaning inner.old) (M.tells inner.old)
+        (M.exact inner.old) request.now random.now (enc_given m))) }
     ensures last { IfOk result (CachingGave (M.gave inner.new request.now now random.now)) }
-    ensures spares { WhereKept (is_past (M.meaning inner.old).wraps) (Some cache.old) (enc_wish request.now) now (inner.new ≡ inner.old) }
-    ensures certain { WhereKept (is_past (M.meaning inner.old).wraps) (Some cache.old) (enc_wish request.now) now (IfErr result (λ error. error ≡ Memory)) }
+    ensures spares { WhereKept (is_past (M.meaning inner.old).wraps) (Some cache.old)
+        (enc_wish request.now) now (inner.new ≡ inner.old) }
+    ensures certain { WhereKept (is_past (M.meaning inner.old).wraps) (Some cache.old)
+        (enc_wish request.now) now (IfErr result (λ error. error ≡ Memory)) }
 {
     unasked(inner);
     let name = Name::to_encrypt(alloc, request)?;
@@ -135,16 +158,24 @@ fn seal_kept<M: Manager>(
     requires { length random.now ≡ 32 + 12 * (M.meaning inner.old).wraps }
     ensures goes { ManagerGoes (M.meaning inner.old) (M.meaning inner.new) }
     ensures tells { TellsOn (M.tells inner.old) (M.tells inner.new) }
-    ensures same { (M.meaning inner.old).plain ≡ true → TellsOn (M.tells inner.new) (M.tells inner.old) }
+    ensures same { (M.meaning inner.old).plain ≡ true
+        → TellsOn (M.tells inner.new) (M.tells inner.old) }
     ensures exact { M.exact inner.old → M.exact inner.new }
-    ensures cause { IfErr result (GivesNone (M.meaning inner.old) (M.meaning inner.new) (M.exact inner.old) request.now) }
-    ensures asked { Asked enc_handed (is_past (M.meaning inner.old).wraps cache.old) cache.old cache.new (enc_wish request.now) now result }
-    ensures fits { IfOk result (λ m. FitsSeal (M.meaning inner.old).wraps (enc_name request.now) (enc_given m)) }
-    ensures got { IfOk result (λ m. NotHit m.served (GaveToSeal (M.meaning inner.old) (M.tells inner.old) (M.exact inner.old) request.now random.now (enc_given m))) }
+    ensures cause { IfErr result (GivesNone (M.meaning inner.old) (M.meaning inner.new)
+        (M.exact inner.old) request.now) }
+    ensures asked { Asked enc_handed (is_past (M.meaning inner.old).wraps cache.old) cache.old
+        cache.new (enc_wish request.now) now result }
+    ensures fits { IfOk result (λ m. FitsSeal (M.meaning inner.old).wraps (enc_name request.now)
+        (enc_given m)) }
+    ensures got { IfOk result (λ m. NotHit m.served
+        (GaveToSeal (M.meaning inner.old) (M.tells inner.old)
+        (M.exact inner.old) request.now random.now (enc_given m))) }
     ensures last { IfOk result (CachingGave (M.gave inner.new request.now now random.now)) }
     ensures sound { Sound cache.old }
-    ensures spares { WhereKept (is_past (M.meaning inner.old).wraps) (Some cache.old) (enc_wish request.now) now (inner.new ≡ inner.old) }
-    ensures certain { WhereKept (is_past (M.meaning inner.old).wraps) (Some cache.old) (enc_wish request.now) now (IfErr result (λ error. error ≡ Memory)) }
+    ensures spares { WhereKept (is_past (M.meaning inner.old).wraps) (Some cache.old)
+        (enc_wish request.now) now (inner.new ≡ inner.old) }
+    ensures certain { WhereKept (is_past (M.meaning inner.old).wraps) (Some cache.old)
+        (enc_wish request.now) now (IfErr result (λ error. error ≡ Memory)) }
 {
     let wraps = unasked(inner);
     if cache.is_past(wraps) {
@@ -168,17 +199,25 @@ pub(crate) fn seal<M: Manager>(
     requires { length random.now ≡ 32 + 12 * (M.meaning inner.old).wraps }
     ensures goes { ManagerGoes (M.meaning inner.old) (M.meaning inner.new) }
     ensures tells { TellsOn (M.tells inner.old) (M.tells inner.new) }
-    ensures same { (M.meaning inner.old).plain ≡ true → TellsOn (M.tells inner.new) (M.tells inner.old) }
+    ensures same { (M.meaning inner.old).plain ≡ true
+        → TellsOn (M.tells inner.new) (M.tells inner.old) }
     ensures exact { M.exact inner.old → M.exact inner.new }
-    ensures cause { IfErr result (GivesNone (M.meaning inner.old) (M.meaning inner.new) (M.exact inner.old) request.now) }
-    ensures asked { AskedWith enc_handed (is_past (M.meaning inner.old).wraps) cache.old cache.new (enc_wish request.now) now result }
-    ensures fits { IfOk result (λ m. FitsSeal (M.meaning inner.old).wraps (enc_name request.now) (enc_given m)) }
-    ensures got { IfOk result (λ m. NotHit m.served (GaveToSeal (M.meaning inner.old) (M.tells inner.old) (M.exact inner.old) request.now random.now (enc_given m))) }
+    ensures cause { IfErr result (GivesNone (M.meaning inner.old) (M.meaning inner.new)
+        (M.exact inner.old) request.now) }
+    ensures asked { AskedWith enc_handed (is_past (M.meaning inner.old).wraps) cache.old cache.new
+        (enc_wish request.now) now result }
+    ensures fits { IfOk result (λ m. FitsSeal (M.meaning inner.old).wraps (enc_name request.now)
+        (enc_given m)) }
+    ensures got { IfOk result (λ m. NotHit m.served
+        (GaveToSeal (M.meaning inner.old) (M.tells inner.old)
+        (M.exact inner.old) request.now random.now (enc_given m))) }
     ensures last { IfOk result (CachingGave (M.gave inner.new request.now now random.now)) }
     ensures plain { (M.meaning inner.old).plain ≡ true → (M.meaning inner.old).fresh ≡ true }
     ensures sound { IsSound cache.old }
-    ensures spares { WhereKept (is_past (M.meaning inner.old).wraps) cache.old (enc_wish request.now) now (inner.new ≡ inner.old) }
-    ensures certain { WhereKept (is_past (M.meaning inner.old).wraps) cache.old (enc_wish request.now) now (IfErr result (λ error. error ≡ Memory)) }
+    ensures spares { WhereKept (is_past (M.meaning inner.old).wraps) cache.old
+        (enc_wish request.now) now (inner.new ≡ inner.old) }
+    ensures certain { WhereKept (is_past (M.meaning inner.old).wraps) cache.old
+        (enc_wish request.now) now (IfErr result (λ error. error ≡ Memory)) }
 {
     unasked(inner);
     match cache {

@@ -17,7 +17,8 @@ const RESERVED_KEY: &str = "aws-crypto-public-key";
 
 /// Joins the pairs that a header stores and those that the caller gives.
 ///
-/// `Fault` with M11 exactly where the reserved key is stored; else with M12 or M14, as `join` says. `Memory` where memory runs out.
+/// `Fault` with M11 exactly where the reserved key is stored; else with M12 or M14, as `join` says.
+/// `Memory` where memory runs out.
 #[tactic(auto, using(crate::proofs::Faults::reserved_first, crate::proofs::Faults::join_next))]
 pub(crate) fn joined(
     alloc: Global,
@@ -40,7 +41,8 @@ pub(crate) fn joined(
     }
 }
 
-/// The data key that the keyring finds in the entries, over the whole context. M15 `NoKeyOpens` exactly where it finds none.
+/// The data key that the keyring finds in the entries, over the whole context. M15 `NoKeyOpens`
+/// exactly where it finds none.
 pub(crate) fn opened<K: Keyring>(
     alloc: Global,
     ring: &mut K,
@@ -48,8 +50,10 @@ pub(crate) fn opened<K: Keyring>(
     entries: &[DataKeyEntry],
 ) -> Result<DataKey, ManagerError>
     ensures goes { KeyringGoes (K.meaning ring.old) (K.meaning ring.new) }
-    ensures opens { IfOk result (λ key. Opens (K.meaning ring.old) (K.meaning ring.new) whole.now entries.now (Some key)) }
-    ensures cause { IfErr result (OpensNot (K.meaning ring.old) (K.meaning ring.new) whole.now entries.now) }
+    ensures opens { IfOk result (λ key. Opens (K.meaning ring.old)
+        (K.meaning ring.new) whole.now entries.now (Some key)) }
+    ensures cause { IfErr result (OpensNot (K.meaning ring.old)
+        (K.meaning ring.new) whole.now entries.now) }
 {
     match ring.on_decrypt(alloc, whole, entries) {
         Ok(Some(key)) => Ok(key),

@@ -14,8 +14,8 @@ use keyring_trait::{
 use std::alloc::Global;
 use std::marker::Model;
 
-/// The materials manager that asks one keyring for each data key, keeps nothing, and requires no key by itself. A contract sees the keyring.
-/// It serves all materials directly.
+/// The materials manager that asks one keyring for each data key, keeps nothing, and requires no
+/// key by itself. A contract sees the keyring. It serves all materials directly.
 #[derive(Drop)]
 pub struct DefaultCmm<K> {
     ring: K,
@@ -67,10 +67,12 @@ impl<K: Keyring> Manager for DefaultCmm<K> {
         self.ring.refuses(false)
     }
 
-    /// The data key is the first 32 random bytes, and the entries are the keyring's wraps of it over the whole context.
+    /// The data key is the first 32 random bytes, and the entries are the keyring's wraps of it
+    /// over the whole context.
     ///
-    /// Q1 `ReservedPrefix` with the least key of the context that starts with `aws-crypto-`, exactly where there is one; else Q5 `NoGenerator` or
-    /// Q6 `GeneratorHasKey`, exactly as the keyring refuses; `KeyringFault` where the keyring failed, `Memory` where memory runs out.
+    /// Q1 `ReservedPrefix` with the least key of the context that starts with `aws-crypto-`,
+    /// exactly where there is one; else Q5 `NoGenerator` or Q6 `GeneratorHasKey`, exactly as the
+    /// keyring refuses; `KeyringFault` where the keyring failed, `Memory` where memory runs out.
     #[tactic(auto, using(crate::proofs::Refusals::refusal_stands, crate::proofs::Refusals::unrefused))]
     fn for_encryption(
         &mut self,
@@ -87,10 +89,12 @@ impl<K: Keyring> Manager for DefaultCmm<K> {
         Ok(enc_materials(alloc, request, wrapped)?)
     }
 
-    /// The data key is the one that the keyring finds in the entries, over the stored and the given pairs.
+    /// The data key is the one that the keyring finds in the entries, over the stored and the given
+    /// pairs.
     ///
-    /// M11 `ReservedKey` exactly where `aws-crypto-public-key` is stored; else M12 or M14, exactly as `join` answers them; else M15 `NoKeyOpens`
-    /// exactly where the keyring finds no data key; `KeyringFault` where the keyring failed, `Memory` where memory runs out.
+    /// M11 `ReservedKey` exactly where `aws-crypto-public-key` is stored; else M12 or M14, exactly
+    /// as `join` answers them; else M15 `NoKeyOpens` exactly where the keyring finds no data key;
+    /// `KeyringFault` where the keyring failed, `Memory` where memory runs out.
     #[tactic(auto, using(crate::proofs::Faults::joins_not, crate::proofs::Found::opens_not))]
     fn for_decryption(
         &mut self,
@@ -105,10 +109,12 @@ impl<K: Keyring> Manager for DefaultCmm<K> {
     }
 }
 
-/// What is known of a keyring before it is asked: it goes on as it is, and makes at most 64 wraps, and one at least where it generates data keys.
+/// What is known of a keyring before it is asked: it goes on as it is, and makes at most 64 wraps,
+/// and one at least where it generates data keys.
 fn unasked<K: Keyring>(ring: &K)
     ensures goes { KeyringGoes (K.meaning ring.now) (K.meaning ring.now) }
-    ensures told { IfSome (K.meaning ring.now).keys (λ keys. length (active keys) ≡ (K.meaning ring.now).wraps) }
+    ensures told { IfSome (K.meaning ring.now).keys
+        (λ keys. length (active keys) ≡ (K.meaning ring.now).wraps) }
     ensures few { (K.meaning ring.now).wraps ≤ 64 }
     ensures some { (K.meaning ring.now).refuses_none ≡ None → 1 ≤ (K.meaning ring.now).wraps }
 {

@@ -16,14 +16,16 @@ use std::alloc::{AllocError, Global};
 /// What the keys that are kept for the format begin with.
 const RESERVED_PREFIX: &str = "aws-crypto-";
 
-/// What a request over this context is refused for: Q1 with the least key of the context that has the reserved prefix; else Q5 or Q6, which the keyring says.
+/// What a request over this context is refused for: Q1 with the least key of the context that has
+/// the reserved prefix; else Q5 or Q6, which the keyring says.
 #[tactic(auto, unfolding(keyring_trait::specs::Manager::request_refusal))]
 pub(crate) fn refusal<K: Keyring>(
     alloc: Global,
     ring: &K,
     context: &Context,
 ) -> Result<Option<Refusal>, AllocError>
-    ensures { IfOk result (λ refusal. refusal ≡ request_refusal (default_meaning (K.meaning ring.now)) context.now) }
+    ensures { IfOk result (λ refusal. refusal ≡ request_refusal
+        (default_meaning (K.meaning ring.now)) context.now) }
 {
     if let Some(pair) = first_reserved(context.pairs()) {
         return Ok(Some(Refusal::ReservedPrefix(Text::new(alloc, pair.key())?)));

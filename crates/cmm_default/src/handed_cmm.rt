@@ -11,7 +11,8 @@ use std::marker::Model;
 /// The materials manager that was handed over, of what type it ever is.
 pub type HandedCmm = Handed<Box<dyn Manager>>;
 
-/// A materials manager that passes every call on to the one that it holds. A contract sees that one.
+/// A materials manager that passes every call on to the one that it holds. A contract sees that
+/// one.
 #[derive(Drop)]
 pub struct Handed<M> {
     manager: M,

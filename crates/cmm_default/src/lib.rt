@@ -1,6 +1,8 @@
-//! The default cryptographic materials manager, which asks one keyring for the data keys, and the manager that was handed over in a box.
+//! The default cryptographic materials manager, which asks one keyring for the data keys, and the
+//! manager that was handed over in a box.
 //!
-//! The definitions stand in `specs/`: `DefaultCmm` says what the default manager means to its callers, `Steps` what its steps answer.
+//! The definitions stand in `specs/`: `DefaultCmm` says what the default manager means to its
+//! callers, `Steps` what its steps answer.
 #![tactic(auto)]
 
 mod decrypting;

@@ -1,4 +1,5 @@
-//! The materials manager that requires keys of every context: a reader has to give their pairs, as the header doesn't store them.
+//! The materials manager that requires keys of every context: a reader has to give their pairs, as
+//! the header doesn't store them.
 //!
 //! The definition stands in `specs/`: `RequiredCmm` says what the manager means to its callers.
 #![tactic(auto)]

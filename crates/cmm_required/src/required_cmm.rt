@@ -1,4 +1,5 @@
-//! Another manager's materials, with keys required of every context. AWS Encryption SDK Specification, "Required Encryption Context CMM".
+//! Another manager's materials, with keys required of every context. AWS Encryption SDK
+//! Specification, "Required Encryption Context CMM".
 
 ghost use Rattle.std.specs.Prelude.{◌≡◌, ◌+◌, ◌*◌, true, None, List, not, find, length, option_map, All, IfSome, IfOk, IfErr};
 ghost use Rattle.context_codec.specs.KeySet.{has};
@@ -20,8 +21,9 @@ use keyring_trait::{
 use std::alloc::Global;
 use std::marker::Model;
 
-/// The materials manager that requires keys of every context, and asks another manager for the materials: a reader has to give the pairs of these keys, and
-/// no header stores them. A contract sees the inner manager and the list of the keys.
+/// The materials manager that requires keys of every context, and asks another manager for the
+/// materials: a reader has to give the pairs of these keys, and no header stores them. A contract
+/// sees the inner manager and the list of the keys.
 #[derive(Drop)]
 pub struct RequiredCmm<M> {
     inner: M,
@@ -37,7 +39,8 @@ impl<M> Model for RequiredCmm<M> {
 }
 
 impl<M> RequiredCmm<M> {
-    /// The manager that requires these keys of every context, and asks this inner manager. Takes no memory.
+    /// The manager that requires these keys of every context, and asks this inner manager. Takes no
+    /// memory.
     pub fn new(inner: M, keys: KeySet) -> RequiredCmm<M>
         ensures { result ≡ (inner, keys) }
     {
@@ -52,9 +55,11 @@ impl<M> RequiredCmm<M> {
     }
 }
 
-/// To encrypt, it answers Q4 `RequiredAbsent` with the least of its keys that isn't in the context; else what the inner manager answers to the request with its
-/// keys added. To decrypt, it answers M13 `MissingRequired` with the least of its keys that isn't among the given pairs; else what the inner manager answers.
-/// So it is over every inner manager: of materials to encrypt all its keys are required, and none of them is missing where there are materials to decrypt.
+/// To encrypt, it answers Q4 `RequiredAbsent` with the least of its keys that isn't in the context;
+/// else what the inner manager answers to the request with its keys added. To decrypt, it answers
+/// M13 `MissingRequired` with the least of its keys that isn't among the given pairs; else what the
+/// inner manager answers. So it is over every inner manager: of materials to encrypt all its keys
+/// are required, and none of them is missing where there are materials to decrypt.
 impl<M: Manager> Manager for RequiredCmm<M> {
     ghost meaning = { λ m. required_meaning m.1 (M.meaning m.0) };
 
@@ -88,25 +93,35 @@ impl<M: Manager> Manager for RequiredCmm<M> {
         random: &[u8],
     ) -> Result<EncMaterials, ManagerError>
         requires { length random.now ≡ 32 + 12 * (M.meaning self.old.0).wraps }
-        ensures goes { ManagerGoes (required_meaning self.old.1 (M.meaning self.old.0)) (required_meaning self.new.1 (M.meaning self.new.0)) }
+        ensures goes { ManagerGoes (required_meaning self.old.1 (M.meaning self.old.0))
+            (required_meaning self.new.1 (M.meaning self.new.0)) }
         ensures tells { TellsOn (M.tells self.old.0) (M.tells self.new.0) }
-        ensures same { (required_meaning self.old.1 (M.meaning self.old.0)).plain ≡ true → TellsOn (M.tells self.new.0) (M.tells self.old.0) }
-        ensures exact { RequiredExact (M.exact self.old.0) (M.meaning self.old.0) → RequiredExact (M.exact self.new.0) (M.meaning self.new.0) }
+        ensures same { (required_meaning self.old.1 (M.meaning self.old.0)).plain ≡ true
+            → TellsOn (M.tells self.new.0) (M.tells self.old.0) }
+        ensures exact { RequiredExact (M.exact self.old.0) (M.meaning self.old.0)
+            → RequiredExact (M.exact self.new.0) (M.meaning self.new.0) }
         ensures gives { IfOk result (GivesMaterials
             (required_meaning self.old.1 (M.meaning self.old.0)) (M.tells self.old.0)
             (RequiredExact (M.exact self.old.0) (M.meaning self.old.0)) request.now random.now) }
         ensures cause { IfErr result (GivesNone
-            (required_meaning self.old.1 (M.meaning self.old.0)) (required_meaning self.new.1 (M.meaning self.new.0))
+            (required_meaning self.old.1 (M.meaning self.old.0))
+            (required_meaning self.new.1 (M.meaning self.new.0))
             (RequiredExact (M.exact self.old.0) (M.meaning self.old.0)) request.now) }
-        ensures bears { BearsOn (M.bears self.old.0) (M.bears self.new.0) Seal now request.now.declared enc_served result }
-        ensures within { (lines : List JournalLine) → M.within self.new.0 lines → M.within self.old.0 lines }
-        ensures gave { IfOk result (M.gave self.new.0 (requiring self.new.1 request.now) now random.now) }
+        ensures bears { BearsOn (M.bears self.old.0)
+            (M.bears self.new.0) Seal now request.now.declared enc_served result }
+        ensures within { (lines : List JournalLine) → M.within self.new.0 lines
+            → M.within self.old.0 lines }
+        ensures gave { IfOk result (M.gave self.new.0
+            (requiring self.new.1 request.now) now random.now) }
 
         // Its own keys, over any inner manager.
         ensures keys { self.new.1 ≡ self.old.1 }
-        ensures required { IfOk result (λ made. All (λ key. has made.required key ≡ true) self.old.1) }
-        ensures absent { IfSome (required_absent request.now.context self.old.1) (λ refusal. FailsWith (errors.Refusal refusal) result) }
-        ensures unasked { IfSome (required_absent request.now.context self.old.1) (λ _. self.new.0 ≡ self.old.0) }
+        ensures required { IfOk result (λ made. All
+            (λ key. has made.required key ≡ true) self.old.1) }
+        ensures absent { IfSome (required_absent request.now.context self.old.1)
+            (λ refusal. FailsWith (errors.Refusal refusal) result) }
+        ensures unasked { IfSome (required_absent request.now.context self.old.1)
+            (λ _. self.new.0 ≡ self.old.0) }
     {
         unasked(&self.inner);
         match request.requiring(alloc, &self.keys) {
@@ -122,25 +137,36 @@ impl<M: Manager> Manager for RequiredCmm<M> {
         request: &DecRequest,
         now: u64,
     ) -> Result<DecMaterials, ManagerError>
-        ensures goes { ManagerGoes (required_meaning self.old.1 (M.meaning self.old.0)) (required_meaning self.new.1 (M.meaning self.new.0)) }
+        ensures goes { ManagerGoes (required_meaning self.old.1 (M.meaning self.old.0))
+            (required_meaning self.new.1 (M.meaning self.new.0)) }
         ensures tells { TellsOn (M.tells self.old.0) (M.tells self.new.0) }
-        ensures same { (required_meaning self.old.1 (M.meaning self.old.0)).plain ≡ true → TellsOn (M.tells self.new.0) (M.tells self.old.0) }
-        ensures exact { RequiredExact (M.exact self.old.0) (M.meaning self.old.0) → RequiredExact (M.exact self.new.0) (M.meaning self.new.0) }
+        ensures same { (required_meaning self.old.1 (M.meaning self.old.0)).plain ≡ true
+            → TellsOn (M.tells self.new.0) (M.tells self.old.0) }
+        ensures exact { RequiredExact (M.exact self.old.0) (M.meaning self.old.0)
+            → RequiredExact (M.exact self.new.0) (M.meaning self.new.0) }
         ensures finds { IfOk result (FindsMaterials
-            (required_meaning self.old.1 (M.meaning self.old.0)) (required_meaning self.new.1 (M.meaning self.new.0))
-            (M.tells self.old.0) (RequiredExact (M.exact self.old.0) (M.meaning self.old.0)) request.now) }
+            (required_meaning self.old.1 (M.meaning self.old.0))
+            (required_meaning self.new.1 (M.meaning self.new.0))
+            (M.tells self.old.0) (RequiredExact (M.exact self.old.0) (M.meaning self.old.0))
+            request.now) }
         ensures cause { IfErr result (FindsNone
-            (required_meaning self.old.1 (M.meaning self.old.0)) (required_meaning self.new.1 (M.meaning self.new.0))
-            (M.tells self.old.0) (RequiredExact (M.exact self.old.0) (M.meaning self.old.0)) request.now) }
-        ensures bears { BearsOn (M.bears self.old.0) (M.bears self.new.0) Unseal now None dec_served result }
-        ensures within { (lines : List JournalLine) → M.within self.new.0 lines → M.within self.old.0 lines }
+            (required_meaning self.old.1 (M.meaning self.old.0))
+            (required_meaning self.new.1 (M.meaning self.new.0))
+            (M.tells self.old.0) (RequiredExact (M.exact self.old.0) (M.meaning self.old.0))
+            request.now) }
+        ensures bears { BearsOn (M.bears self.old.0)
+            (M.bears self.new.0) Unseal now None dec_served result }
+        ensures within { (lines : List JournalLine) → M.within self.new.0 lines
+            → M.within self.old.0 lines }
         ensures found { IfOk result (M.found self.new.0 request.now now) }
 
         // Its own keys, over any inner manager.
         ensures keys { self.new.1 ≡ self.old.1 }
         ensures given { IfOk result (λ _. AreGiven self.old.1 request.now.given) }
-        ensures missing { IfSome (missing_required request.now.given self.old.1) (λ fault. FailsWith (errors.Fault fault) result) }
-        ensures unasked { IfSome (missing_required request.now.given self.old.1) (λ _. self.new.0 ≡ self.old.0) }
+        ensures missing { IfSome (missing_required request.now.given self.old.1)
+            (λ fault. FailsWith (errors.Fault fault) result) }
+        ensures unasked { IfSome (missing_required request.now.given self.old.1)
+            (λ _. self.new.0 ≡ self.old.0) }
     {
         unasked(&self.inner);
         if let Some(missing) = first_missing(request.given(), self.keys.keys()) {
@@ -159,7 +185,8 @@ fn unasked<M: Manager>(manager: &M)
 
 /// The first of the keys that isn't given.
 fn first_missing<'a>(given: &Context, keys: &'a [Text]) -> Option<&'a Text>
-    ensures { option_map (λ key. key.now) result ≡ find (λ key. not (holds given.now key)) keys.now }
+    ensures { option_map (λ key. key.now) result ≡ find
+        (λ key. not (holds given.now key)) keys.now }
 {
     for key in keys {
         if !given.contains_key(key.as_str()) {

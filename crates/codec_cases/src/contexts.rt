@@ -22,7 +22,8 @@ fn put_context(alloc: Global, context: &Context, line: &mut Line) {
     line.blob(context.text(alloc));
 }
 
-/// `pairs PAIRS KEY VALUE`: the context of the pairs and of one more, or why that is refused and then the copied context without it, each with its text.
+/// `pairs PAIRS KEY VALUE`: the context of the pairs and of one more, or why that is refused and
+/// then the copied context without it, each with its text.
 pub(crate) fn insert(words: &mut Words<'_>, line: &mut Line) -> Result<(), Wrong> {
     let mut context = words.context();
     let key = words.text()?;
@@ -37,7 +38,8 @@ pub(crate) fn insert(words: &mut Words<'_>, line: &mut Line) -> Result<(), Wrong
     Ok(())
 }
 
-/// `join PAIRS PAIRS`: stored pairs and given ones: the whole context, and the pairs that are only given; or the fault.
+/// `join PAIRS PAIRS`: stored pairs and given ones: the whole context, and the pairs that are only
+/// given; or the fault.
 pub(crate) fn join_two(words: &mut Words<'_>, line: &mut Line) -> Result<(), Wrong> {
     let stored = words.context();
     let given = words.context();
@@ -60,7 +62,8 @@ pub(crate) fn pick(words: &mut Words<'_>, line: &mut Line) -> Result<(), Wrong> 
     Ok(())
 }
 
-/// `keys KEYS KEYS KEY`: the first set, the copied union of both, and whether the union has the key.
+/// `keys KEYS KEYS KEY`: the first set, the copied union of both, and whether the union has the
+/// key.
 pub(crate) fn unite(words: &mut Words<'_>, line: &mut Line) -> Result<(), Wrong> {
     let first = words.keys();
     let second = words.keys();

@@ -7,7 +7,8 @@ use edk_codec::{DataKeyEntry, info_parts, raw_info, read_entry, write_entry};
 use esdk_fields::{Blob, Cursor};
 use std::alloc::{AllocError, Global};
 
-/// `entry BYTES`: how many bytes are left behind the entry that the bytes begin with, its parts, and the text of a copy; or `none` and how many are left.
+/// `entry BYTES`: how many bytes are left behind the entry that the bytes begin with, its parts,
+/// and the text of a copy; or `none` and how many are left.
 pub(crate) fn read(words: &mut Words<'_>, line: &mut Line) -> Result<(), Wrong> {
     let bytes = words.bytes();
     let mut cursor = Cursor::new(bytes.bytes());
@@ -45,7 +46,8 @@ pub(crate) fn info(words: &mut Words<'_>, line: &mut Line) -> Result<(), Wrong> 
     Ok(())
 }
 
-/// `info-iv BYTES NAME`: the initialization vector of the information of a raw key of this name, or `none`.
+/// `info-iv BYTES NAME`: the initialization vector of the information of a raw key of this name, or
+/// `none`.
 pub(crate) fn info_iv(words: &mut Words<'_>, line: &mut Line) -> Result<(), Wrong> {
     let info = words.bytes();
     let name = words.bytes();

@@ -13,7 +13,8 @@ use esdk_report::{file_text, printed};
 use std::alloc::{AllocError, Global};
 use std::cmp::Ordering;
 
-/// `put N16 N32 N64 BYTES`: two numbers of two and four bytes, one of eight, and bytes behind their length.
+/// `put N16 N32 N64 BYTES`: two numbers of two and four bytes, one of eight, and bytes behind their
+/// length.
 pub(crate) fn put(words: &mut Words<'_>, line: &mut Line) -> Result<(), Wrong> {
     let two = words.number32();
     let four = words.number32();
@@ -44,8 +45,8 @@ fn fields_text(
     Ok(out)
 }
 
-/// `read BYTES`: a number of one byte, of two, four and eight, and bytes behind their length, up to the first that isn't whole, and how many bytes
-/// were taken.
+/// `read BYTES`: a number of one byte, of two, four and eight, and bytes behind their length, up to
+/// the first that isn't whole, and how many bytes were taken.
 pub(crate) fn read(words: &mut Words<'_>, line: &mut Line) -> Result<(), Wrong> {
     let bytes = words.bytes();
     let mut cursor = Cursor::new(bytes.bytes());
@@ -83,7 +84,8 @@ fn read_fields(cursor: &mut Cursor<'_>, line: &mut Line) {
     }
 }
 
-/// `texts TEXT TEXT`: how the first text, copied, compares with the second, and whether they are equal.
+/// `texts TEXT TEXT`: how the first text, copied, compares with the second, and whether they are
+/// equal.
 pub(crate) fn compare(words: &mut Words<'_>, line: &mut Line) -> Result<(), Wrong> {
     let first = words.text()?.copy()?;
     let second = words.text()?;
@@ -101,7 +103,8 @@ fn order_word(order: Ordering) -> &'static str {
     }
 }
 
-/// `refusal NUMBER TEXT`: a line that no other call and no run of `esdk` prints; behind K9's, the bytes that are printed.
+/// `refusal NUMBER TEXT`: a line that no other call and no run of `esdk` prints; behind K9's, the
+/// bytes that are printed.
 pub(crate) fn name(words: &mut Words<'_>, line: &mut Line) -> Result<(), Wrong> {
     let number = words.word();
     let text = words.text()?;

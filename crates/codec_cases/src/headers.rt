@@ -10,8 +10,10 @@ use esdk_fields::{Blob, Content};
 use header_codec::{Header, HeaderReader, write_header, write_legacy_header};
 use std::alloc::Global;
 
-/// `header UNCOMMITTED MAX_KEYS MAX_UNIT PIECE BYTES`: the bytes in pieces of so many, stepped through until the header is whole or refused: what the last step
-/// answers, and how many bytes were used, or were there where the fault came; then what one more step over a byte answers, and the header, or `none`.
+/// `header UNCOMMITTED MAX_KEYS MAX_UNIT PIECE BYTES`: the bytes in pieces of so many, stepped
+/// through until the header is whole or refused: what the last step answers, and how many bytes
+/// were used, or were there where the fault came; then what one more step over a byte answers, and
+/// the header, or `none`.
 pub(crate) fn read(words: &mut Words<'_>, line: &mut Line) -> Result<(), Wrong> {
     let settings = words.settings();
     let piece = words.number();
@@ -30,7 +32,8 @@ pub(crate) fn read(words: &mut Words<'_>, line: &mut Line) -> Result<(), Wrong> 
     Ok(())
 }
 
-/// Steps through the pieces. The answer is how many bytes were used, or were there where the fault came.
+/// Steps through the pieces. The answer is how many bytes were used, or were there where the fault
+/// came.
 fn feed(
     alloc: Global,
     reader: &mut HeaderReader,
@@ -96,7 +99,8 @@ fn put_content(content: Content, line: &mut Line) {
     }
 }
 
-/// `write-header ID PAIRS ENTRIES FRAME COMMITMENT MAX_KEYS`: the header body, or why it is refused.
+/// `write-header ID PAIRS ENTRIES FRAME COMMITMENT MAX_KEYS`: the header body, or why it is
+/// refused.
 pub(crate) fn write(words: &mut Words<'_>, line: &mut Line) -> Result<(), Wrong> {
     let id = words.array();
     let stored = words.context();
@@ -122,7 +126,8 @@ pub(crate) fn write(words: &mut Words<'_>, line: &mut Line) -> Result<(), Wrong>
     Ok(())
 }
 
-/// `write-legacy-header ID PAIRS ENTRIES CONTENT`: the header body of version 1, or why it is refused.
+/// `write-legacy-header ID PAIRS ENTRIES CONTENT`: the header body of version 1, or why it is
+/// refused.
 pub(crate) fn write_legacy(words: &mut Words<'_>, line: &mut Line) -> Result<(), Wrong> {
     let id = words.array();
     let stored = words.context();

@@ -9,7 +9,8 @@ use sha2::{Digest, Sha512};
 use std::alloc::{AllocError, Global};
 use std::str;
 
-/// The words of an answer, with a space between them. A word for which memory runs out is left out, and then there is no text.
+/// The words of an answer, with a space between them. A word for which memory runs out is left out,
+/// and then there is no text.
 #[derive(Drop)]
 pub(crate) struct Line {
     alloc: Global,
@@ -78,7 +79,8 @@ impl Line {
         self.made(word);
     }
 
-    /// Puts bytes: `-` for none, hexadecimal digits for up to 64, else their number and their digest by SHA-512.
+    /// Puts bytes: `-` for none, hexadecimal digits for up to 64, else their number and their
+    /// digest by SHA-512.
     pub(crate) fn bytes(&mut self, bytes: &[u8]) {
         let word = bytes_word(self.alloc, bytes);
         self.made(word);

@@ -1,7 +1,9 @@
-//! Calls of the codecs as data: a line of standard input is a call, and a line of standard output its answer.
+//! Calls of the codecs as data: a line of standard input is a call, and a line of standard output
+//! its answer.
 //!
-//! Empty lines and lines that begin with `#` are passed over. `value NAME BYTES` names bytes for later lines, and prints nothing. A line that
-//! can't be read ends the program with status 1 and the line `line N: WHAT`.
+//! Empty lines and lines that begin with `#` are passed over. `value NAME BYTES` names bytes for
+//! later lines, and prints nothing. A line that can't be read ends the program with status 1 and
+//! the line `line N: WHAT`.
 #![tactic(auto)]
 
 mod calls;

@@ -103,7 +103,8 @@ impl Named {
         }
     }
 
-    /// Puts named bytes: `NAME`, `NAME<N`, which is the first N of them, or `NAME^N`, where the lowest bit of the byte at N is turned.
+    /// Puts named bytes: `NAME`, `NAME<N`, which is the first N of them, or `NAME^N`, where the
+    /// lowest bit of the byte at N is turned.
     fn put_named(&self, word: &str, out: &mut Blob) -> Result<(), Wrong> {
         if let Some((name, end)) = word.split_once('<') {
             return self.put_front(name, end, out);

@@ -17,9 +17,10 @@ struct Session {
     is_over: bool,
 }
 
-/// `open UNCOMMITTED MAX_KEYS MAX_UNIT CUT KEY PAIRS BYTES`: the bytes, opened in these pieces under the raw key `k` of the namespace `ns`, the pairs being given.
-/// For each content how many bytes were taken with the last of its unit, and the content; where there is a fault, its line, and how many bytes were there; how the end
-/// is answered; and the whole context, or `locked`.
+/// `open UNCOMMITTED MAX_KEYS MAX_UNIT CUT KEY PAIRS BYTES`: the bytes, opened in these pieces
+/// under the raw key `k` of the namespace `ns`, the pairs being given. For each content how many
+/// bytes were taken with the last of its unit, and the content; where there is a fault, its line,
+/// and how many bytes were there; how the end is answered; and the whole context, or `locked`.
 pub(crate) fn open(words: &mut Words<'_>, line: &mut Line) -> Result<(), Wrong> {
     let settings = words.settings();
     let cut = words.cut();

@@ -20,9 +20,10 @@ struct Session {
     is_over: bool,
 }
 
-/// `seal KEY RANDOM ID PAIRS KEYS FRAME DECLARED MAX_KEYS CUT TEXT`: the text, sealed in these pieces under the raw key `k` of the namespace `ns`; the data key and the
-/// initialization vector of its wrap are RANDOM, the keys are required. For each frame how many bytes were taken before it was given; where there is a refusal, its line;
-/// and the header with all that was given.
+/// `seal KEY RANDOM ID PAIRS KEYS FRAME DECLARED MAX_KEYS CUT TEXT`: the text, sealed in these
+/// pieces under the raw key `k` of the namespace `ns`; the data key and the initialization vector
+/// of its wrap are RANDOM, the keys are required. For each frame how many bytes were taken before
+/// it was given; where there is a refusal, its line; and the header with all that was given.
 pub(crate) fn seal(words: &mut Words<'_>, line: &mut Line) -> Result<(), Wrong> {
     let key = words.array();
     let random = words.array();
@@ -44,7 +45,8 @@ pub(crate) fn seal(words: &mut Words<'_>, line: &mut Line) -> Result<(), Wrong> 
     Ok(())
 }
 
-/// What the default manager of this key gives. None where the request is refused or memory runs out.
+/// What the default manager of this key gives. None where the request is refused or memory runs
+/// out.
 fn materials(
     alloc: Global,
     key: [u8; 32],

@@ -7,7 +7,8 @@ use frame_codec::{
     Head, UnitKind, final_head, judge_head, number_after, regular_head, unit_aad, write_single,
 };
 
-/// `unit CONTENT NUMBER MAX_UNIT BYTES`: what is known of the unit that begins with the bytes and is to have the number.
+/// `unit CONTENT NUMBER MAX_UNIT BYTES`: what is known of the unit that begins with the bytes and
+/// is to have the number.
 pub(crate) fn judge(words: &mut Words<'_>, line: &mut Line) -> Result<(), Wrong> {
     let content = words.content();
     let want = words.number32();
@@ -63,7 +64,8 @@ pub(crate) fn aad(words: &mut Words<'_>, line: &mut Line) -> Result<(), Wrong> {
     Ok(())
 }
 
-/// `heads NUMBER LENGTH`: what stands before the content of a regular frame of this number, and of a final one of so many bytes.
+/// `heads NUMBER LENGTH`: what stands before the content of a regular frame of this number, and of
+/// a final one of so many bytes.
 pub(crate) fn heads(words: &mut Words<'_>, line: &mut Line) -> Result<(), Wrong> {
     let number = words.number32();
     let length = words.number32();

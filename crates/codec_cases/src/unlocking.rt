@@ -10,8 +10,9 @@ use keyring_trait::DataKey;
 use message_format::{header_tag, message_key, unlocked_key};
 use std::alloc::{AllocError, Global};
 
-/// `unlock UNCOMMITTED BYTES KEY PAIRS`: the tag of the header that the bytes begin with, under a data key and with pairs that are only authenticated, and why they
-/// don't unlock the header, or `unlocked`; or the header's fault and the offset where its field ends, or `wanting`.
+/// `unlock UNCOMMITTED BYTES KEY PAIRS`: the tag of the header that the bytes begin with, under a
+/// data key and with pairs that are only authenticated, and why they don't unlock the header, or
+/// `unlocked`; or the header's fault and the offset where its field ends, or `wanting`.
 pub(crate) fn unlock(words: &mut Words<'_>, line: &mut Line) -> Result<(), Wrong> {
     let uncommitted = words.flag();
     let bytes = words.bytes();

@@ -17,7 +17,8 @@ pub(crate) struct Cut {
     pub(crate) rest: usize,
 }
 
-/// The words of a call that weren't read yet. Where one can't be read, something stands for it, and what was wrong first comes at the end.
+/// The words of a call that weren't read yet. Where one can't be read, something stands for it, and
+/// what was wrong first comes at the end.
 #[derive(Drop)]
 pub(crate) struct Words<'a> {
     pub(crate) alloc: Global,
@@ -176,7 +177,8 @@ impl<'a> Words<'a> {
         }
     }
 
-    /// Whether messages of version 1 are read, the greatest number of encrypted data keys, and the greatest length of a unit.
+    /// Whether messages of version 1 are read, the greatest number of encrypted data keys, and the
+    /// greatest length of a unit.
     pub(crate) fn settings(&mut self) -> Settings {
         let uncommitted = self.flag();
         let max_keys = self.max_keys();
@@ -188,7 +190,8 @@ impl<'a> Words<'a> {
         }
     }
 
-    /// `-` for one piece, `N` for pieces of so many bytes, `<N` for the first N bytes and the others.
+    /// `-` for one piece, `N` for pieces of so many bytes, `<N` for the first N bytes and the
+    /// others.
     pub(crate) fn cut(&mut self) -> Cut {
         let word = self.word();
         if word == "-" {

@@ -11,8 +11,8 @@ use crate::pair::Pair;
 use std::alloc::{AllocError, Global};
 use std::marker::Model;
 
-/// The pairs of an encryption context, strictly ascending by the bytes of their keys, whose text is at most 65,535 bytes long.
-/// A contract sees the list of the pairs.
+/// The pairs of an encryption context, strictly ascending by the bytes of their keys, whose text is
+/// at most 65,535 bytes long. A contract sees the list of the pairs.
 #[derive(Drop)]
 pub struct Context {
     pub(crate) pairs: Vec<Pair>,
@@ -27,7 +27,8 @@ impl Model for Context {
 
     ghost view = { λ c. c.pairs.items };
 
-    ghost invariant = { λ c. IsContext c.pairs.items × (c.text_len ≡ length (ctx_text c.pairs.items)) };
+    ghost invariant = { λ c. IsContext c.pairs.items
+        × (c.text_len ≡ length (ctx_text c.pairs.items)) };
 }
 
 impl Context {

@@ -68,10 +68,12 @@ impl<T: Drop> From<AllocFailed<T>> for PairError {
 impl Context {
     /// Inserts a pair at its place in the order of the keys.
     ///
-    /// Q3 `DuplicateKey` where the key is there already; else Q2 `ContextTooLong` with the length that the text would have, where that is over
-    /// 65,535 bytes; `Memory` where memory runs out. After an error the context stands as before.
+    /// Q3 `DuplicateKey` where the key is there already; else Q2 `ContextTooLong` with the length
+    /// that the text would have, where that is over 65,535 bytes; `Memory` where memory runs out.
+    /// After an error the context stands as before.
     pub fn insert(&mut self, alloc: Global, key: &str, value: &str) -> Result<(), PairError>
-        ensures ok { OnOk result (self.new ≡ insert_entry (slice_cmp nat_cmp) self.old key.now value.now) }
+        ensures ok { OnOk result (self.new ≡ insert_entry
+            (slice_cmp nat_cmp) self.old key.now value.now) }
         ensures taken { OnOk result (refusal_of self.old (key.now, value.now) ≡ None) }
         ensures cause { IfErr result (λ e. RefusesAs e (refusal_of self.old (key.now, value.now))) }
         ensures err { OnErr result (self.new ≡ self.old) }
@@ -96,7 +98,8 @@ pub(crate) const MAX_TEXT: u128 = 65535;
 /// Where a pair with this key belongs. None where the key is there already.
 fn place_of(pairs: &[Pair], key: &str) -> Option<usize>
     requires { IsAscending pairs.now }
-    ensures { MatchOption result (list_any (has_key key.now) pairs.now ≡ true) (IsPlace key.now pairs.now) }
+    ensures { MatchOption result (list_any (has_key key.now) pairs.now ≡ true)
+        (IsPlace key.now pairs.now) }
 {
     for (at, pair) in pairs.iter().enumerate() {
         match key.cmp(pair.key()) {

@@ -23,8 +23,9 @@ pub struct Joined {
 
 /// Joins the pairs that a header stores and those that a caller gives.
 ///
-/// M12 `ContextMismatch` with the least key that is stored and given with different values; else M14 `ContextTooLong` with the length of the whole
-/// context's text in bytes where it is over 65,535; `Memory` where memory runs out. Never `Stopped`.
+/// M12 `ContextMismatch` with the least key that is stored and given with different values; else
+/// M14 `ContextTooLong` with the length of the whole context's text in bytes where it is over
+/// 65,535; `Memory` where memory runs out. Never `Stopped`.
 pub fn join(alloc: Global, stored: &Context, given: &Context) -> Result<Joined, FieldError>
     ensures whole { IfOk result (λ j. j.whole ≡ whole_of stored.now given.now) }
     ensures only { IfOk result (λ j. j.only ≡ only_given stored.now given.now) }

@@ -9,7 +9,8 @@ use std::alloc::{AllocError, Global};
 use std::cmp::Ordering;
 use std::marker::Model;
 
-/// Keys of encryption contexts, strictly ascending by their bytes. A contract sees the list of the keys.
+/// Keys of encryption contexts, strictly ascending by their bytes. A contract sees the list of the
+/// keys.
 #[derive(Drop)]
 pub struct KeySet {
     keys: Vec<Text>,
@@ -36,7 +37,8 @@ impl KeySet {
         }
     }
 
-    /// Inserts a key at its place. A key that is there stays. Fails only where memory runs out, and leaves the set as it was then.
+    /// Inserts a key at its place. A key that is there stays. Fails only where memory runs out, and
+    /// leaves the set as it was then.
     pub fn insert(&mut self, alloc: Global, key: &str) -> Result<(), AllocError>
         ensures ok { OnOk result (self.new ≡ with_key self.old key.now) }
         ensures err { OnErr result (self.new ≡ self.old) }
@@ -86,7 +88,8 @@ impl KeySet {
 
 /// Where the key belongs. None where it is there already.
 fn place_of(keys: &[Text], key: &str) -> Option<usize>
-    ensures { MatchOption result (with_key keys.now key.now ≡ keys.now) (IsKeyPlace key.now keys.now) }
+    ensures { MatchOption result (with_key keys.now key.now ≡ keys.now)
+        (IsKeyPlace key.now keys.now) }
 {
     for (at, held) in keys.iter().enumerate() {
         match key.cmp(held.as_str()) {

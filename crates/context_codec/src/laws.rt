@@ -1,13 +1,16 @@
-//! The laws of contexts, of the bytes that spell them and of key sets, each a function with an empty body whose contract is the law.
+//! The laws of contexts, of the bytes that spell them and of key sets, each a function with an
+//! empty body whose contract is the law.
 
 ghost use Rattle.context_codec.specs.Laws.{SplitsSpellings, ReadsSpelledContexts, SpellsSomeContext, SpellsOneContext, TakesTexts, RefusesOtherBytes, RefusesOtherTexts, RefusesDuplicates, ReadsBack, HoldsOneMoreKey, AscendsWithOneMoreKey, JoinsPairs, FindsTheLeastKey, FindsThePairOfTheLeastKey};
 
-/// The reader splits bytes into pairs exactly where the bytes are the spelling of these pairs: the count and the pairs one after another.
+/// The reader splits bytes into pairs exactly where the bytes are the spelling of these pairs: the
+/// count and the pairs one after another.
 pub fn spellings_are_split()
     ensures { SplitsSpellings }
 {}
 
-/// Bytes spell a context, as the reader says, exactly where they are a spelling of its pairs in some order, texts with distinct keys.
+/// Bytes spell a context, as the reader says, exactly where they are a spelling of its pairs in
+/// some order, texts with distinct keys.
 pub fn spelled_contexts_are_read()
     ensures { ReadsSpelledContexts }
 {}
@@ -32,12 +35,14 @@ pub fn other_bytes_are_refused()
     ensures { RefusesOtherBytes }
 {}
 
-/// M3 `Utf8` comes exactly where they are the spelling of pairs of which some key or value isn't UTF-8.
+/// M3 `Utf8` comes exactly where they are the spelling of pairs of which some key or value isn't
+/// UTF-8.
 pub fn other_texts_are_refused()
     ensures { RefusesOtherTexts }
 {}
 
-/// M3 `Duplicate` comes exactly where they are the spelling of texts of which some key stands twice.
+/// M3 `Duplicate` comes exactly where they are the spelling of texts of which some key stands
+/// twice.
 pub fn duplicate_keys_are_refused()
     ensures { RefusesDuplicates }
 {}
@@ -57,17 +62,20 @@ pub fn one_more_key_keeps_the_order()
     ensures { AscendsWithOneMoreKey }
 {}
 
-/// The whole of stored and given pairs ascends, and holds the stored pairs and the given ones whose keys aren't stored, and no others.
+/// The whole of stored and given pairs ascends, and holds the stored pairs and the given ones whose
+/// keys aren't stored, and no others.
 pub fn stored_and_given_pairs_are_joined()
     ensures { JoinsPairs }
 {}
 
-/// The first key of a set that passes a test is the least that does. So Q4 names the least required key that the context hasn't.
+/// The first key of a set that passes a test is the least that does. So Q4 names the least required
+/// key that the context hasn't.
 pub fn the_least_key_is_found()
     ensures { FindsTheLeastKey }
 {}
 
-/// The first pair of a context whose key passes a test has the least key that does. So Q1 names the least reserved key.
+/// The first pair of a context whose key passes a test has the least key that does. So Q1 names the
+/// least reserved key.
 pub fn the_pair_of_the_least_key_is_found()
     ensures { FindsThePairOfTheLeastKey }
 {}

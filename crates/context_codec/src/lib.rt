@@ -1,9 +1,11 @@
-//! Encryption contexts: pairs of texts in the order of their keys, and the one text of each context in a message's header. A set of keys picks out
-//! pairs of a context, and the pairs that a header stores are joined to those that a caller gives.
+//! Encryption contexts: pairs of texts in the order of their keys, and the one text of each context
+//! in a message's header. A set of keys picks out pairs of a context, and the pairs that a header
+//! stores are joined to those that a caller gives.
 //!
-//! The definitions stand in `specs/`: `Context` says what a context and its text are, `Split` how a text is read, `Spelling` the same without a
-//! reader, `KeySet` what a set of keys is, `Parts` and `Join` what is picked out and joined. A law is a function with an empty body, whose contract
-//! is the law.
+//! The definitions stand in `specs/`: `Context` says what a context and its text are, `Split` how a
+//! text is read, `Spelling` the same without a reader, `KeySet` what a set of keys is, `Parts` and
+//! `Join` what is picked out and joined. A law is a function with an empty body, whose contract is
+//! the law.
 #![tactic(auto)]
 
 mod context;

@@ -16,10 +16,12 @@ use esdk_fields::{ContextFault, Fault, FieldError};
 use std::alloc::{AllocError, Global};
 use std::cmp::Ordering;
 
-/// Reads the context that the bytes spell, as they stand in a header behind their length: in any order of the keys, in its one sorted form.
+/// Reads the context that the bytes spell, as they stand in a header behind their length: in any
+/// order of the keys, in its one sorted form.
 ///
-/// M3 `Length` where the bytes are no text of pairs, else `Utf8` where a key or a value isn't UTF-8, else `Duplicate` where a key stands twice;
-/// `Memory` where memory runs out. Never `Stopped`.
+/// M3 `Length` where the bytes are no text of pairs, else `Utf8` where a key or a value isn't
+/// UTF-8, else `Duplicate` where a key stands twice; `Memory` where memory runs out. Never
+/// `Stopped`.
 pub fn read_field(alloc: Global, bytes: &[u8]) -> Result<Context, FieldError>
     requires { length bytes.now ≤ 65535 }
     ensures found { IfOk result (SpellsContext bytes.now) }
@@ -82,7 +84,8 @@ fn keys_ascend(pairs: &[Pair]) -> bool
     true
 }
 
-/// The length of the text of these pairs, which the bytes spell: 0 where there are none, since the empty context has the empty text.
+/// The length of the text of these pairs, which the bytes spell: 0 where there are none, since the
+/// empty context has the empty text.
 fn text_len_of(pairs: &[Pair], bytes: &[u8]) -> u32
     requires { length bytes.now ≤ 65535 }
     ensures { result ≡ (if length pairs.now == 0 then 0 else length bytes.now) }

@@ -10,7 +10,8 @@ use crate::raw::RawPair;
 use esdk_fields::{Cursor, Stop, sized_of, u16_of};
 use std::alloc::{AllocError, Global};
 
-/// The pairs that the bytes spell, in the order in which they stand there. None where the bytes spell no pairs.
+/// The pairs that the bytes spell, in the order in which they stand there. None where the bytes
+/// spell no pairs.
 #[tactic(auto, unfolding(crate::specs::Split::split))]
 pub(crate) fn split_of(alloc: Global, bytes: &[u8]) -> Result<Option<Vec<RawPair<'_>>>, AllocError>
     ensures { IfOk result (λ found. FindsPairs found (split bytes.now)) }

@@ -11,8 +11,9 @@ use esdk_fields::{Blob, put_sized, put_u16};
 use std::alloc::{AllocError, Global};
 
 impl Context {
-    /// The text of the context: nothing for the empty context; else the count of the pairs in two bytes and, for each pair in the order of the
-    /// keys, key length in two bytes, key, value length in two bytes, value. Fails only where memory runs out.
+    /// The text of the context: nothing for the empty context; else the count of the pairs in two
+    /// bytes and, for each pair in the order of the keys, key length in two bytes, key, value
+    /// length in two bytes, value. Fails only where memory runs out.
     #[tactic(auto, unfolding(crate::specs::Context::pairs_text))]
     pub fn text(&self, alloc: Global) -> Result<Blob, AllocError>
         ensures text { IfOk result (λ text. text ≡ ctx_text self.now) }

@@ -6,8 +6,8 @@ ghost use Rattle.edk_codec.specs.Entry.{IsEntry};
 use std::alloc::{AllocError, Global};
 use std::marker::Model;
 
-/// An encrypted data key: who wrapped it, with what information, and the wrapped key. Each part has at most 65,535 bytes.
-/// A contract sees an `Entry` of the three lists of bytes.
+/// An encrypted data key: who wrapped it, with what information, and the wrapped key. Each part has
+/// at most 65,535 bytes. A contract sees an `Entry` of the three lists of bytes.
 #[derive(Drop)]
 pub struct DataKeyEntry {
     provider_id: Vec<u8>,

@@ -1,5 +1,6 @@
-//! Encrypted data keys of a message header: one entry for each wrapping key, and the information that a raw AES keyring writes into its entry.
-//! Standard: AWS Encryption SDK, message header, "Encrypted Data Keys"; raw AES keyring, "Key Provider Information".
+//! Encrypted data keys of a message header: one entry for each wrapping key, and the information
+//! that a raw AES keyring writes into its entry. Standard: AWS Encryption SDK, message header,
+//! "Encrypted Data Keys"; raw AES keyring, "Key Provider Information".
 #![tactic(auto)]
 
 mod entries;

@@ -12,7 +12,8 @@ const TAG_BITS: u32 = 128;
 /// The length of an IV, in bytes.
 const IV_BYTES: u32 = 12;
 
-/// The information for a key of this name that was used with this IV. Fails only where memory runs out.
+/// The information for a key of this name that was used with this IV. Fails only where memory runs
+/// out.
 #[tactic(auto, unfolding(crate::specs::RawInfo::raw_info), using(std::proofs::Common::append_assoc))]
 pub fn raw_info(alloc: Global, name: &[u8], iv: &[u8; 12]) -> Result<Blob, AllocError>
     requires { length name.now ≤ 1024 }

@@ -33,7 +33,8 @@ fn parts_of<'a>(cursor: &mut Cursor<'a>) -> Option<Parts<'a>>
     })
 }
 
-/// Reads an entry. None exactly where the bytes left don't begin with a whole entry. Then, and where memory runs out, the cursor stays.
+/// Reads an entry. None exactly where the bytes left don't begin with a whole entry. Then, and
+/// where memory runs out, the cursor stays.
 pub fn read_entry(
     alloc: Global,
     cursor: &mut Cursor<'_>,

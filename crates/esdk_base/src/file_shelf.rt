@@ -11,7 +11,8 @@ use std::io::Write;
 use std::marker::Model;
 use std::os::unix::fs::FileExt;
 
-/// A shelf over the files of the system. A name is a path, as the user gave it. It tells no content.
+/// A shelf over the files of the system. A name is a path, as the user gave it. It tells no
+/// content.
 #[derive(Drop)]
 pub struct FileShelf {
     rt: HostRuntime,

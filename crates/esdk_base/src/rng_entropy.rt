@@ -10,7 +10,8 @@ use rand_chacha::ChaCha20Rng;
 use rand_core::Rng;
 use std::marker::Model;
 
-/// An entropy over a generator of ChaCha20. Where the generator couldn't be seeded there is none. It tells no content.
+/// An entropy over a generator of ChaCha20. Where the generator couldn't be seeded there is none.
+/// It tells no content.
 #[derive(Drop)]
 pub struct RngEntropy {
     rng: Option<ChaCha20Rng>,

@@ -14,30 +14,37 @@ use crate::Failed;
 pub trait Shelf {
     ghost use Rattle.esdk_base.specs.Streams.{ShelfState};
 
-    /// The files, where the shelf tells them; how many bytes it gave so far, and how often it failed, each at most 2^64 - 1.
+    /// The files, where the shelf tells them; how many bytes it gave so far, and how often it
+    /// failed, each at most 2^64 - 1.
     ghost state: { Self → ShelfState };
 
-    /// Puts bytes of the file from the offset `at` on into the front of `out`, and answers how many.
+    /// Puts bytes of the file from the offset `at` on into the front of `out`, and answers how
+    /// many.
     ///
-    /// For a non-empty `out`, `Ok(0)` comes only at the end of the file or past it. The files stay as they are.
+    /// For a non-empty `out`, `Ok(0)` comes only at the end of the file or past it. The files stay
+    /// as they are.
     fn read_at(&mut self, name: &str, at: u64, out: &mut [u8]) -> Result<usize, Failed>
         ensures bound { ReadsAtMost result out.new }
         ensures bytes { ReadsFrom (state self.old).files result name.now at out.new }
         ensures end { EndsAt (state self.old).files result name.now at out.new }
         ensures stays { (state self.new).files ≡ (state self.old).files }
         ensures given { CountsGiven (state self.old).given (state self.new).given result }
-        ensures cause { HasCauseOrMissing (is_missing (state self.old).files name.now) (state self.old).faults (state self.new).faults result };
+        ensures cause { HasCauseOrMissing (is_missing (state self.old).files name.now)
+            (state self.old).faults (state self.new).faults result };
 
-    /// Makes the name hold no bytes, whether it was there or not. After `Failed` the files are as before or as after `Ok`.
+    /// Makes the name hold no bytes, whether it was there or not. After `Failed` the files are as
+    /// before or as after `Ok`.
     fn create(&mut self, name: &str) -> Result<(), Failed>
         ensures bytes { Creates (state self.old).files (state self.new).files result name.now }
         ensures given { (state self.new).given ≡ (state self.old).given }
         ensures cause { HasCause (state self.old).faults (state self.new).faults result };
 
-    /// Appends `bytes` to the file. After `Failed` a front of them, which may be empty or all, was appended, and
-    /// nothing where the name isn't there.
+    /// Appends `bytes` to the file. After `Failed` a front of them, which may be empty or all, was
+    /// appended, and nothing where the name isn't there.
     fn append(&mut self, name: &str, bytes: &[u8]) -> Result<(), Failed>
-        ensures bytes { AppendsTo (state self.old).files (state self.new).files result name.now bytes.now }
+        ensures bytes { AppendsTo (state self.old).files
+            (state self.new).files result name.now bytes.now }
         ensures given { (state self.new).given ≡ (state self.old).given }
-        ensures cause { HasCauseOrMissing (is_missing (state self.old).files name.now) (state self.old).faults (state self.new).faults result };
+        ensures cause { HasCauseOrMissing (is_missing (state self.old).files name.now)
+            (state self.old).faults (state self.new).faults result };
 }

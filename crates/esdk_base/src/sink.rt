@@ -9,11 +9,13 @@ use crate::Failed;
 pub trait Sink {
     ghost use Rattle.esdk_base.specs.Streams.{SinkState};
 
-    /// The bytes written, where the sink tells them; and how often it failed so far, at most 2^64 - 1.
+    /// The bytes written, where the sink tells them; and how often it failed so far, at most 2^64 -
+    /// 1.
     ghost state: { Self → SinkState };
 
     /// Appends `bytes`. After `Failed` a front of them, which may be empty or all, was appended.
     fn put(&mut self, bytes: &[u8]) -> Result<(), Failed>
-        ensures bytes { PutAppends (state self.old).written (state self.new).written result bytes.now }
+        ensures bytes { PutAppends (state self.old).written
+            (state self.new).written result bytes.now }
         ensures cause { HasCause (state self.old).faults (state self.new).faults result };
 }

@@ -7,7 +7,8 @@ ghost use Rattle.esdk_fields.specs.Counts.{CountsGiven, HasCause};
 use std::error::Error;
 use std::fmt;
 
-/// A call of an outside object failed. The object's count of faults has risen, but for a shelf that has no file of the name.
+/// A call of an outside object failed. The object's count of faults has risen, but for a shelf that
+/// has no file of the name.
 #[derive(Debug, Clone, Copy, PartialEq, Eq)]
 pub struct Failed;
 
@@ -23,7 +24,8 @@ impl Error for Failed {}
 pub trait Source {
     ghost use Rattle.esdk_base.specs.Streams.{SourceState};
 
-    /// The bytes left, where the source tells them; how many bytes it gave so far, and how often it failed, each at most 2^64 - 1.
+    /// The bytes left, where the source tells them; how many bytes it gave so far, and how often it
+    /// failed, each at most 2^64 - 1.
     ghost state: { Self → SourceState };
 
     /// Puts the first n bytes left into the front of `out` and takes them away, and answers n.

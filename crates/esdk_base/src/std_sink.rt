@@ -41,7 +41,8 @@ impl<W: Write> Sink for StdSink<W> {
         ensures cause { HasCause self.old.faults self.new.faults result }
 
         // The bytes went to the writer, where the writer tells what it holds.
-        ensures writer { OnOk result (Appends (W.contents self.old.writer) (W.contents self.new.writer) bytes.now) }
+        ensures writer { OnOk result (Appends (W.contents self.old.writer)
+            (W.contents self.new.writer) bytes.now) }
     {
         let Ok(()) = self.writer.write_all(bytes) else {
             self.faults = self.faults.saturating_add(1);

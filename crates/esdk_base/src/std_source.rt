@@ -48,7 +48,8 @@ impl<R: Read> Source for StdSource<R> {
         ensures cause { HasCause self.old.faults self.new.faults result }
 
         // The bytes are the reader's, where the reader tells them.
-        ensures reader { ReadConsumes (R.remaining self.old.reader) (R.remaining self.new.reader) result out.new }
+        ensures reader { ReadConsumes (R.remaining self.old.reader)
+            (R.remaining self.new.reader) result out.new }
     {
         let Ok(count) = self.reader.read(out) else {
             self.faults = self.faults.saturating_add(1);

@@ -39,7 +39,8 @@ fn seconds_since_1970(rt: HostRuntime) -> Option<u64> {
     Some(passed.as_secs())
 }
 
-/// Where the system's clock fails, or stands before 1970, the last moment is answered again, and 0 where there was none.
+/// Where the system's clock fails, or stands before 1970, the last moment is answered again, and 0
+/// where there was none.
 impl Clock for SystemClock {
     ghost moments = { λ _. None };
 

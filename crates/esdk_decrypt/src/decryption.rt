@@ -24,18 +24,24 @@ use std::alloc::Global;
 use stream_open::Opener;
 use whole_input::{End, Pieces};
 
-/// Reads the input piece by piece, and writes the contents of its frames, or of its one block, that open, each before more is read.
-/// The materials manager is asked for the data key at the moment `now`, in seconds, and is told the pairs that the caller gives beside those that the header stores.
+/// Reads the input piece by piece, and writes the contents of its frames, or of its one block, that
+/// open, each before more is read. The materials manager is asked for the data key at the moment
+/// `now`, in seconds, and is told the pairs that the caller gives beside those that the header
+/// stores.
 ///
-/// The message is judged in order: the first fault ends the judgement, and what was released before is written. Nothing is written before it is judged.
+/// The message is judged in order: the first fault ends the judgement, and what was released before
+/// is written. Nothing is written before it is judged.
 ///
-/// Ok: the input is a whole message, all of its text was written, and this is its whole context: the pairs that its header stores and those that are only
-/// authenticated. Else:
+/// Ok: the input is a whole message, all of its text was written, and this is its whole context:
+/// the pairs that its header stores and those that are only authenticated. Else:
 ///
-/// - `Fault`: the input has this fault, which is its first, and what was released before it was written. Where the input's end wasn't seen, the bytes taken have it.
-/// - `Outside`: a read failed, or 2^62 bytes came and more may follow, and the bytes taken have no fault; what they release was written. Or a keyring failed when the
-///   manager was asked: nothing was written. Or the output failed: a front of what the bytes taken release was written.
-/// - `Memory`: nothing was written. It doesn't come once a piece, of at most 65,536 bytes, was read behind the unlocked header of a framed message.
+/// - `Fault`: the input has this fault, which is its first, and what was released before it was
+///   written. Where the input's end wasn't seen, the bytes taken have it.
+/// - `Outside`: a read failed, or 2^62 bytes came and more may follow, and the bytes taken have no
+///   fault; what they release was written. Or a keyring failed when the manager was asked: nothing
+///   was written. Or the output failed: a front of what the bytes taken release was written.
+/// - `Memory`: nothing was written. It doesn't come once a piece, of at most 65,536 bytes, was read
+///   behind the unlocked header of a framed message.
 pub fn decrypt<M: Manager, S: Source, O: Sink>(
     alloc: Global,
     manager: &mut M,
@@ -46,22 +52,41 @@ pub fn decrypt<M: Manager, S: Source, O: Sink>(
     output: &mut O,
 ) -> Result<Context, DecryptError>
     ensures done { IfOk result (Decrypts
-        (asked_from (M.meaning manager.old) (M.meaning manager.new) (M.tells manager.old) (M.exact manager.old) (M.found manager.new) now settings given.now)
+        (asked_from (M.meaning manager.old) (M.meaning manager.new) (M.tells manager.old)
+        (M.exact manager.old) (M.found manager.new) now settings given.now)
         (S.state input.old) (S.state input.new) (O.state output.old) (O.state output.new)) }
     ensures ends { IfErr result (EndsSo
-        (asked_from (M.meaning manager.old) (M.meaning manager.new) (M.tells manager.old) (M.exact manager.old) (M.found manager.new) now settings given.now)
-        (S.state input.old) (S.state input.new) (O.state output.old) (O.state output.new) (output.new ≡ output.old)) }
-    ensures reads { (keys : List WrapKeyValue) → M.tells manager.old keys → M.exact manager.old → Stayed (M.meaning manager.old).faults (M.meaning manager.new).faults
+        (asked_from (M.meaning manager.old) (M.meaning manager.new) (M.tells manager.old)
+        (M.exact manager.old) (M.found manager.new) now settings given.now)
+        (S.state input.old) (S.state input.new) (O.state output.old) (O.state output.new)
+        (output.new ≡ output.old)) }
+    ensures reads { (keys : List WrapKeyValue) → M.tells manager.old keys → M.exact manager.old
+        → Stayed (M.meaning manager.old).faults (M.meaning manager.new).faults
         → IfOk result (Decrypts
-        (asked_by (record { keys = keys; settings = settings; given = given.now; required = (M.meaning manager.old).demands }))
+        (asked_by (record {
+          keys = keys;
+          settings = settings;
+          given = given.now;
+          required =
+              (M.meaning manager.old).demands;
+        }))
         (S.state input.old) (S.state input.new) (O.state output.old) (O.state output.new)) }
-    ensures stops { (keys : List WrapKeyValue) → M.tells manager.old keys → M.exact manager.old → Stayed (M.meaning manager.old).faults (M.meaning manager.new).faults
+    ensures stops { (keys : List WrapKeyValue) → M.tells manager.old keys → M.exact manager.old
+        → Stayed (M.meaning manager.old).faults (M.meaning manager.new).faults
         → IfErr result (EndsSo
-        (asked_by (record { keys = keys; settings = settings; given = given.now; required = (M.meaning manager.old).demands }))
-        (S.state input.old) (S.state input.new) (O.state output.old) (O.state output.new) (output.new ≡ output.old)) }
+        (asked_by (record {
+          keys = keys;
+          settings = settings;
+          given = given.now;
+          required =
+              (M.meaning manager.old).demands;
+        }))
+        (S.state input.old) (S.state input.new) (O.state output.old) (O.state output.new)
+        (output.new ≡ output.old)) }
     ensures goes { ManagerGoes (M.meaning manager.old) (M.meaning manager.new) }
     ensures tells { TellsOn (M.tells manager.old) (M.tells manager.new) }
-    ensures same { (M.meaning manager.old).plain ≡ true → TellsOn (M.tells manager.new) (M.tells manager.old) }
+    ensures same { (M.meaning manager.old).plain ≡ true
+        → TellsOn (M.tells manager.new) (M.tells manager.old) }
     ensures exact { M.exact manager.old → M.exact manager.new }
     ensures taken { (S.state input.new).given ≤ (S.state input.old).given + 2 ^ 62 }
 {
@@ -72,7 +97,8 @@ pub fn decrypt<M: Manager, S: Source, O: Sink>(
     conclude(opener, end)
 }
 
-/// Feeds the opener, which has taken nothing, all pieces of the input, and says why no more came. The buffer is taken before the first read.
+/// Feeds the opener, which has taken nothing, all pieces of the input, and says why no more came.
+/// The buffer is taken before the first read.
 fn feed_input<M: Manager, S: Source, O: Sink>(
     alloc: Global,
     manager: &mut M,
@@ -83,14 +109,21 @@ fn feed_input<M: Manager, S: Source, O: Sink>(
 ) -> Result<End, DecryptError>
     requires manager { ManagerGoes (M.meaning manager.old) (M.meaning manager.old) }
     requires going { IsGoing opener.old }
-    ensures fed { (settings : Settings) (given : List KeyValue) → Stands opener.old (opened settings given) → IfOk result (λ end. IsFedWhole
-        (asked_from (M.meaning manager.old) (M.meaning manager.new) (M.tells manager.old) (M.exact manager.old) (M.found manager.new) now settings given)
-        (manager.new ≡ manager.old) (S.state input.old) (S.state input.new) (O.state output.old) (O.state output.new) (output.new ≡ output.old) end opener.new) }
-    ensures ends { (settings : Settings) (given : List KeyValue) → Stands opener.old (opened settings given) → IfErr result (EndsSo
-        (asked_from (M.meaning manager.old) (M.meaning manager.new) (M.tells manager.old) (M.exact manager.old) (M.found manager.new) now settings given)
-        (S.state input.old) (S.state input.new) (O.state output.old) (O.state output.new) (output.new ≡ output.old)) }
+    ensures fed { (settings : Settings) (given : List KeyValue)
+        → Stands opener.old (opened settings given) → IfOk result (λ end. IsFedWhole
+        (asked_from (M.meaning manager.old) (M.meaning manager.new) (M.tells manager.old)
+        (M.exact manager.old) (M.found manager.new) now settings given)
+        (manager.new ≡ manager.old) (S.state input.old) (S.state input.new) (O.state output.old)
+        (O.state output.new) (output.new ≡ output.old) end opener.new) }
+    ensures ends { (settings : Settings) (given : List KeyValue)
+        → Stands opener.old (opened settings given) → IfErr result (EndsSo
+        (asked_from (M.meaning manager.old) (M.meaning manager.new) (M.tells manager.old)
+        (M.exact manager.old) (M.found manager.new) now settings given)
+        (S.state input.old) (S.state input.new) (O.state output.old) (O.state output.new)
+        (output.new ≡ output.old)) }
     ensures going { IfOk result (λ _. IsGoing opener.new) }
-    ensures manager { KeepsManager (M.meaning manager.old) (M.meaning manager.new) (M.tells manager.old) (M.tells manager.new) (M.exact manager.old) (M.exact manager.new) }
+    ensures manager { KeepsManager (M.meaning manager.old) (M.meaning manager.new)
+        (M.tells manager.old) (M.tells manager.new) (M.exact manager.old) (M.exact manager.new) }
     ensures taken { (S.state input.new).given ≤ (S.state input.old).given + 2 ^ 62 }
 {
     let mut pieces = Pieces::new(alloc)?;

@@ -29,19 +29,29 @@ pub(crate) fn feed<M: Manager, O: Sink>(
 ) -> Result<(), DecryptError>
     requires manager { ManagerGoes (M.meaning manager.old) (M.meaning manager.old) }
     requires going { IsGoing opener.old }
-    ensures fed { (first : M) (begun : O) (settings : Settings) (given : List KeyValue) (bytes : List ℕ)
-        → IsUnderway (asked_from (M.meaning first) (M.meaning manager.old) (M.tells first) (M.exact first) (M.found manager.old) now settings given)
-        (manager.old ≡ first) (O.state begun) (O.state output.old) (output.old ≡ begun) bytes opener.old
-        → OnOk result (IsUnderway (asked_from (M.meaning first) (M.meaning manager.new) (M.tells first) (M.exact first) (M.found manager.new) now settings given)
-        (manager.new ≡ first) (O.state begun) (O.state output.new) (output.new ≡ begun) (bytes ++ piece.now) opener.new) }
-    ensures ends { (first : M) (begun : O) (settings : Settings) (given : List KeyValue) (bytes : List ℕ) (input taken : SourceState)
-        → IsUnderway (asked_from (M.meaning first) (M.meaning manager.old) (M.tells first) (M.exact first) (M.found manager.old) now settings given)
-        (manager.old ≡ first) (O.state begun) (O.state output.old) (output.old ≡ begun) bytes opener.old
+    ensures fed { (first : M) (begun : O) (settings : Settings) (given : List KeyValue)
+        (bytes : List ℕ)
+        → IsUnderway (asked_from (M.meaning first) (M.meaning manager.old) (M.tells first)
+        (M.exact first) (M.found manager.old) now settings given)
+        (manager.old ≡ first) (O.state begun) (O.state output.old)
+        (output.old ≡ begun) bytes opener.old
+        → OnOk result (IsUnderway (asked_from (M.meaning first) (M.meaning manager.new)
+        (M.tells first) (M.exact first) (M.found manager.new) now settings given)
+        (manager.new ≡ first) (O.state begun) (O.state output.new) (output.new ≡ begun)
+        (bytes ++ piece.now) opener.new) }
+    ensures ends { (first : M) (begun : O) (settings : Settings) (given : List KeyValue)
+        (bytes : List ℕ) (input taken : SourceState)
+        → IsUnderway (asked_from (M.meaning first) (M.meaning manager.old) (M.tells first)
+        (M.exact first) (M.found manager.old) now settings given)
+        (manager.old ≡ first) (O.state begun) (O.state output.old)
+        (output.old ≡ begun) bytes opener.old
         → Came input taken (bytes ++ piece.now) → length piece.now ≤ most_piece
-        → IfErr result (EndsSo (asked_from (M.meaning first) (M.meaning manager.new) (M.tells first) (M.exact first) (M.found manager.new) now settings given)
+        → IfErr result (EndsSo (asked_from (M.meaning first) (M.meaning manager.new) (M.tells first)
+        (M.exact first) (M.found manager.new) now settings given)
         input taken (O.state begun) (O.state output.new) (output.new ≡ begun)) }
     ensures going { OnOk result (IsGoing opener.new) }
-    ensures manager { KeepsManager (M.meaning manager.old) (M.meaning manager.new) (M.tells manager.old) (M.tells manager.new) (M.exact manager.old) (M.exact manager.new) }
+    ensures manager { KeepsManager (M.meaning manager.old) (M.meaning manager.new)
+        (M.tells manager.old) (M.tells manager.new) (M.exact manager.old) (M.exact manager.new) }
 {
     let mut fed = 0;
     while fed < piece.len() {
@@ -53,7 +63,8 @@ pub(crate) fn feed<M: Manager, O: Sink>(
     Ok(())
 }
 
-/// Feeds the opener up to the end of a unit, or of what is left of a piece, writes the content that is released, and answers how many bytes were used.
+/// Feeds the opener up to the end of a unit, or of what is left of a piece, writes the content that
+/// is released, and answers how many bytes were used.
 fn advance<M: Manager, O: Sink>(
     alloc: Global,
     manager: &mut M,
@@ -64,20 +75,30 @@ fn advance<M: Manager, O: Sink>(
 ) -> Result<usize, DecryptError>
     requires some { 1 ≤ length left.now }
     requires going { IsGoing opener.old }
-    ensures fed { (first : M) (begun : O) (settings : Settings) (given : List KeyValue) (bytes : List ℕ)
-        → IsUnderway (asked_from (M.meaning first) (M.meaning manager.old) (M.tells first) (M.exact first) (M.found manager.old) now settings given)
-        (manager.old ≡ first) (O.state begun) (O.state output.old) (output.old ≡ begun) bytes opener.old
-        → IfOk result (λ used. IsUnderway (asked_from (M.meaning first) (M.meaning manager.new) (M.tells first) (M.exact first) (M.found manager.new) now settings given)
-        (manager.new ≡ first) (O.state begun) (O.state output.new) (output.new ≡ begun) (bytes ++ take used left.now) opener.new) }
-    ensures ends { (first : M) (begun : O) (settings : Settings) (given : List KeyValue) (bytes : List ℕ) (input taken : SourceState)
-        → IsUnderway (asked_from (M.meaning first) (M.meaning manager.old) (M.tells first) (M.exact first) (M.found manager.old) now settings given)
-        (manager.old ≡ first) (O.state begun) (O.state output.old) (output.old ≡ begun) bytes opener.old
+    ensures fed { (first : M) (begun : O) (settings : Settings) (given : List KeyValue)
+        (bytes : List ℕ)
+        → IsUnderway (asked_from (M.meaning first) (M.meaning manager.old) (M.tells first)
+        (M.exact first) (M.found manager.old) now settings given)
+        (manager.old ≡ first) (O.state begun) (O.state output.old)
+        (output.old ≡ begun) bytes opener.old
+        → IfOk result (λ used. IsUnderway (asked_from (M.meaning first) (M.meaning manager.new)
+        (M.tells first) (M.exact first) (M.found manager.new) now settings given)
+        (manager.new ≡ first) (O.state begun) (O.state output.new) (output.new ≡ begun)
+        (bytes ++ take used left.now) opener.new) }
+    ensures ends { (first : M) (begun : O) (settings : Settings) (given : List KeyValue)
+        (bytes : List ℕ) (input taken : SourceState)
+        → IsUnderway (asked_from (M.meaning first) (M.meaning manager.old) (M.tells first)
+        (M.exact first) (M.found manager.old) now settings given)
+        (manager.old ≡ first) (O.state begun) (O.state output.old)
+        (output.old ≡ begun) bytes opener.old
         → Came input taken (bytes ++ left.now) → length left.now ≤ most_piece
-        → IfErr result (EndsSo (asked_from (M.meaning first) (M.meaning manager.new) (M.tells first) (M.exact first) (M.found manager.new) now settings given)
+        → IfErr result (EndsSo (asked_from (M.meaning first) (M.meaning manager.new) (M.tells first)
+        (M.exact first) (M.found manager.new) now settings given)
         input taken (O.state begun) (O.state output.new) (output.new ≡ begun)) }
     ensures going { IfOk result (λ _. IsGoing opener.new) }
     ensures used { IfOk result (λ used. (1 ≤ used) × (used ≤ length left.now)) }
-    ensures manager { KeepsManager (M.meaning manager.old) (M.meaning manager.new) (M.tells manager.old) (M.tells manager.new) (M.exact manager.old) (M.exact manager.new) }
+    ensures manager { KeepsManager (M.meaning manager.old) (M.meaning manager.new)
+        (M.tells manager.old) (M.tells manager.new) (M.exact manager.old) (M.exact manager.new) }
 {
     match opener.step(alloc, manager, now, left) {
         Ok(used) => match put(opener.out(), output) {
@@ -90,7 +111,8 @@ fn advance<M: Manager, O: Sink>(
 
 /// Writes a content, if it has any bytes.
 fn put<O: Sink>(content: &[u8], output: &mut O) -> Result<(), DecryptError>
-    ensures { Puts (O.state output.old) (O.state output.new) (output.new ≡ output.old) content.now result }
+    ensures { Puts (O.state output.old) (O.state output.new)
+        (output.new ≡ output.old) content.now result }
 {
     if content.is_empty() {
         return Ok(());

@@ -16,8 +16,8 @@ use stream_seal::{SealError, Sealer};
 
 /// The sealer of a message with these materials, under this id, which takes any length of text.
 ///
-/// Q7 `TooManyDataKeys`, where there are more entries than the limit; Q8 `HeaderTooLong`, where the header would be too long; `Memory`, where memory runs
-/// out.
+/// Q7 `TooManyDataKeys`, where there are more entries than the limit; Q8 `HeaderTooLong`, where the
+/// header would be too long; `Memory`, where memory runs out.
 pub(crate) fn begin(
     alloc: Global,
     materials: &EncMaterials,
@@ -25,9 +25,11 @@ pub(crate) fn begin(
     message_id: &[u8; 32],
 ) -> Result<Sealer, EncryptError>
     requires some { 1 ≤ options.frame_length }
-    ensures stands { IfOk result (λ sealer. Stands sealer (session_of materials.now options.frame_length message_id.now [])) }
+    ensures stands { IfOk result (λ sealer. Stands sealer
+        (session_of materials.now options.frame_length message_id.now [])) }
     ensures taken { OnOk result (start_refusal materials.now options.max_keys message_id.now ≡ None) }
-    ensures cause { IfErr result (StartsNot (start_refusal materials.now options.max_keys message_id.now)) }
+    ensures cause { IfErr result (StartsNot (start_refusal materials.now options.max_keys
+        message_id.now)) }
     ensures each { All IsEntry materials.now.entries }
 {
     are_entries(materials.entries());

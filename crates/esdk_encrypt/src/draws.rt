@@ -57,8 +57,10 @@ impl Draws {
 /// Draws them by one fill: 32 of message id, 32 of data key, and 12 of IV for each wrap.
 pub(crate) fn draw<W: Entropy>(entropy: &mut W, wraps: u32) -> Result<Draws, Failed>
     requires { wraps ≤ 64 }
-    ensures drew { IfOk result (λ drawn. Drew wraps (W.state entropy.old) (W.state entropy.new) drawn) }
-    ensures kept { IfErr result (λ _. Keeps (W.state entropy.old).to_come (W.state entropy.new).to_come) }
+    ensures drew { IfOk result (λ drawn. Drew wraps (W.state entropy.old)
+        (W.state entropy.new) drawn) }
+    ensures kept { IfErr result (λ _. Keeps (W.state entropy.old).to_come
+        (W.state entropy.new).to_come) }
     ensures cause { HasCause (W.state entropy.old).faults (W.state entropy.new).faults result }
 {
     let count = 64 + 12 * wraps as usize;

@@ -21,24 +21,30 @@ use std::alloc::Global;
 use stream_seal::Sealer;
 use whole_input::Pieces;
 
-/// Encrypts the whole input with materials of the manager, as the request asks for them, and writes the message.
+/// Encrypts the whole input with materials of the manager, as the request asks for them, and writes
+/// the message.
 ///
-/// First 64 bytes and 12 for each of the manager's wraps are drawn by one fill: 32 are the message id, and the manager is asked with the others, at the
-/// moment of the options. Of its materials the header is made: it stores the pairs of the context whose keys aren't required, and its tag authenticates the
-/// others too. Then memory is taken for one frame and for one piece of the input, and no more after that. The header is written, and the input is taken in
-/// pieces of at most 65,536 bytes: a frame is written once it is full and more of the input came, and the final frame once the input's end was seen. Each of
-/// them is one put.
+/// First 64 bytes and 12 for each of the manager's wraps are drawn by one fill: 32 are the message
+/// id, and the manager is asked with the others, at the moment of the options. Of its materials the
+/// header is made: it stores the pairs of the context whose keys aren't required, and its tag
+/// authenticates the others too. Then memory is taken for one frame and for one piece of the input,
+/// and no more after that. The header is written, and the input is taken in pieces of at most
+/// 65,536 bytes: a frame is written once it is full and more of the input came, and the final frame
+/// once the input's end was seen. Each of them is one put.
 ///
-/// `EntropyFault` leaves the manager, the input and the output as they were, and the bytes to come undrawn. The next errors leave the input and the output as
-/// they were: `RequiredAbsent` (Q4), `ReservedPrefix` (Q1), `NoGenerator` (Q5) and `GeneratorHasKey` (Q6), where the manager refuses the request, in this
-/// order where it is exact; `KeyringFault`, where one of its keyrings failed; then `TooManyDataKeys` (Q7), where it gives more entries than `max_keys`, and
-/// `HeaderTooLong` (Q8); and `Memory`, where memory runs out, which comes only there.
+/// `EntropyFault` leaves the manager, the input and the output as they were, and the bytes to come
+/// undrawn. The next errors leave the input and the output as they were: `RequiredAbsent` (Q4),
+/// `ReservedPrefix` (Q1), `NoGenerator` (Q5) and `GeneratorHasKey` (Q6), where the manager refuses
+/// the request, in this order where it is exact; `KeyringFault`, where one of its keyrings failed;
+/// then `TooManyDataKeys` (Q7), where it gives more entries than `max_keys`, and `HeaderTooLong`
+/// (Q8); and `Memory`, where memory runs out, which comes only there.
 ///
-/// After the other errors the output has gained a front of the message of the bytes taken, as far as a message has room for them. After `TooManyFrames` (Q9),
-/// where more came than have room in 2^32 - 1 frames, `SourceFault`, where a read failed, and `InputTooLong`, where 2^62 came, these are all frames but the
-/// last, so that no input that failed is sealed as a whole message. After `SinkFault`, where a write failed, it is any front, also of the final frame where
-/// the end was seen.
-/// AWS Encryption SDK Specification, "Encrypt".
+/// After the other errors the output has gained a front of the message of the bytes taken, as far
+/// as a message has room for them. After `TooManyFrames` (Q9), where more came than have room in
+/// 2^32 - 1 frames, `SourceFault`, where a read failed, and `InputTooLong`, where 2^62 came, these
+/// are all frames but the last, so that no input that failed is sealed as a whole message. After
+/// `SinkFault`, where a write failed, it is any front, also of the final frame where the end was
+/// seen. AWS Encryption SDK Specification, "Encrypt".
 pub fn encrypt<M: Manager, S: Source, O: Sink, W: Entropy>(
     alloc: Global,
     manager: &mut M,
@@ -50,29 +56,38 @@ pub fn encrypt<M: Manager, S: Source, O: Sink, W: Entropy>(
 ) -> Result<(), EncryptError>
     requires some { 1 ≤ options.frame_length }
 
-    // Over any manager. The materials are the last that the manager which is left gave, at the moment of the options.
+    // Over any manager. The materials are the last that the manager which is left gave, at the
+    // moment of the options.
     ensures done { OnOk result (Encrypts
-        (asked_of (M.meaning manager.old) (M.meaning manager.new) (M.tells manager.old) (M.exact manager.old) (M.gave manager.new request.now options.now) request.now options.frame_length options.max_keys)
+        (asked_of (M.meaning manager.old) (M.meaning manager.new) (M.tells manager.old)
+        (M.exact manager.old) (M.gave manager.new request.now options.now) request.now
+        options.frame_length options.max_keys)
         (S.state input.old) (S.state input.new)
         (O.state output.old) (O.state output.new)
         (W.state entropy.old) (W.state entropy.new)) }
     ensures ends { IfErr result (λ error. EndsSo
-        (asked_of (M.meaning manager.old) (M.meaning manager.new) (M.tells manager.old) (M.exact manager.old) (M.gave manager.new request.now options.now) request.now options.frame_length options.max_keys)
+        (asked_of (M.meaning manager.old) (M.meaning manager.new) (M.tells manager.old)
+        (M.exact manager.old) (M.gave manager.new request.now options.now) request.now
+        options.frame_length options.max_keys)
         (S.state input.old) (S.state input.new)
         (O.state output.old) (O.state output.new)
         (W.state entropy.old) (W.state entropy.new)
         ((input.new ≡ input.old) × (output.new ≡ output.old)) (manager.new ≡ manager.old) error) }
 
     // Over a manager that is exact and plain, and tells its keys.
-    ensures writes { (keys : List WrapKeyValue) → M.tells manager.old keys → M.exact manager.old → (M.meaning manager.old).plain ≡ true
+    ensures writes { (keys : List WrapKeyValue) → M.tells manager.old keys → M.exact manager.old
+        → (M.meaning manager.old).plain ≡ true
         → OnOk result (Encrypts
-        (asked_told keys (M.meaning manager.old) (M.meaning manager.new) request.now options.frame_length options.max_keys)
+        (asked_told keys (M.meaning manager.old) (M.meaning manager.new) request.now
+        options.frame_length options.max_keys)
         (S.state input.old) (S.state input.new)
         (O.state output.old) (O.state output.new)
         (W.state entropy.old) (W.state entropy.new)) }
-    ensures stops { (keys : List WrapKeyValue) → M.tells manager.old keys → M.exact manager.old → (M.meaning manager.old).plain ≡ true
+    ensures stops { (keys : List WrapKeyValue) → M.tells manager.old keys → M.exact manager.old
+        → (M.meaning manager.old).plain ≡ true
         → IfErr result (λ error. EndsSo
-        (asked_told keys (M.meaning manager.old) (M.meaning manager.new) request.now options.frame_length options.max_keys)
+        (asked_told keys (M.meaning manager.old) (M.meaning manager.new) request.now
+        options.frame_length options.max_keys)
         (S.state input.old) (S.state input.new)
         (O.state output.old) (O.state output.new)
         (W.state entropy.old) (W.state entropy.new)
@@ -80,7 +95,8 @@ pub fn encrypt<M: Manager, S: Source, O: Sink, W: Entropy>(
 
     ensures goes { ManagerGoes (M.meaning manager.old) (M.meaning manager.new) }
     ensures tells { TellsOn (M.tells manager.old) (M.tells manager.new) }
-    ensures same { (M.meaning manager.old).plain ≡ true → TellsOn (M.tells manager.new) (M.tells manager.old) }
+    ensures same { (M.meaning manager.old).plain ≡ true
+        → TellsOn (M.tells manager.new) (M.tells manager.old) }
     ensures exact { M.exact manager.old → M.exact manager.new }
     ensures taken { (S.state input.new).given ≤ (S.state input.old).given + 2 ^ 62 }
 {
@@ -113,7 +129,8 @@ fn ungiven(error: ManagerError) -> EncryptError
     }
 }
 
-/// Writes a message: its header, a frame where one is full and more of the input came, and at the end of the input the final frame.
+/// Writes a message: its header, a frame where one is full and more of the input came, and at the
+/// end of the input the final frame.
 fn put_message<S: Source, O: Sink>(
     sealer: &mut Sealer,
     pieces: &mut Pieces,
@@ -122,10 +139,14 @@ fn put_message<S: Source, O: Sink>(
 ) -> Result<(), EncryptError>
     requires begins { IsNewSealer sealer.old }
     requires none { pieces.old.taken ≡ 0 }
-    ensures writes { (m : EncMaterialsValue) (size : ℕ) (id : List ℕ) → 1 ≤ size → Stands sealer.old (session_of m size id [])
-        → OnOk result (Writes m size id (S.state input.old) (S.state input.new) (O.state output.old) (O.state output.new)) }
-    ensures stops { (m : EncMaterialsValue) (size : ℕ) (id : List ℕ) → 1 ≤ size → Stands sealer.old (session_of m size id [])
-        → IfErr result (StopsSo m size id (S.state input.old) (S.state input.new) (O.state output.old) (O.state output.new)) }
+    ensures writes { (m : EncMaterialsValue) (size : ℕ) (id : List ℕ) → 1 ≤ size
+        → Stands sealer.old (session_of m size id [])
+        → OnOk result (Writes m size id (S.state input.old) (S.state input.new) (O.state output.old)
+        (O.state output.new)) }
+    ensures stops { (m : EncMaterialsValue) (size : ℕ) (id : List ℕ) → 1 ≤ size
+        → Stands sealer.old (session_of m size id [])
+        → IfErr result (StopsSo m size id (S.state input.old) (S.state input.new)
+        (O.state output.old) (O.state output.new)) }
     ensures taken { (S.state input.new).given ≤ (S.state input.old).given + 2 ^ 62 }
 {
     put(sealer.header(), output)?;

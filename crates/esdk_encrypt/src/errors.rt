@@ -10,7 +10,8 @@ use std::fmt;
 /// Why an input isn't encrypted.
 #[derive(Drop)]
 pub enum EncryptError {
-    /// The request is refused: by the manager (Q1, Q4, Q5, Q6), or since no message can be made of the materials (Q7, Q8) or of the input (Q9).
+    /// The request is refused: by the manager (Q1, Q4, Q5, Q6), or since no message can be made of
+    /// the materials (Q7, Q8) or of the input (Q9).
     Refusal(Refusal),
     /// The input, the output, the entropy or a keyring failed, or the input is too long.
     Outside(Outside),

@@ -16,10 +16,11 @@ use esdk_fields::Outside;
 use stream_seal::{SealError, Sealer};
 use whole_input::{End, Pieces};
 
-/// Feeds the whole input to a sealer that begins a message, and puts the frames that it gives behind the message's header.
+/// Feeds the whole input to a sealer that begins a message, and puts the frames that it gives
+/// behind the message's header.
 ///
-/// `TooManyFrames` (Q9), where a byte came for which a message has no room; `SourceFault`, where a read failed; `InputTooLong`, where 2^62 bytes came;
-/// `SinkFault`, where a put failed.
+/// `TooManyFrames` (Q9), where a byte came for which a message has no room; `SourceFault`, where a
+/// read failed; `InputTooLong`, where 2^62 bytes came; `SinkFault`, where a put failed.
 pub(crate) fn feed_input<S: Source, O: Sink>(
     sealer: &mut Sealer,
     pieces: &mut Pieces,
@@ -28,9 +29,12 @@ pub(crate) fn feed_input<S: Source, O: Sink>(
 ) -> Result<(), EncryptError>
     requires begins { IsNewSealer sealer.old }
     requires none { pieces.old.taken ≡ 0 }
-    ensures feeds { (m : EncMaterialsValue) (size : ℕ) (id : List ℕ) (first : SinkState) → 1 ≤ size → Stands sealer.old (session_of m size id [])
-        → Appends first.written (O.state output.old).written (written_so_far m size id []) → (O.state output.old).faults ≡ first.faults
-        → FeedsInput m size id (S.state input.old) (S.state input.new) first (O.state output.new) sealer.new result }
+    ensures feeds { (m : EncMaterialsValue) (size : ℕ) (id : List ℕ) (first : SinkState) → 1 ≤ size
+        → Stands sealer.old (session_of m size id [])
+        → Appends first.written (O.state output.old).written (written_so_far m size id [])
+        → (O.state output.old).faults ≡ first.faults
+        → FeedsInput m size id (S.state input.old) (S.state input.new) first
+        (O.state output.new) sealer.new result }
     ensures taken { (S.state input.new).given ≤ (S.state input.old).given + 2 ^ 62 }
 {
     loop {
@@ -45,14 +49,16 @@ pub(crate) fn feed_input<S: Source, O: Sink>(
 
 /// Feeds a piece to a sealer, to the piece's end, and puts the frames that the sealer gives.
 ///
-/// `Refusal`, where a step fails: all frames that were given before were put then. `SinkFault`, where a put failed.
+/// `Refusal`, where a step fails: all frames that were given before were put then. `SinkFault`,
+/// where a put failed.
 pub(crate) fn feed<O: Sink>(
     sealer: &mut Sealer,
     piece: &[u8],
     output: &mut O,
 ) -> Result<(), EncryptError>
     requires fed { IsFedSealer sealer.old }
-    ensures { (v : SealingValue) → Stands sealer.old v → IsFed v → FeedsPiece v piece.now (O.state output.old) (O.state output.new) sealer.new result }
+    ensures { (v : SealingValue) → Stands sealer.old v → IsFed v
+        → FeedsPiece v piece.now (O.state output.old) (O.state output.new) sealer.new result }
 {
     let mut left = piece;
     while !left.is_empty() {
@@ -81,7 +87,8 @@ fn unfed(error: SealError) -> EncryptError
 
 /// Puts what the sealer gave last, if it is something.
 pub(crate) fn put_out<O: Sink>(sealer: &Sealer, output: &mut O) -> Result<(), EncryptError>
-    ensures { (v : SealingValue) → Stands sealer.now v → Puts v.out (O.state output.old) (O.state output.new) result }
+    ensures { (v : SealingValue) → Stands sealer.now v
+        → Puts v.out (O.state output.old) (O.state output.new) result }
 {
     let out = sealer.out();
     if out.is_empty() {

@@ -2,7 +2,8 @@
 
 ghost use Rattle.esdk_encrypt.specs.Laws.{EncryptsWhatFits, GainsTheMessage, LeavesAFront, WritesAllButTheLast};
 
-/// An input that fits into a message is encrypted, unless memory runs out or a count of faults rises.
+/// An input that fits into a message is encrypted, unless memory runs out or a count of faults
+/// rises.
 pub fn what_fits_is_encrypted()
     ensures { EncryptsWhatFits }
 {}
@@ -12,13 +13,14 @@ pub fn the_output_gains_the_message()
     ensures { GainsTheMessage }
 {}
 
-/// Where the writing of a message ends early, whatever the reason, the output has gained a front of the message of the bytes taken, as far as a message has
-/// room for them.
+/// Where the writing of a message ends early, whatever the reason, the output has gained a front of
+/// the message of the bytes taken, as far as a message has room for them.
 pub fn an_early_end_leaves_a_front()
     ensures { LeavesAFront }
 {}
 
-/// While the input goes on, all frames are written but the last: so many that with one more they have room for the text, and no fewer have.
+/// While the input goes on, all frames are written but the last: so many that with one more they
+/// have room for the text, and no fewer have.
 pub fn all_frames_but_the_last_are_written()
     ensures { WritesAllButTheLast }
 {}

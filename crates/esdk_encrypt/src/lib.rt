@@ -1,13 +1,16 @@
 //! Encryption of an input with the materials of a manager.
 //!
-//! `encrypt` draws a message id and what the manager makes a data key and its wraps of, asks the manager for materials, and writes the message as the input
-//! comes: the header first, then each frame once it is full. It holds one frame and one piece of the input. Standard: AWS Encryption SDK Specification,
-//! "Encrypt".
+//! `encrypt` draws a message id and what the manager makes a data key and its wraps of, asks the
+//! manager for materials, and writes the message as the input comes: the header first, then each
+//! frame once it is full. It holds one frame and one piece of the input. Standard: AWS Encryption
+//! SDK Specification, "Encrypt".
 //!
-//! `specs/Encrypt.antt` says over any manager what the message is, why a run ends, and what is written then; `specs/Told.antt` says it over a manager that is
-//! exact and plain and tells its keys: there the message is determined by the request, the keys and the bytes drawn. `specs/Laws.antt` says what follows: an
-//! input that fits is encrypted unless memory runs out or something outside fails, over bytes that are told the output has gained their message, and where a
-//! run ends early, a front of it. `specs/Feeding.antt` says how the input comes to a sealer.
+//! `specs/Encrypt.antt` says over any manager what the message is, why a run ends, and what is
+//! written then; `specs/Told.antt` says it over a manager that is exact and plain and tells its
+//! keys: there the message is determined by the request, the keys and the bytes drawn.
+//! `specs/Laws.antt` says what follows: an input that fits is encrypted unless memory runs out or
+//! something outside fails, over bytes that are told the output has gained their message, and where
+//! a run ends early, a front of it. `specs/Feeding.antt` says how the input comes to a sealer.
 #![tactic(auto)]
 
 mod beginning;

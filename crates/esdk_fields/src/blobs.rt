@@ -1,4 +1,5 @@
-//! Bytes that grow at the end, and what is put there: big-endian numbers, and bytes behind their length.
+//! Bytes that grow at the end, and what is put there: big-endian numbers, and bytes behind their
+//! length.
 
 ghost use Rattle.std.specs.Prelude.{◌≡◌, ◌≤◌, ◌++◌, [], length, OnOk, OnErr};
 ghost use Rattle.std.specs.Int.{w16, w32, w64};
@@ -49,7 +50,8 @@ impl Blob {
         self.inner.as_slice()
     }
 
-    /// The bytes, lent to be changed where they lie. Once that is over, the blob holds what was left there.
+    /// The bytes, lent to be changed where they lie. Once that is over, the blob holds what was
+    /// left there.
     pub fn bytes_mut(&mut self) -> &mut [u8]
         ensures* writes_back { sem 𝓛 (LendsBytes self.entry result) }
         ensures value { result.now ≡ self.old }
@@ -58,7 +60,8 @@ impl Blob {
     }
 }
 
-/// Appends the two big-endian bytes of the number. Where memory runs out, the bytes stay as they were.
+/// Appends the two big-endian bytes of the number. Where memory runs out, the bytes stay as they
+/// were.
 #[tactic(auto, unfolding(crate::specs::Numbers::to_big_endian))]
 pub fn put_u16(out: &mut Blob, n: u16) -> Result<(), AllocError>
     ensures ok { OnOk result (out.new ≡ out.old ++ to_big_endian w16 n) }
@@ -68,7 +71,8 @@ pub fn put_u16(out: &mut Blob, n: u16) -> Result<(), AllocError>
     out.push_all(&two)
 }
 
-/// Appends the four big-endian bytes of the number. Where memory runs out, the bytes stay as they were.
+/// Appends the four big-endian bytes of the number. Where memory runs out, the bytes stay as they
+/// were.
 #[tactic(auto, unfolding(crate::specs::Numbers::to_big_endian))]
 pub fn put_u32(out: &mut Blob, n: u32) -> Result<(), AllocError>
     ensures ok { OnOk result (out.new ≡ out.old ++ to_big_endian w32 n) }
@@ -78,7 +82,8 @@ pub fn put_u32(out: &mut Blob, n: u32) -> Result<(), AllocError>
     out.push_all(&four)
 }
 
-/// Appends the eight big-endian bytes of the number. Where memory runs out, the bytes stay as they were.
+/// Appends the eight big-endian bytes of the number. Where memory runs out, the bytes stay as they
+/// were.
 #[tactic(auto, unfolding(crate::specs::Numbers::to_big_endian))]
 pub fn put_u64(out: &mut Blob, n: u64) -> Result<(), AllocError>
     ensures ok { OnOk result (out.new ≡ out.old ++ to_big_endian w64 n) }
@@ -88,7 +93,8 @@ pub fn put_u64(out: &mut Blob, n: u64) -> Result<(), AllocError>
     out.push_all(&eight)
 }
 
-/// Appends two bytes of length, and the bytes. Where memory runs out, the bytes before stay as they were.
+/// Appends two bytes of length, and the bytes. Where memory runs out, the bytes before stay as they
+/// were.
 #[tactic(auto, unfolding(crate::specs::Sized::sized), using(std::proofs::Common::append_assoc))]
 pub fn put_sized(out: &mut Blob, bytes: &[u8]) -> Result<(), AllocError>
     requires { length bytes.now ≤ 65535 }

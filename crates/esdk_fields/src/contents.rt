@@ -1,6 +1,7 @@
 //! How the content of a message is cut.
 
-/// How the content of a message is cut. Standard: AWS Encryption SDK Specification, message header, content type and frame length.
+/// How the content of a message is cut. Standard: AWS Encryption SDK Specification, message header,
+/// content type and frame length.
 #[derive(Clone, Copy, PartialEq, Eq)]
 pub enum Content {
     /// One block of any length.

@@ -8,7 +8,8 @@ ghost use Rattle.esdk_fields.specs.Taking.{TakesField};
 
 use std::marker::Model;
 
-/// Where reading stands in borrowed bytes. A contract sees a `Place`: the offset, and the bytes from there on.
+/// Where reading stands in borrowed bytes. A contract sees a `Place`: the offset, and the bytes
+/// from there on.
 #[derive(Drop)]
 pub struct Cursor<'a> {
     at: usize,
@@ -66,7 +67,8 @@ impl<'a> Cursor<'a> {
         Some(field[0])
     }
 
-    /// Takes a number of two bytes, big-endian. None exactly where fewer are left; then the cursor stays.
+    /// Takes a number of two bytes, big-endian. None exactly where fewer are left; then the cursor
+    /// stays.
     #[tactic(auto, unfolding(crate::specs::Numbers::from_big_endian))]
     pub fn u16(&mut self) -> Option<u16>
         ensures { TakesField (λ n. n) (from_big_endian w16) 2 self.old self.new result }
@@ -75,7 +77,8 @@ impl<'a> Cursor<'a> {
         Some(u16::from_be_bytes([field[0], field[1]]))
     }
 
-    /// Takes a number of four bytes, big-endian. None exactly where fewer are left; then the cursor stays.
+    /// Takes a number of four bytes, big-endian. None exactly where fewer are left; then the cursor
+    /// stays.
     #[tactic(auto, unfolding(crate::specs::Numbers::from_big_endian))]
     pub fn u32(&mut self) -> Option<u32>
         ensures { TakesField (λ n. n) (from_big_endian w32) 4 self.old self.new result }
@@ -84,7 +87,8 @@ impl<'a> Cursor<'a> {
         Some(u32::from_be_bytes([field[0], field[1], field[2], field[3]]))
     }
 
-    /// Takes a number of eight bytes, big-endian. None exactly where fewer are left; then the cursor stays.
+    /// Takes a number of eight bytes, big-endian. None exactly where fewer are left; then the
+    /// cursor stays.
     #[tactic(auto, unfolding(crate::specs::Numbers::from_big_endian))]
     pub fn u64(&mut self) -> Option<u64>
         ensures { TakesField (λ n. n) (from_big_endian w64) 8 self.old self.new result }

@@ -68,7 +68,8 @@ pub enum Fault {
     BlockTooLong(u64),
     /// M22: bytes follow the end of the message.
     TrailingBytes,
-    /// M23: the algorithm suite doesn't commit to its data key, and the caller doesn't allow that; its id.
+    /// M23: the algorithm suite doesn't commit to its data key, and the caller doesn't allow that;
+    /// its id.
     Uncommitted(u16),
     /// M24: the type of a message of version 1 isn't 0x80; that byte.
     BadType(u8),

@@ -19,7 +19,8 @@ pub fn u8_of(cursor: &mut Cursor<'_>) -> Result<u8, Stop>
     cursor.u8().ok_or(Stop::Wanting)
 }
 
-/// Reads a big-endian number of two bytes. `Wanting` exactly where fewer are left; then the cursor stays.
+/// Reads a big-endian number of two bytes. `Wanting` exactly where fewer are left; then the cursor
+/// stays.
 pub fn u16_of(cursor: &mut Cursor<'_>) -> Result<u16, Stop>
     ensures reads { Gives (λ n. n) result cursor.new (number w16 cursor.old) }
     ensures stays { OnErr result (cursor.new ≡ cursor.old) }
@@ -28,7 +29,8 @@ pub fn u16_of(cursor: &mut Cursor<'_>) -> Result<u16, Stop>
     cursor.u16().ok_or(Stop::Wanting)
 }
 
-/// Reads a big-endian number of four bytes. `Wanting` exactly where fewer are left; then the cursor stays.
+/// Reads a big-endian number of four bytes. `Wanting` exactly where fewer are left; then the cursor
+/// stays.
 pub fn u32_of(cursor: &mut Cursor<'_>) -> Result<u32, Stop>
     ensures reads { Gives (λ n. n) result cursor.new (number w32 cursor.old) }
     ensures stays { OnErr result (cursor.new ≡ cursor.old) }
@@ -37,7 +39,8 @@ pub fn u32_of(cursor: &mut Cursor<'_>) -> Result<u32, Stop>
     cursor.u32().ok_or(Stop::Wanting)
 }
 
-/// Reads a big-endian number of eight bytes. `Wanting` exactly where fewer are left; then the cursor stays.
+/// Reads a big-endian number of eight bytes. `Wanting` exactly where fewer are left; then the
+/// cursor stays.
 pub fn u64_of(cursor: &mut Cursor<'_>) -> Result<u64, Stop>
     ensures reads { Gives (λ n. n) result cursor.new (number w64 cursor.old) }
     ensures stays { OnErr result (cursor.new ≡ cursor.old) }
@@ -55,7 +58,8 @@ pub fn bytes_of<'a>(cursor: &mut Cursor<'a>, n: usize) -> Result<&'a [u8], Stop>
     cursor.take(n).ok_or(Stop::Wanting)
 }
 
-/// Reads two bytes of length, and that many bytes. `Wanting` exactly where fewer are left; then the cursor stays.
+/// Reads two bytes of length, and that many bytes. `Wanting` exactly where fewer are left; then the
+/// cursor stays.
 #[tactic(auto, unfolding(crate::specs::Sized::sized_bytes))]
 pub fn sized_of<'a>(cursor: &mut Cursor<'a>) -> Result<&'a [u8], Stop>
     ensures reads { Gives (λ field. field.now) result cursor.new (sized_bytes cursor.old) }

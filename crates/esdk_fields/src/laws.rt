@@ -1,4 +1,5 @@
-//! Laws of the definitions. Each function does nothing: its contract is the law, and its proof is checked with the crate.
+//! Laws of the definitions. Each function does nothing: its contract is the law, and its proof is
+//! checked with the crate.
 
 ghost use Rattle.std.specs.Prelude.{ℕ, ◌^◌};
 ghost use Rattle.std.specs.Int.{Width, w8, w16, w32, w64};
@@ -6,15 +7,16 @@ ghost use Rattle.esdk_fields.specs.Reading.{Reader, bytes, number, repeat};
 ghost use Rattle.esdk_fields.specs.Sequential.{IsSequential};
 ghost use Rattle.esdk_fields.specs.Laws.{JudgesInOrder, ReadsBackNumbers};
 
-/// The fields that every format is made of are read from left to right, and each is judged at its last byte.
+/// The fields that every format is made of are read from left to right, and each is judged at its
+/// last byte.
 pub fn fields_come_in_order()
     ensures numbers { (w : Width) → IsSequential (number w) }
     ensures byte_fields { (n : ℕ) → IsSequential (bytes n) }
     ensures counted { (n count : ℕ) → IsSequential (repeat (bytes n) count) }
 {}
 
-/// What a sequential reader says of some bytes stands whatever follows them, and comes with the last byte that it rests on, of whatever type its
-/// values are.
+/// What a sequential reader says of some bytes stands whatever follows them, and comes with the
+/// last byte that it rests on, of whatever type its values are.
 pub fn judgement_stands<A>()
     ensures { (read : Reader A) → IsSequential read → JudgesInOrder read }
 {}

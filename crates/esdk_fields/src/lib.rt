@@ -1,5 +1,6 @@
-//! The small types that every format of the library is made of: texts, blobs of bytes, the cursor that reads fields, the faults that a message
-//! can have. `specs/` says what reading fields in order means; the formats are written in its words.
+//! The small types that every format of the library is made of: texts, blobs of bytes, the cursor
+//! that reads fields, the faults that a message can have. `specs/` says what reading fields in
+//! order means; the formats are written in its words.
 #![tactic(auto)]
 
 mod blobs;

@@ -31,8 +31,8 @@ pub enum Refusal {
     OverDeclared(u64),
 }
 
-/// Why a keyring file or a job file is refused. Its number is the one on the printed line. A place is a node's or a job's number from 1, and 0 for
-/// the file itself.
+/// Why a keyring file or a job file is refused. Its number is the one on the printed line. A place
+/// is a node's or a job's number from 1, and 0 for the file itself.
 #[derive(Drop)]
 pub enum FileRefusal {
     /// K1: the bytes are no JSON.
@@ -55,7 +55,8 @@ pub enum FileRefusal {
     NamesClash(Text),
     /// K10: the file is longer than a file may be.
     FileTooLong,
-    /// K11: the node of this number, which is to be retired, is no raw key, or there is none; its number.
+    /// K11: the node of this number, which is to be retired, is no raw key, or there is none; its
+    /// number.
     NotRaw(u32),
 }
 

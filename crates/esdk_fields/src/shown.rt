@@ -1,5 +1,6 @@
-//! The errors as a program shows them: the number and the name that begin the printed line. The whole line, with its values, is `fault_text`'s,
-//! `refusal_text`'s, `file_text`'s or `outside_text`'s.
+//! The errors as a program shows them: the number and the name that begin the printed line. The
+//! whole line, with its values, is `fault_text`'s, `refusal_text`'s, `file_text`'s or
+//! `outside_text`'s.
 
 use crate::faults::{ContextFault, Fault};
 use crate::refusals::{FieldError, FileRefusal, Outside, Refusal};

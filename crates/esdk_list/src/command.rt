@@ -9,17 +9,19 @@ use esdk_fields::Outside;
 use esdk_report::Failure;
 use std::alloc::Global;
 
-/// Reads a header and its authentication from the input, and writes the header's listing. A header of a message without a commitment is a fault (M23),
-/// unless the caller allows these.
+/// Reads a header and its authentication from the input, and writes the header's listing. A header
+/// of a message without a commitment is a fault (M23), unless the caller allows these.
 ///
-/// What stands behind the authentication isn't judged, and no piece is read behind the one in which it ends. Nothing is written before the header is whole.
+/// What stands behind the authentication isn't judged, and no piece is read behind the one in which
+/// it ends. Nothing is written before the header is whole.
 pub fn list<S: Source, O: Sink>(
     alloc: Global,
     input: &mut S,
     output: &mut O,
     uncommitted: bool,
 ) -> Result<(), Failure>
-    ensures done { OnOk result (Lists uncommitted (S.state input.old) (S.state input.new) (O.state output.old).written (O.state output.new).written) }
+    ensures done { OnOk result (Lists uncommitted (S.state input.old) (S.state input.new)
+        (O.state output.old).written (O.state output.new).written) }
     ensures cause { IfErr result (λ failure. IsListCause uncommitted failure
         (S.state input.old) (S.state input.new)
         (O.state output.old) (O.state output.new)) }

@@ -11,17 +11,20 @@ use header_codec::{HeaderReader, Settings};
 use std::alloc::Global;
 use whole_input::{End, Pieces};
 
-/// Reads the input until a header and its authentication are whole, and answers a reader that shows it. A header of a message without a commitment is a
-/// fault, unless the caller allows these.
+/// Reads the input until a header and its authentication are whole, and answers a reader that shows
+/// it. A header of a message without a commitment is a fault, unless the caller allows these.
 ///
-/// The buffer is taken before the first read. Nothing more is read once the header is whole, the bytes taken have a fault, or the source failed.
+/// The buffer is taken before the first read. Nothing more is read once the header is whole, the
+/// bytes taken have a fault, or the source failed.
 pub fn read_header<S: Source>(
     alloc: Global,
     input: &mut S,
     uncommitted: bool,
 ) -> Result<HeaderReader, Failure>
-    ensures whole { IfOk result (λ reader. HoldsHeader uncommitted reader (S.state input.old) (S.state input.new)) }
-    ensures cause { IfErr result (λ failure. IsInputCause uncommitted failure (S.state input.old) (S.state input.new)) }
+    ensures whole { IfOk result (λ reader. HoldsHeader uncommitted reader (S.state input.old)
+        (S.state input.new)) }
+    ensures cause { IfErr result (λ failure. IsInputCause uncommitted failure (S.state input.old)
+        (S.state input.new)) }
     ensures taken { (S.state input.new).given ≤ (S.state input.old).given + 2 ^ 62 }
 {
     let mut pieces = Pieces::new(alloc)?;
@@ -47,7 +50,8 @@ pub fn read_header<S: Source>(
 /// Feeds a piece to a reader that waits for more, and answers whether its header is whole.
 fn feed(alloc: Global, reader: &mut HeaderReader, piece: &[u8]) -> Result<bool, Failure>
     requires { (settings : Settings) × (taken : List ℕ) × Waits settings reader.old taken }
-    ensures { (settings : Settings) (taken : List ℕ) → Waits settings reader.old taken → Feeds settings taken piece.now reader.new result }
+    ensures { (settings : Settings) (taken : List ℕ) → Waits settings reader.old taken
+        → Feeds settings taken piece.now reader.new result }
 {
     match reader.step(alloc, piece) {
         Ok(step) => Ok(step.ready),

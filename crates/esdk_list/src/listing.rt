@@ -61,7 +61,8 @@ fn closing_text(alloc: Global, header: &Header) -> Result<Blob, AllocError>
     Ok(out)
 }
 
-/// The line of what only one of the two formats has: the commitment to the data key, or the header's initialization vector.
+/// The line of what only one of the two formats has: the commitment to the data key, or the
+/// header's initialization vector.
 fn push_key_line(alloc: Global, out: &mut Blob, header: &Header) -> Result<(), AllocError>
     ensures { OnOk result (out.new ≡ out.old ++ key_line header.now.suite header.now) }
 {

@@ -2,7 +2,8 @@
 
 ghost use Rattle.std.specs.Prelude.{◌≡◌, ◌≤◌, ◌<◌, ◌+◌, ◌++◌, ◌-◌, [], drop, length, min, take};
 
-/// Copies the front of what is left into the front of `out`, at most `most` bytes, and answers how many.
+/// Copies the front of what is left into the front of `out`, at most `most` bytes, and answers how
+/// many.
 pub(crate) fn give_front(left: &[u8], most: usize, out: &mut [u8]) -> usize
     requires { 1 ≤ most }
     ensures count { result ≡ min (min most (length out.old)) (length left.now) }
@@ -16,7 +17,8 @@ pub(crate) fn give_front(left: &[u8], most: usize, out: &mut [u8]) -> usize
     count
 }
 
-/// Copies what stands from the offset on into the front of `out`, as much as there is room for, and answers how many bytes.
+/// Copies what stands from the offset on into the front of `out`, as much as there is room for, and
+/// answers how many bytes.
 pub(crate) fn give_part(bytes: &[u8], at: u64, out: &mut [u8]) -> usize
     ensures count { result ≡ min (length out.old) (length bytes.now - at) }
     ensures bound { result ≤ length out.new }

@@ -1,4 +1,5 @@
-//! The outside in memory: sources, sinks, shelves, entropies and clocks that tell everything, and whose calls fail where it was planned.
+//! The outside in memory: sources, sinks, shelves, entropies and clocks that tell everything, and
+//! whose calls fail where it was planned.
 #![tactic(auto)]
 
 mod call_plan;

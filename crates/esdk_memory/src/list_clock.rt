@@ -6,7 +6,8 @@ ghost use Rattle.esdk_memory.specs.ListClock.{last_moment};
 use esdk_base::Clock;
 use std::marker::Model;
 
-/// A clock that answers the moments of a list, in their order. A contract sees the moments to come, and the one that stays.
+/// A clock that answers the moments of a list, in their order. A contract sees the moments to come,
+/// and the one that stays.
 #[derive(Drop)]
 pub struct ListClock {
     moments: Vec<u64>,
@@ -26,7 +27,8 @@ impl Model for ListClock {
 }
 
 impl ListClock {
-    /// A clock of these moments, in seconds. At the end of the list it repeats the last of them, and 0 where there are none.
+    /// A clock of these moments, in seconds. At the end of the list it repeats the last of them,
+    /// and 0 where there are none.
     pub fn new(moments: Vec<u64>) -> ListClock
         ensures { result ≡ record { to_come = moments.items; last = last_moment moments.items } }
     {

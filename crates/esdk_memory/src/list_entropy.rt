@@ -30,8 +30,8 @@ impl Model for ListEntropy {
 }
 
 impl ListEntropy {
-    /// An entropy of these bytes. The fills whose numbers `failing` lists, counted from 1, fail, and
-    /// those that want more bytes than are left; no other does.
+    /// An entropy of these bytes. The fills whose numbers `failing` lists, counted from 1, fail,
+    /// and those that want more bytes than are left; no other does.
     pub fn new(bytes: Blob, failing: Vec<u64>) -> ListEntropy
         ensures { result ≡ record {
           to_come = bytes;
@@ -57,7 +57,8 @@ impl Entropy for ListEntropy {
     ghost state = { λ e. record { to_come = Some e.to_come; faults = e.plan.faults } };
 
     fn fill(&mut self, out: &mut [u8]) -> Result<(), Failed>
-        ensures bytes { FillConsumes (Some self.old.to_come) (Some self.new.to_come) result out.new }
+        ensures bytes { FillConsumes (Some self.old.to_come)
+            (Some self.new.to_come) result out.new }
         ensures cause { HasCause self.old.plan.faults self.new.plan.faults result }
         ensures failed { is_err result ≡ fill_fails self.old (length out.old) }
         ensures entropy { self.new ≡ after_fill self.old (length out.old) }

@@ -90,10 +90,14 @@ impl MemFile {
         self.is_there = true;
     }
 
-    /// Appends these bytes to those that the name holds, which its room suffices for. Does nothing where it isn't there.
+    /// Appends these bytes to those that the name holds, which its room suffices for. Does nothing
+    /// where it isn't there.
     pub(crate) fn append(&mut self, bytes: &[u8])
         requires { length (unwrap_or self.old.held []) + length bytes.now ≤ self.old.room }
-        ensures { self.new ≡ record self.old { held = option_map (λ before. before ++ bytes.now) self.old.held } }
+        ensures { self.new ≡ record self.old {
+          held = option_map
+              (λ before. before ++ bytes.now) self.old.held;
+        } }
     {
         if self.is_there {
             self.bytes.extend_from_slice(bytes).unwrap();

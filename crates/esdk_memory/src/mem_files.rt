@@ -63,14 +63,16 @@ impl MemFiles {
         }
     }
 
-    /// Takes room for so many bytes in all for the name. Where memory runs out, the files and rooms stay as they were.
+    /// Takes room for so many bytes in all for the name. Where memory runs out, the files and rooms
+    /// stay as they were.
     pub(crate) fn take_room(
         &mut self,
         alloc: Global,
         name: &str,
         size: usize,
     ) -> Result<(), AllocError>
-        ensures ok { OnOk result (self.new ≡ record self.old { rooms = with_room self.old.rooms name.now size }) }
+        ensures ok { OnOk result (self.new ≡ record self.old
+            { rooms = with_room self.old.rooms name.now size }) }
         ensures room { OnOk result (IsSomeAnd (get self.new.rooms name.now) (λ room. size ≤ room)) }
         ensures err { OnErr result (self.new ≡ self.old) }
     {
@@ -88,9 +90,11 @@ impl MemFiles {
         }
     }
 
-    /// Appends these bytes to those that the name holds, which its room suffices for. Does nothing where it isn't there.
+    /// Appends these bytes to those that the name holds, which its room suffices for. Does nothing
+    /// where it isn't there.
     pub(crate) fn append(&mut self, name: &str, bytes: &[u8])
-        requires { length (unwrap_or (get self.old.files name.now) []) + length bytes.now ≤ room_of self.old.rooms name.now }
+        requires { length (unwrap_or (get self.old.files name.now) []) + length bytes.now ≤ room_of
+            self.old.rooms name.now }
         ensures { self.new ≡ record self.old { files = appended self.old.files name.now bytes.now } }
     {
         if let Some(i) = row_of(&self.rows, name) {
@@ -101,7 +105,8 @@ impl MemFiles {
 
 /// The place of the name's row. None where it has none.
 fn row_of(rows: &[MemFile], name: &str) -> Option<usize>
-    ensures { MatchOption result (place_of name.now rows.now ≡ length rows.now) (IsRowOf name.now rows.now) }
+    ensures { MatchOption result (place_of name.now rows.now ≡ length rows.now)
+        (IsRowOf name.now rows.now) }
 {
     for (i, row) in rows.iter().enumerate() {
         if name == row.name() {
@@ -111,7 +116,8 @@ fn row_of(rows: &[MemFile], name: &str) -> Option<usize>
     None
 }
 
-/// Takes room for so many bytes in all for the name, and answers the place of its row. Where memory runs out, the rows stay as they were.
+/// Takes room for so many bytes in all for the name, and answers the place of its row. Where memory
+/// runs out, the rows stay as they were.
 fn take_room(
     alloc: Global,
     rows: &mut Vec<MemFile>,

@@ -33,13 +33,19 @@ impl Model for MemShelf {
 
     ghost coded = { Prim.hlevel (codes, files_code, rooms_code) };
 
-    ghost view = { λ s. record { files = s.files.files; rooms = s.files.rooms; given = s.given; plan = s.plan } };
+    ghost view = { λ s. record {
+      files = s.files.files;
+      rooms = s.files.rooms;
+      given = s.given;
+      plan
+          = s.plan;
+    } };
 }
 
 impl MemShelf {
-    /// A shelf with no files. The calls whose numbers `failing` lists, counted from 1, fail; a create
-    /// of a name for which no room was taken; an append that would make a name hold more than its
-    /// room; and a read or an append of a name that isn't there. No other does.
+    /// A shelf with no files. The calls whose numbers `failing` lists, counted from 1, fail; a
+    /// create of a name for which no room was taken; an append that would make a name hold more
+    /// than its room; and a read or an append of a name that isn't there. No other does.
     pub fn new(alloc: Global, failing: Vec<u64>) -> MemShelf
         ensures { result ≡ record {
           files = empty;
@@ -55,15 +61,18 @@ impl MemShelf {
         }
     }
 
-    /// Takes room for so many bytes in all for the name. Where memory runs out, the shelf stays as it was.
+    /// Takes room for so many bytes in all for the name. Where memory runs out, the shelf stays as
+    /// it was.
     pub fn room(&mut self, alloc: Global, name: &str, size: usize) -> Result<(), AllocError>
-        ensures ok { OnOk result (self.new ≡ record self.old { rooms = with_room self.old.rooms name.now size }) }
+        ensures ok { OnOk result (self.new ≡ record self.old
+            { rooms = with_room self.old.rooms name.now size }) }
         ensures err { OnErr result (self.new ≡ self.old) }
     {
         self.files.take_room(alloc, name, size)
     }
 
-    /// Makes the name hold just these bytes, and takes room for them. Where memory runs out, the shelf stays as it was.
+    /// Makes the name hold just these bytes, and takes room for them. Where memory runs out, the
+    /// shelf stays as it was.
     pub fn place(&mut self, alloc: Global, name: &str, bytes: &[u8]) -> Result<(), AllocError>
         ensures ok { OnOk result (self.new ≡ placed self.old name.now bytes.now) }
         ensures err { OnErr result (self.new ≡ self.old) }
@@ -90,7 +99,8 @@ impl Shelf for MemShelf {
         ensures end { EndsAt (Some self.old.files) result name.now at out.new }
         ensures stays { Some self.new.files ≡ Some self.old.files }
         ensures given { CountsGiven self.old.given self.new.given result }
-        ensures cause { HasCauseOrMissing (is_missing (Some self.old.files) name.now) self.old.plan.faults self.new.plan.faults result }
+        ensures cause { HasCauseOrMissing (is_missing (Some self.old.files) name.now)
+            self.old.plan.faults self.new.plan.faults result }
         ensures failed { is_err result ≡ read_fails self.old name.now }
         ensures count { IfOk result (λ n. n ≡ read_count self.old name.now at (length out.old)) }
         ensures shelf { self.new ≡ after_read self.old name.now at (length out.old) }
@@ -124,10 +134,13 @@ impl Shelf for MemShelf {
 
     #[tactic(auto, using(crate::proofs::ShelfLemmas::appended_missing))]
     fn append(&mut self, name: &str, bytes: &[u8]) -> Result<(), Failed>
-        ensures bytes { AppendsTo (Some self.old.files) (Some self.new.files) result name.now bytes.now }
+        ensures bytes { AppendsTo (Some self.old.files)
+            (Some self.new.files) result name.now bytes.now }
         ensures given { self.new.given ≡ self.old.given }
-        ensures cause { HasCauseOrMissing (is_missing (Some self.old.files) name.now) self.old.plan.faults self.new.plan.faults result }
-        ensures failed { is_err result ≡ (is_absent self.old name.now || append_faults self.old name.now bytes.now) }
+        ensures cause { HasCauseOrMissing (is_missing (Some self.old.files) name.now)
+            self.old.plan.faults self.new.plan.faults result }
+        ensures failed { is_err result ≡ (is_absent self.old name.now || append_faults self.old
+            name.now bytes.now) }
         ensures shelf { self.new ≡ after_append self.old name.now bytes.now }
     {
         let Some(_) = self.files.held(name) else {

@@ -58,7 +58,8 @@ impl Sink for MemSink {
     ghost state = { λ s. record { written = Some s.written; faults = s.plan.faults } };
 
     fn put(&mut self, bytes: &[u8]) -> Result<(), Failed>
-        ensures bytes { PutAppends (Some self.old.written) (Some self.new.written) result bytes.now }
+        ensures bytes { PutAppends (Some self.old.written)
+            (Some self.new.written) result bytes.now }
         ensures cause { HasCause self.old.plan.faults self.new.plan.faults result }
         ensures failed { is_err result ≡ put_fails self.old bytes.now }
         ensures sink { self.new ≡ after_put self.old bytes.now }

@@ -29,7 +29,13 @@ impl Model for MemSource {
 
     ghost Value = { MemSourceState };
 
-    ghost view = { λ s. record { left = drop s.at s.bytes; most = s.most; given = s.given; plan = s.plan } };
+    ghost view = { λ s. record {
+      left = drop s.at s.bytes;
+      most = s.most;
+      given = s.given;
+      plan =
+          s.plan;
+    } };
 
     ghost invariant = { λ s. (s.at ≤ length s.bytes) × (1 ≤ s.most) };
 }

@@ -6,8 +6,8 @@ ghost use Rattle.frame_codec.specs.UnitAad.{kind_text, unit_aad};
 use crate::kinds::UnitKind;
 use std::marker::Model;
 
-/// The data that is authenticated with a unit's content: at most a message id of 32 bytes, a fixed text of 35, a number of 4 and a length of 8.
-/// A contract sees the list of its bytes.
+/// The data that is authenticated with a unit's content: at most a message id of 32 bytes, a fixed
+/// text of 35, a number of 4 and a length of 8. A contract sees the list of its bytes.
 #[derive(Drop)]
 pub struct UnitAad {
     held: [u8; 79],
@@ -67,7 +67,8 @@ fn text_of(kind: UnitKind) -> &'static str
     }
 }
 
-/// What is authenticated with the content of a unit: the message id, the fixed text of its kind, its number and its content's length in bytes.
+/// What is authenticated with the content of a unit: the message id, the fixed text of its kind,
+/// its number and its content's length in bytes.
 #[tactic(auto, unfolding(crate::specs::UnitAad::unit_aad, esdk_fields::specs::Numbers::to_big_endian))]
 pub fn unit_aad(message_id: &[u8], kind: UnitKind, number: u32, content_length: u64) -> UnitAad
     requires { length message_id.now ≤ 32 }

@@ -2,29 +2,33 @@
 
 ghost use Rattle.frame_codec.specs.Laws.{JudgesUnitsInOrder, ReadsSpelledUnits, RefusesFaultyUnits, AsksForMore, NamesFaults, DecidesWithNeededBytes, ReadsBackRegularFrames, ReadsBackFinalFrames, ReadsBackSingleBlocks, HaveOneSize, HasRegularSize, HasFinalSize, HasBlockSize, TellsUnitsApart};
 
-/// A fault stays when bytes follow, and comes with the last byte of its field, no earlier and no later; so does a unit's content.
+/// A fault stays when bytes follow, and comes with the last byte of its field, no earlier and no
+/// later; so does a unit's content.
 pub fn units_are_judged_in_order()
     ensures { JudgesUnitsInOrder }
 {}
 
-/// A unit is read exactly where the bytes begin with a spelling of it: its number, an initialization vector, and its content sealed with that.
+/// A unit is read exactly where the bytes begin with a spelling of it: its number, an
+/// initialization vector, and its content sealed with that.
 pub fn spelled_units_are_read()
     ensures { ReadsSpelledUnits }
 {}
 
-/// A unit is refused exactly where a field before its content has a fault by the format's rows, or where its tag is wrong; and with the last
-/// byte of that field or of the tag.
+/// A unit is refused exactly where a field before its content has a fault by the format's rows, or
+/// where its tag is wrong; and with the last byte of that field or of the tag.
 pub fn faulty_units_are_refused()
     ensures { RefusesFaultyUnits }
 {}
 
-/// Before a unit's content, more bytes are asked for and faults are named exactly where the format's rows say so.
+/// Before a unit's content, more bytes are asked for and faults are named exactly where the
+/// format's rows say so.
 pub fn heads_are_judged_by_rows()
     ensures more { AsksForMore }
     ensures faults { NamesFaults }
 {}
 
-/// Where more bytes are asked for, the next decision comes with the last of them, no earlier and no later.
+/// Where more bytes are asked for, the next decision comes with the last of them, no earlier and no
+/// later.
 pub fn needed_bytes_decide()
     ensures { DecidesWithNeededBytes }
 {}

@@ -1,8 +1,8 @@
 //! The units of a message body: frames and the single block.
 //! Standard: AWS Encryption SDK Specification, message body.
 //!
-//! `specs/UnitHead.antt` and `specs/Unit.antt` say what reading a unit gives and which of its fields has which fault; `specs/Written.antt` says
-//! what is written.
+//! `specs/UnitHead.antt` and `specs/Unit.antt` say what reading a unit gives and which of its
+//! fields has which fault; `specs/Written.antt` says what is written.
 #![tactic(auto)]
 
 mod associated_data;

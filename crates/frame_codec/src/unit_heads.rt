@@ -24,7 +24,8 @@ pub struct UnitHead {
     pub iv: [u8; 12],
     /// How many bytes its content has.
     pub length: u64,
-    /// How many bytes stand before the content: 16 in a regular frame, 24 in a final frame, 20 in a single block.
+    /// How many bytes stand before the content: 16 in a regular frame, 24 in a final frame, 20 in a
+    /// single block.
     pub size: usize,
 }
 
@@ -48,7 +49,8 @@ fn regular_start_of(
     got: u32,
 ) -> Result<UnitHead, Stop>
     requires { got ≢ final_mark }
-    ensures reads { Gives (λ head. head) result cursor.new (regular_start want frame got cursor.old) }
+    ensures reads { Gives (λ head. head) result cursor.new
+        (regular_start want frame got cursor.old) }
     ensures no_memory { TakesNoMemory result }
     ensures short { IfOk result (λ head. head.length ≤ longest_block) }
     ensures numbered { IfOk result (λ head. IfRegular head.kind (head.number < final_mark)) }
@@ -146,8 +148,9 @@ fn block_start_of(cursor: &mut Cursor<'_>, max_unit: Option<u64>) -> Result<Unit
     })
 }
 
-/// Reads what stands before the content of the unit that is to have the number `want`. `Wanting` where not all of it is there, else the fault of
-/// the field that ends there: M18, M19, M21 or M9. Takes no memory. `max_unit` limits a single block alone.
+/// Reads what stands before the content of the unit that is to have the number `want`. `Wanting`
+/// where not all of it is there, else the fault of the field that ends there: M18, M19, M21 or M9.
+/// Takes no memory. `max_unit` limits a single block alone.
 #[tactic(auto, unfolding(crate::specs::UnitHead::unit_head))]
 fn unit_head_of(
     cursor: &mut Cursor<'_>,
@@ -155,7 +158,8 @@ fn unit_head_of(
     want: u32,
     max_unit: Option<u64>,
 ) -> Result<UnitHead, Stop>
-    ensures reads { Gives (λ head. head) result cursor.new (unit_head content want max_unit cursor.old) }
+    ensures reads { Gives (λ head. head) result cursor.new
+        (unit_head content want max_unit cursor.old) }
     ensures no_memory { TakesNoMemory result }
     ensures short { IfOk result (λ head. head.length ≤ longest_block) }
     ensures numbered { IfOk result (λ head. IfRegular head.kind (head.number < final_mark)) }
@@ -182,10 +186,12 @@ fn needed_of(bytes: &[u8], content: Content) -> usize
     }
 }
 
-/// What is known of the unit that begins with these bytes and is to have the number `want`. `max_unit` limits a single block alone.
+/// What is known of the unit that begins with these bytes and is to have the number `want`.
+/// `max_unit` limits a single block alone.
 ///
-/// A fault comes with the last byte of its field: M18 where a frame has another number, M19 where a final frame's content is over the frame
-/// length, M21 where a block's is over 2^36 - 32 bytes, else M9 where it is over `max_unit`.
+/// A fault comes with the last byte of its field: M18 where a frame has another number, M19 where a
+/// final frame's content is over the frame length, M21 where a block's is over 2^36 - 32 bytes,
+/// else M9 where it is over `max_unit`.
 #[tactic(auto, unfolding(crate::specs::UnitHead::head_of))]
 pub fn judge_head(bytes: &[u8], content: Content, want: u32, max_unit: Option<u64>) -> Head
     ensures answer { result ≡ head_of content want max_unit bytes.now }

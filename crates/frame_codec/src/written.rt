@@ -11,7 +11,8 @@ use esdk_fields::{Blob, put_u64};
 use gcm_core::seal_in_place;
 use std::alloc::{AllocError, Global};
 
-/// The 16 bytes before a regular frame's content. The initialization vector is the number, padded on the left with zeros.
+/// The 16 bytes before a regular frame's content. The initialization vector is the number, padded
+/// on the left with zeros.
 #[tactic(auto, unfolding(crate::specs::Written::regular_head, crate::specs::UnitAad::iv_of, esdk_fields::specs::Numbers::to_big_endian))]
 pub fn regular_head(number: u32) -> [u8; 16]
     ensures { result ≡ regular_head number }
@@ -22,7 +23,8 @@ pub fn regular_head(number: u32) -> [u8; 16]
     ]
 }
 
-/// The 24 bytes before a final frame's content of `length` bytes. The initialization vector is the number, padded on the left with zeros.
+/// The 24 bytes before a final frame's content of `length` bytes. The initialization vector is the
+/// number, padded on the left with zeros.
 #[tactic(auto, unfolding(crate::specs::Written::final_head, crate::specs::UnitAad::iv_of, esdk_fields::specs::Numbers::to_big_endian))]
 pub fn final_head(number: u32, length: u32) -> [u8; 24]
     ensures { result ≡ final_head number length }
@@ -42,7 +44,8 @@ pub fn number_after(number: u32) -> Option<u32>
     number.checked_add(1)
 }
 
-/// A body of one block: this text, sealed under a derived key, a message id of at most 32 bytes and an initialization vector. Fails only where memory runs out.
+/// A body of one block: this text, sealed under a derived key, a message id of at most 32 bytes and
+/// an initialization vector. Fails only where memory runs out.
 ///
 /// One derived key must never seal two texts under the same initialization vector.
 #[tactic(auto, unfolding(crate::specs::Written::single_block, crate::specs::Written::sealed_unit))]

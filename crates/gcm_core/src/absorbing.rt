@@ -126,7 +126,8 @@ pub fn absorb(hash: &mut Ghash, text: &[u8])
     absorb_by_blocks(hash, &text[GROUP * groups..]);
 }
 
-/// Takes two slices into the hash block by block, as one text, filled up with zeros to whole blocks.
+/// Takes two slices into the hash block by block, as one text, filled up with zeros to whole
+/// blocks.
 pub fn absorb_two_by_blocks(hash: &mut Ghash, first: &[u8], second: &[u8])
     requires { length first.now + length second.now ≤ 2 ^ 32 }
     ensures { hash.new

@@ -31,7 +31,8 @@ fn lengths(aad: usize, cipher: usize) -> [u8; 16]
     ]
 }
 
-/// The tag, once the associated data and the ciphertext, of so many bytes, were taken into the hash.
+/// The tag, once the associated data and the ciphertext, of so many bytes, were taken into the
+/// hash.
 pub fn finished_tag(
     key: &Key256,
     iv: &[u8; 12],
@@ -52,7 +53,8 @@ pub fn finished_tag(
     tag
 }
 
-/// The tag of associated data, `first` and then `second`, and a ciphertext, by a hasher that took no blocks.
+/// The tag of associated data, `first` and then `second`, and a ciphertext, by a hasher that took
+/// no blocks.
 pub fn authentication_tag(
     key: &Key256,
     hash: &mut Ghash,

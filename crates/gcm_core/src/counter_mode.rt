@@ -49,7 +49,8 @@ fn counter_blocks(iv: &[u8; 12], first: u32) -> [[u8; 16]; 8]
     ]
 }
 
-/// Adds the enciphered counter blocks to the text, block by block, from that of the count `first` on.
+/// Adds the enciphered counter blocks to the text, block by block, from that of the count `first`
+/// on.
 pub fn gctr_by_blocks(key: &Key256, iv: &[u8; 12], first: u32, text: &mut [u8])
     ensures { text.new ≡ gctr key.now (iv.now ++ to_be_bytes w32 first) text.old }
 {
@@ -68,7 +69,8 @@ pub fn gctr_by_blocks(key: &Key256, iv: &[u8; 12], first: u32, text: &mut [u8])
     add_mask(text, 16 * whole, rest, &mask);
 }
 
-/// Adds eight enciphered counter blocks to a text that reaches no further, from that of the count `first` on.
+/// Adds eight enciphered counter blocks to a text that reaches no further, from that of the count
+/// `first` on.
 #[inline(always)]
 fn gctr_group(key: &Key256, iv: &[u8; 12], first: u32, text: &mut [u8])
     requires { length text.old ≤ 128 }

@@ -9,8 +9,9 @@ use aes_core::Key256;
 use ghash_core::Ghash;
 use std::marker::Model;
 
-/// A key of AES-256-GCM for many texts: the cipher's key, ready for use, and a hasher under its hash subkey (SP 800-38D,
-/// section 7.1, step 1), so that neither is made anew for each text. A contract sees the key's 32 bytes.
+/// A key of AES-256-GCM for many texts: the cipher's key, ready for use, and a hasher under its
+/// hash subkey (SP 800-38D, section 7.1, step 1), so that neither is made anew for each text. A
+/// contract sees the key's 32 bytes.
 #[derive(Drop)]
 pub struct GcmKey {
     cipher: Key256,
@@ -38,8 +39,9 @@ impl GcmKey {
         GcmKey { cipher, hash }
     }
 
-    /// Enciphers the text in place, and answers the tag over the associated data, which is `first` and then `second`,
-    /// and the ciphertext (section 7.1). The initialization vector must be used for no other text of the key.
+    /// Enciphers the text in place, and answers the tag over the associated data, which is `first`
+    /// and then `second`, and the ciphertext (section 7.1). The initialization vector must be used
+    /// for no other text of the key.
     pub fn seal_in_place(
         &mut self,
         iv: &[u8; 12],
@@ -49,15 +51,17 @@ impl GcmKey {
     ) -> [u8; 16]
         requires short { length text.old ≤ 2 ^ 36 - 32 }
         requires few { length first.now + length second.now ≤ 2 ^ 32 }
-        ensures sealed { (text.new, result) ≡ sealed self.old iv.now (first.now ++ second.now) text.old }
+        ensures sealed { (text.new, result) ≡ sealed self.old iv.now
+            (first.now ++ second.now) text.old }
         ensures same { self.new ≡ self.old }
     {
         self.hash.restart();
         seal_hashing(&self.cipher, &mut self.hash, iv, first, second, text)
     }
 
-    /// Answers whether the tag is that of the associated data, `first` and then `second`, and the ciphertext in `text`
-    /// (section 7.2). If it is, the text is deciphered in place; if it isn't, nothing is changed.
+    /// Answers whether the tag is that of the associated data, `first` and then `second`, and the
+    /// ciphertext in `text` (section 7.2). If it is, the text is deciphered in place; if it isn't,
+    /// nothing is changed.
     pub fn open_in_place(
         &mut self,
         iv: &[u8; 12],

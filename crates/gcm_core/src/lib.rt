@@ -1,15 +1,16 @@
-//! Authenticated encryption of a text where it lies: AES-256 in Galois/Counter Mode (NIST SP 800-38D), with
-//! initialization vectors of 12 bytes and tags of 16 bytes.
+//! Authenticated encryption of a text where it lies: AES-256 in Galois/Counter Mode (NIST SP
+//! 800-38D), with initialization vectors of 12 bytes and tags of 16 bytes.
 //!
-//! A text is enciphered eight blocks at a time and hashed four at a time, piece by piece, so that a piece is still in
-//! the first cache when it is hashed. The functions whose names end in `by_blocks` do the same one block at a time: they
-//! serve the ends of texts.
+//! A text is enciphered eight blocks at a time and hashed four at a time, piece by piece, so that a
+//! piece is still in the first cache when it is hashed. The functions whose names end in
+//! `by_blocks` do the same one block at a time: they serve the ends of texts.
 //!
-//! `GcmKey` is for many texts under one key, such as the frames of a message: it holds what is made of the key alone.
-//! `seal_in_place` and `open_in_place` are for one text, and make it in the call.
+//! `GcmKey` is for many texts under one key, such as the frames of a message: it holds what is made
+//! of the key alone. `seal_in_place` and `open_in_place` are for one text, and make it in the call.
 //!
-//! Nothing here takes memory or copies the text. The associated data is given as two slices, which count as one text,
-//! so that a caller need not join them. One key must never seal two texts under the same initialization vector.
+//! Nothing here takes memory or copies the text. The associated data is given as two slices, which
+//! count as one text, so that a caller need not join them. One key must never seal two texts under
+//! the same initialization vector.
 #![tactic(auto)]
 
 mod absorbing;

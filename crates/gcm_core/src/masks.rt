@@ -12,7 +12,8 @@ pub fn add_mask(text: &mut [u8], at: usize, n: usize, mask: &[u8; 16])
     requires one { n ≤ 16 }
     ensures before { (i : ℕ) → i < at → slice_index text.new i ≡ slice_index text.old i }
     ensures there { (i : ℕ) → i < n
-        → slice_index text.new (at + i) ≡ bit_xor (slice_index text.old (at + i)) (slice_index mask.now i) }
+        → slice_index text.new (at + i) ≡ bit_xor (slice_index text.old (at + i))
+        (slice_index mask.now i) }
     ensures after { (i : ℕ) → at + n ≤ i → slice_index text.new i ≡ slice_index text.old i }
 {
     'bytes: for i in 0..n {
@@ -26,7 +27,8 @@ fn add_whole_mask(text: &mut [u8], at: usize, mask: &[u8; 16])
     requires { at + 16 ≤ length text.old }
     ensures before { (i : ℕ) → i < at → slice_index text.new i ≡ slice_index text.old i }
     ensures there { (i : ℕ) → i < 16
-        → slice_index text.new (at + i) ≡ bit_xor (slice_index text.old (at + i)) (slice_index mask.now i) }
+        → slice_index text.new (at + i) ≡ bit_xor (slice_index text.old (at + i))
+        (slice_index mask.now i) }
     ensures after { (i : ℕ) → at + 16 ≤ i → slice_index text.new i ≡ slice_index text.old i }
 {
     let block = u8x16::from_slice(&text[at..at + 16]) ^ u8x16::from_array(*mask);

@@ -12,13 +12,15 @@ use crate::same::same;
 use aes_core::Key256;
 use ghash_core::Ghash;
 
-/// A text is sealed in pieces of so many bytes, each of which is still in the first cache when it is hashed.
+/// A text is sealed in pieces of so many bytes, each of which is still in the first cache when it
+/// is hashed.
 const PIECE: usize = 4096;
 
 /// The blocks of a piece.
 const PIECE_BLOCKS: u32 = 256;
 
-/// Enciphers the text in place from the count `TEXT_COUNT` on, and takes the ciphertext into the hash.
+/// Enciphers the text in place from the count `TEXT_COUNT` on, and takes the ciphertext into the
+/// hash.
 fn encipher_and_absorb(key: &Key256, iv: &[u8; 12], hash: &mut Ghash, text: &mut [u8])
     requires { length text.old ≤ 2 ^ 36 - 32 }
     ensures enciphered { text.new ≡ gctr key.now (iv.now ++ to_be_bytes w32 2) text.old }
@@ -41,7 +43,8 @@ fn encipher_and_absorb(key: &Key256, iv: &[u8; 12], hash: &mut Ghash, text: &mut
     absorb(hash, rest);
 }
 
-/// Enciphers the text in place, and answers the tag, by a hasher under the key's hash subkey that took no blocks.
+/// Enciphers the text in place, and answers the tag, by a hasher under the key's hash subkey that
+/// took no blocks.
 pub fn seal_hashing(
     key: &Key256,
     hash: &mut Ghash,
@@ -61,8 +64,9 @@ pub fn seal_hashing(
     finished_tag(key, iv, hash, first.len() + second.len(), text.len())
 }
 
-/// Enciphers the text in place, and answers the tag over the associated data, which is `first` and then `second`, and
-/// the ciphertext (section 7.1). It is for one text under the key; a `GcmKey` is for many.
+/// Enciphers the text in place, and answers the tag over the associated data, which is `first` and
+/// then `second`, and the ciphertext (section 7.1). It is for one text under the key; a `GcmKey` is
+/// for many.
 pub fn seal_in_place(
     key: &Key256,
     iv: &[u8; 12],
@@ -77,8 +81,8 @@ pub fn seal_in_place(
     seal_hashing(key, &mut hasher_of(key), iv, first, second, text)
 }
 
-/// Answers whether the tag is right, and deciphers the text in place if it is, by a hasher under the key's hash subkey
-/// that took no blocks.
+/// Answers whether the tag is right, and deciphers the text in place if it is, by a hasher under
+/// the key's hash subkey that took no blocks.
 pub fn open_hashing(
     key: &Key256,
     hash: &mut Ghash,
@@ -104,9 +108,9 @@ pub fn open_hashing(
     true
 }
 
-/// Answers whether the tag is that of the associated data, `first` and then `second`, and the ciphertext in `text`
-/// (section 7.2). If it is, the text is deciphered in place; if it isn't, nothing is changed. It is for one text under
-/// the key; a `GcmKey` is for many.
+/// Answers whether the tag is that of the associated data, `first` and then `second`, and the
+/// ciphertext in `text` (section 7.2). If it is, the text is deciphered in place; if it isn't,
+/// nothing is changed. It is for one text under the key; a `GcmKey` is for many.
 pub fn open_in_place(
     key: &Key256,
     iv: &[u8; 12],

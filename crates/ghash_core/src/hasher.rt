@@ -64,8 +64,9 @@ impl Ghash {
 
     /// Takes four more blocks into the hash, as four calls of `block` do.
     ///
-    /// Four powers of the hash subkey, which would make the four products independent of one another, gain nothing here:
-    /// their rows take up 32 KB, all of the first cache, and four times as long to make.
+    /// Four powers of the hash subkey, which would make the four products independent of one
+    /// another, gain nothing here: their rows take up 32 KB, all of the first cache, and four times
+    /// as long to make.
     #[inline(always)]
     pub fn four(&mut self, blocks: [[u8; 16]; 4])
         ensures { self.new

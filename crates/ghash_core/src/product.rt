@@ -86,8 +86,8 @@ impl Sum {
     }
 }
 
-/// The product of x and the block h whose rows these are: what the upper four bits of each byte of x
-/// add to it, and what the lower four bits add.
+/// The product of x and the block h whose rows these are: what the upper four bits of each byte of
+/// x add to it, and what the lower four bits add.
 #[inline(always)]
 pub fn times(x: u128, rows: &Rows) -> Sum
     ensures { (h : ℕ) → IsRows rows.now h → bit_xor result.upper result.lower ≡ times x h }

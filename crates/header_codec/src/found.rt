@@ -19,8 +19,9 @@ pub struct Found {
 
 /// The header that the bytes begin with, and where its authentication ends.
 ///
-/// `Fault` with M1 to M9 or M23 to M26 and the offset where the field that has it ends; `Wanting` where neither a fault nor the header's
-/// authentication is whole in the bytes; `Memory` where memory runs out.
+/// `Fault` with M1 to M9 or M23 to M26 and the offset where the field that has it ends; `Wanting`
+/// where neither a fault nor the header's authentication is whole in the bytes; `Memory` where
+/// memory runs out.
 pub fn header_in(alloc: Global, settings: Settings, bytes: &[u8]) -> Result<Found, Stop>
     ensures { FindsHeader settings bytes.now result }
 {

@@ -11,7 +11,8 @@ use esdk_fields::Stop;
 use std::alloc::Global;
 use std::marker::Model;
 
-/// The bytes of a header that came so far, and how far they were read. A contract sees an `IntakeValue`.
+/// The bytes of a header that came so far, and how far they were read. A contract sees an
+/// `IntakeValue`.
 #[derive(Drop)]
 pub(crate) struct Intake {
     taken: Vec<u8>,

@@ -1,7 +1,8 @@
-//! The header of a message: it is read in pieces of any size, and judged field by field as each is whole.
-//! Standard: AWS Encryption SDK, message header, "Structure" of versions 1.0 and 2.0.
+//! The header of a message: it is read in pieces of any size, and judged field by field as each is
+//! whole. Standard: AWS Encryption SDK, message header, "Structure" of versions 1.0 and 2.0.
 //!
-//! `specs/Table.antt` is the table of the fields with the faults M1 to M9 and M23 to M26, `specs/Header.antt` says without a reader which bytes a header has.
+//! `specs/Table.antt` is the table of the fields with the faults M1 to M9 and M23 to M26,
+//! `specs/Header.antt` says without a reader which bytes a header has.
 #![tactic(auto)]
 
 mod found;

@@ -16,7 +16,8 @@ pub(crate) struct RawEntry<'a> {
     ghost cipher_short: { length cipher.now ≤ 65535 },
 }
 
-/// What a header begins with: the suite that its version and its suite id name, and the message id where it stands in the bytes.
+/// What a header begins with: the suite that its version and its suite id name, and the message id
+/// where it stands in the bytes.
 #[derive(Clone, Copy)]
 pub(crate) struct RawOpening<'a> {
     pub(crate) suite: Suite,

@@ -27,7 +27,8 @@ pub(crate) struct Front {
     pub(crate) stored: Context,
 }
 
-/// How far the front of some bytes was read as a header. What was read whole is kept, and isn't read again.
+/// How far the front of some bytes was read as a header. What was read whole is kept, and isn't
+/// read again.
 #[derive(Drop)]
 pub(crate) struct Progress {
     pub(crate) settings: Settings,
@@ -74,7 +75,8 @@ impl Progress {
         requires { Holds bytes.now self.old }
         ensures holds { Holds bytes.now self.new }
         ensures settings { self.new.settings ≡ self.old.settings }
-        ensures stops { IfErr result (λ stop. StopsAt stop (header self.old.settings (start bytes.now))) }
+        ensures stops { IfErr result (λ stop. StopsAt stop
+            (header self.old.settings (start bytes.now))) }
         ensures front { OnOk result (is_some self.new.front ≡ true) }
     {
         if self.front.is_some() {
@@ -100,7 +102,8 @@ impl Progress {
         requires front { is_some self.old.front ≡ true }
         ensures holds { Holds bytes.now self.new }
         ensures settings { self.new.settings ≡ self.old.settings }
-        ensures stops { IfErr result (λ stop. StopsAt stop (header self.old.settings (start bytes.now))) }
+        ensures stops { IfErr result (λ stop. StopsAt stop
+            (header self.old.settings (start bytes.now))) }
         ensures front { self.new.front ≡ self.old.front }
         ensures left { OnOk result (is_some self.new.left ≡ true) }
     {
@@ -123,7 +126,8 @@ impl Progress {
         requires some { 1 ≤ left }
         ensures holds { Holds bytes.now self.new }
         ensures settings { self.new.settings ≡ self.old.settings }
-        ensures stops { IfErr result (λ stop. StopsAt stop (header self.old.settings (start bytes.now))) }
+        ensures stops { IfErr result (λ stop. StopsAt stop
+            (header self.old.settings (start bytes.now))) }
         ensures front { self.new.front ≡ self.old.front }
         ensures left { OnOk result (self.new.left ≡ Some (left - 1)) }
     {
@@ -143,7 +147,8 @@ impl Progress {
         requires left { is_some self.old.left ≡ true }
         ensures holds { Holds bytes.now self.new }
         ensures settings { self.new.settings ≡ self.old.settings }
-        ensures stops { IfErr result (λ stop. StopsAt stop (header self.old.settings (start bytes.now))) }
+        ensures stops { IfErr result (λ stop. StopsAt stop
+            (header self.old.settings (start bytes.now))) }
         ensures front { self.new.front ≡ self.old.front }
         ensures left { OnOk result (self.new.left ≡ Some 0) }
     {
@@ -195,8 +200,9 @@ impl Progress {
 
     /// Goes on reading: these are the bytes so far. Ok: the header, and no more is read.
     ///
-    /// `Fault` with M1 to M9 or M23 to M26 and the offset where the field that has it ends; `Wanting` where neither a fault nor the header's
-    /// authentication is whole in the bytes; `Memory` where memory runs out.
+    /// `Fault` with M1 to M9 or M23 to M26 and the offset where the field that has it ends;
+    /// `Wanting` where neither a fault nor the header's authentication is whole in the bytes;
+    /// `Memory` where memory runs out.
     pub(crate) fn advance(&mut self, alloc: Global, bytes: &[u8]) -> Result<Found, Stop>
         requires { Holds bytes.now self.old }
         ensures holds { OnErr result (Holds bytes.now self.new) }

@@ -10,7 +10,8 @@ use crate::settings::Settings;
 use esdk_fields::{FieldError, Stop};
 use std::alloc::Global;
 
-/// What a step did: the bytes of the piece that it used, and whether the header and its authentication are whole.
+/// What a step did: the bytes of the piece that it used, and whether the header and its
+/// authentication are whole.
 #[derive(Clone, Copy)]
 pub struct HeaderStep {
     /// How many bytes of the piece were used.
@@ -19,9 +20,11 @@ pub struct HeaderStep {
     pub ready: bool,
 }
 
-/// Reads one header from pieces of bytes, and judges each field as soon as it is whole. What was read whole isn't read again: a step goes on where reading stands, at the
-/// context, at an encrypted data key or behind them, and reads of what isn't whole yet its lengths and short fields alone. So the time is that of the bytes and of the
-/// steps, however the bytes are cut, and a length takes no memory before its bytes come.
+/// Reads one header from pieces of bytes, and judges each field as soon as it is whole. What was
+/// read whole isn't read again: a step goes on where reading stands, at the context, at an
+/// encrypted data key or behind them, and reads of what isn't whole yet its lengths and short
+/// fields alone. So the time is that of the bytes and of the steps, however the bytes are cut, and
+/// a length takes no memory before its bytes come.
 #[derive(Drop)]
 pub struct HeaderReader {
     intake: Intake,
@@ -41,13 +44,16 @@ impl HeaderReader {
         }
     }
 
-    /// Takes bytes up to the end of the piece, or of the header's authentication, and says how many, and whether the header and its authentication are whole.
+    /// Takes bytes up to the end of the piece, or of the header's authentication, and says how
+    /// many, and whether the header and its authentication are whole.
     ///
-    /// A fault M1 to M9 or M23 to M26 comes with the last byte of the field that has it. After any error, want of memory too, every later step answers
-    /// `Stopped`, and it comes only then. After the header is whole a step uses nothing.
+    /// A fault M1 to M9 or M23 to M26 comes with the last byte of the field that has it. After any
+    /// error, want of memory too, every later step answers `Stopped`, and it comes only then. After
+    /// the header is whole a step uses nothing.
     pub fn step(&mut self, alloc: Global, piece: &[u8]) -> Result<HeaderStep, FieldError>
         ensures answer { (v : Session) → Stands self.old v → Answers v piece.now result }
-        ensures stands { (v : Session) → Stands self.old v → Stands self.new (stepped v piece.now result) }
+        ensures stands { (v : Session) → Stands self.old v
+            → Stands self.new (stepped v piece.now result) }
     {
         if self.stopped {
             return Err(FieldError::Stopped);
@@ -89,7 +95,8 @@ impl HeaderReader {
         self.found.as_ref()
     }
 
-    /// The header that `header` shows, itself: nothing of it is copied. None exactly until it and its authentication are whole.
+    /// The header that `header` shows, itself: nothing of it is copied. None exactly until it and
+    /// its authentication are whole.
     pub fn into_header(self) -> Option<Header>
         ensures { (v : Session) → Stands self v → ShowsHeader v result }
     {

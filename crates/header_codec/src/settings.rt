@@ -7,7 +7,8 @@ ghost use Rattle.std.specs.Prelude.{◌≡◌, None, false};
 pub struct Settings {
     /// The most encrypted data keys that a header may have (M5).
     pub max_keys: Option<u16>,
-    /// The most bytes that one unit of content may have: a frame's length (M9), or the length of a single block.
+    /// The most bytes that one unit of content may have: a frame's length (M9), or the length of a
+    /// single block.
     pub max_unit: Option<u64>,
     /// Whether messages of version 1 are read, which don't commit to their data key (M23).
     pub uncommitted: bool,

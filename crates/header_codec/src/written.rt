@@ -20,10 +20,12 @@ use esdk_fields::{Blob, Content, Refusal, put_u16, put_u32};
 use std::alloc::{AllocError, Global};
 use suite_table::Suite;
 
-/// The header body of these parts, for frames of that many bytes, under the suite that commits to its data key: the context's pairs stand in the order of their keys.
+/// The header body of these parts, for frames of that many bytes, under the suite that commits to
+/// its data key: the context's pairs stand in the order of their keys.
 ///
-/// Q7 `TooManyDataKeys` with the number of the entries, where they are more than `max_keys`; else Q8 `HeaderTooLong` with the offset where
-/// the entries would end, where that is beyond 2^24; `Memory` where memory runs out.
+/// Q7 `TooManyDataKeys` with the number of the entries, where they are more than `max_keys`; else
+/// Q8 `HeaderTooLong` with the offset where the entries would end, where that is beyond 2^24;
+/// `Memory` where memory runs out.
 pub fn write_header(
     alloc: Global,
     message_id: &[u8; 32],
@@ -36,9 +38,12 @@ pub fn write_header(
     requires some { 1 ≤ length entries.now }
     requires few { length entries.now ≤ 65535 }
     requires frames { 1 ≤ frame_length }
-    ensures written { IfOk result (λ body. body ≡ written_header message_id.now stored.now entries.now frame_length commitment.now) }
-    ensures taken { OnOk result (header_refusal message_id.now stored.now entries.now max_keys ≡ None) }
-    ensures cause { IfErr result (λ e. RefusesAs e (header_refusal message_id.now stored.now entries.now max_keys)) }
+    ensures written { IfOk result (λ body. body ≡ written_header message_id.now stored.now
+        entries.now frame_length commitment.now) }
+    ensures taken { OnOk result (header_refusal message_id.now stored.now entries.now max_keys
+        ≡ None) }
+    ensures cause { IfErr result (λ e. RefusesAs e
+        (header_refusal message_id.now stored.now entries.now max_keys)) }
 {
     let count = entries.len() as u16;
     if is_over(max_keys, count) {
@@ -52,9 +57,11 @@ pub fn write_header(
     header_within(alloc, opening, stored, entries, content, commitment)
 }
 
-/// The header body of these parts in version 1, for tests: the context's pairs stand in the order of their keys.
+/// The header body of these parts in version 1, for tests: the context's pairs stand in the order
+/// of their keys.
 ///
-/// Q8 `HeaderTooLong` with the offset where the entries would end, where that is beyond 2^24; `Memory` where memory runs out.
+/// Q8 `HeaderTooLong` with the offset where the entries would end, where that is beyond 2^24;
+/// `Memory` where memory runs out.
 pub fn write_legacy_header(
     alloc: Global,
     message_id: &[u8; 16],
@@ -65,9 +72,12 @@ pub fn write_legacy_header(
     requires some { 1 ≤ length entries.now }
     requires few { length entries.now ≤ 65535 }
     requires is_content { IsContent content }
-    ensures written { IfOk result (λ body. body ≡ legacy_header message_id.now stored.now entries.now content) }
-    ensures taken { OnOk result (end_refusal (uncommitted message_id.now) stored.now entries.now ≡ None) }
-    ensures cause { IfErr result (λ e. RefusesAs e (end_refusal (uncommitted message_id.now) stored.now entries.now)) }
+    ensures written { IfOk result (λ body. body ≡ legacy_header message_id.now stored.now
+        entries.now content) }
+    ensures taken { OnOk result (end_refusal (uncommitted message_id.now) stored.now entries.now
+        ≡ None) }
+    ensures cause { IfErr result (λ e. RefusesAs e
+        (end_refusal (uncommitted message_id.now) stored.now entries.now)) }
 {
     let opening = RawOpening {
         suite: Suite::Uncommitted,
@@ -87,9 +97,18 @@ fn header_within(
 ) -> Result<Blob, PairError>
     requires id { length opening.id.now ≡ id_length opening.suite }
     requires few { length entries.now ≤ 65535 }
-    ensures written { IfOk result (λ body. body ≡ body_of (record { opening = raw_opening opening.entry; stored = stored.now; entries = entries.now; content = content; commitment = commitment.now })) }
-    ensures taken { OnOk result (end_refusal (raw_opening opening.entry) stored.now entries.now ≡ None) }
-    ensures cause { IfErr result (λ e. RefusesAs e (end_refusal (raw_opening opening.entry) stored.now entries.now)) }
+    ensures written { IfOk result (λ body. body ≡ body_of
+        (record {
+          opening = raw_opening opening.entry;
+          stored = stored.now;
+          entries = entries.now;
+          content = content;
+          commitment = commitment.now;
+        })) }
+    ensures taken { OnOk result (end_refusal (raw_opening opening.entry) stored.now entries.now
+        ≡ None) }
+    ensures cause { IfErr result (λ e. RefusesAs e
+        (end_refusal (raw_opening opening.entry) stored.now entries.now)) }
 {
     let end = keys_end(opening, stored, entries);
     if end > LATEST_END as u64 {
@@ -163,7 +182,14 @@ fn header_body(
     commitment: &[u8],
 ) -> Result<Blob, AllocError>
     requires { length entries.now ≤ 65535 }
-    ensures { IfOk result (λ body. body ≡ body_of (record { opening = raw_opening opening.entry; stored = stored.now; entries = entries.now; content = content; commitment = commitment.now })) }
+    ensures { IfOk result (λ body. body ≡ body_of
+        (record {
+          opening = raw_opening opening.entry;
+          stored = stored.now;
+          entries = entries.now;
+          content = content;
+          commitment = commitment.now;
+        })) }
 {
     let mut body = Blob::new(alloc);
     put_opening(&mut body, opening)?;

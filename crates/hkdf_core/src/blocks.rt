@@ -1,5 +1,5 @@
-//! Blocks of bytes: a key as HMAC pads it to one block (RFC 2104, section 2), and output blocks as HKDF puts
-//! them one after another (RFC 5869, section 2.3).
+//! Blocks of bytes: a key as HMAC pads it to one block (RFC 2104, section 2), and output blocks as
+//! HKDF puts them one after another (RFC 5869, section 2.3).
 
 ghost use Rattle.std.specs.Prelude.{◌≡◌, ◌++◌, ◌+◌, ◌-◌, ◌<◌, ◌≤◌, length, take, drop};
 ghost use Rattle.cipher_spec.specs.Hmac.{pad_added, zero_padded};
@@ -36,7 +36,8 @@ pub(crate) fn pad_added<const N: usize>(pad: u8, block: &[u8; N]) -> [u8; N]
 /// Writes the block over `out` from `at` on, as far as `out` goes.
 pub(crate) fn put(out: &mut [u8], at: usize, block: &[u8])
     requires { at < length out.old }
-    ensures { out.new ≡ take at out.old ++ take (length out.old - at) block.now ++ drop (at + length block.now) out.old }
+    ensures { out.new ≡ take at out.old ++ take (length out.old - at) block.now ++ drop
+        (at + length block.now) out.old }
 {
     let count = block.len().min(out.len() - at);
     out[at..at + count].copy_from_slice(&block[..count]);

@@ -44,7 +44,8 @@ pub(crate) fn inner_hasher(block: &[u8; BLOCK]) -> Sha256
 
 /// The hash of the key's block with the outer pad and the digest of what the inner hasher took.
 pub(crate) fn outer_digest(block: &[u8; BLOCK], inner: Sha256) -> [u8; 32]
-    ensures { (m : List ℕ) → Holds256 inner m → result ≡ sha256 (pad_added OUTER_PAD block.now ++ sha256 m) }
+    ensures { (m : List ℕ) → Holds256 inner m → result ≡ sha256
+        (pad_added OUTER_PAD block.now ++ sha256 m) }
 {
     let mut hasher = Sha256::new();
     hasher.update(pad_added(OUTER_PAD, block));

@@ -44,7 +44,8 @@ pub(crate) fn inner_hasher(block: &[u8; BLOCK]) -> Sha512
 
 /// The hash of the key's block with the outer pad and the digest of what the inner hasher took.
 pub(crate) fn outer_digest(block: &[u8; BLOCK], inner: Sha512) -> [u8; 64]
-    ensures { (m : List ℕ) → Holds512 inner m → result ≡ sha512 (pad_added OUTER_PAD block.now ++ sha512 m) }
+    ensures { (m : List ℕ) → Holds512 inner m → result ≡ sha512
+        (pad_added OUTER_PAD block.now ++ sha512 m) }
 {
     let mut hasher = Sha512::new();
     hasher.update(pad_added(OUTER_PAD, block));

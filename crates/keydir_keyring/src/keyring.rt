@@ -1,4 +1,5 @@
-//! The key of a file as a keyring. AWS Encryption SDK Specification, "Keyring Interface" and "Raw AES Keyring".
+//! The key of a file as a keyring. AWS Encryption SDK Specification, "Keyring Interface" and "Raw
+//! AES Keyring".
 
 ghost use Rattle.std.specs.Prelude.{◌≡◌, ◌∷◌, [], false, None, length, is_some, IfOk, IfErr, IfSome, OnOk};
 ghost use Rattle.std.specs.Option.{option_copied};
@@ -15,11 +16,13 @@ use keyring_trait::{DataKey, Keyring, RingError, RingRefusal, Wrapped};
 use raw_aes_keyring::{RawAes, RawError};
 use std::alloc::Global;
 
-/// Reads the file at each of its two calls, and then does what a raw AES keyring of its 32 bytes does. It makes one entry and refuses nothing.
+/// Reads the file at each of its two calls, and then does what a raw AES keyring of its 32 bytes
+/// does. It makes one entry and refuses nothing.
 ///
-/// `KeyringFault` comes wherever a read of the file failed, and wherever the file doesn't have just 32 bytes; only where the shelf's count of faults rose in
-/// the call, or the file isn't there, or gave more or fewer than 32 bytes. It raises the keyring's own count. `Memory` comes only where there was a key to read.
-/// The shelf's files stay as they are.
+/// `KeyringFault` comes wherever a read of the file failed, and wherever the file doesn't have just
+/// 32 bytes; only where the shelf's count of faults rose in the call, or the file isn't there, or
+/// gave more or fewer than 32 bytes. It raises the keyring's own count. `Memory` comes only where
+/// there was a key to read. The shelf's files stay as they are.
 impl<S: Shelf + Drop> Keyring for KeydirKeyring<S> {
     ghost meaning = { λ k. keydir_meaning S.state k };
 
@@ -38,11 +41,16 @@ impl<S: Shelf + Drop> Keyring for KeydirKeyring<S> {
         random: &[u8],
         key: Option<&DataKey>,
     ) -> Result<Wrapped, RingError>
-        requires { length random.now ≡ wanted (is_some key) (keydir_meaning S.state self.old).wraps }
-        ensures goes { KeyringGoes (keydir_meaning S.state self.old) (keydir_meaning S.state self.new) }
-        ensures wraps { IfOk result (Wraps (keydir_meaning S.state self.old) context.now random.now (option_copied key.entry)) }
-        ensures taken { OnOk result (refusal_with (is_some key.entry) (keydir_meaning S.state self.old) ≡ None) }
-        ensures cause { IfErr result (WrapCause (refusal_with (is_some key.entry) (keydir_meaning S.state self.old)) self.old.faults self.new.faults) }
+        requires { length random.now ≡ wanted (is_some key)
+            (keydir_meaning S.state self.old).wraps }
+        ensures goes { KeyringGoes (keydir_meaning S.state self.old)
+            (keydir_meaning S.state self.new) }
+        ensures wraps { IfOk result (Wraps (keydir_meaning S.state self.old) context.now random.now
+            (option_copied key.entry)) }
+        ensures taken { OnOk result (refusal_with (is_some key.entry)
+            (keydir_meaning S.state self.old) ≡ None) }
+        ensures cause { IfErr result (WrapCause (refusal_with (is_some key.entry)
+            (keydir_meaning S.state self.old)) self.old.faults self.new.faults) }
         ensures keeps { Keeps S.state self.old self.new }
         ensures answers { Answers S.state self.old self.new result }
     {
@@ -56,8 +64,10 @@ impl<S: Shelf + Drop> Keyring for KeydirKeyring<S> {
         context: &Context,
         entries: &[DataKeyEntry],
     ) -> Result<Option<DataKey>, RingError>
-        ensures goes { KeyringGoes (keydir_meaning S.state self.old) (keydir_meaning S.state self.new) }
-        ensures opens { IfOk result (Opens (keydir_meaning S.state self.old) (keydir_meaning S.state self.new) context.now entries.now) }
+        ensures goes { KeyringGoes (keydir_meaning S.state self.old)
+            (keydir_meaning S.state self.new) }
+        ensures opens { IfOk result (Opens (keydir_meaning S.state self.old)
+            (keydir_meaning S.state self.new) context.now entries.now) }
         ensures cause { IfErr result (UnwrapCause self.old.faults self.new.faults) }
         ensures keeps { Keeps S.state self.old self.new }
         ensures answers { Answers S.state self.old self.new result }
@@ -70,7 +80,8 @@ impl<S: Shelf + Drop> Keyring for KeydirKeyring<S> {
 impl<S: Shelf> KeydirKeyring<S> {
     /// The raw AES keyring of the key that stands in the file now, which isn't retired.
     fn read(&mut self, alloc: Global) -> Result<RawAes, RingError>
-        ensures key { IfOk result (λ keyring. IfSome (keydir_meaning S.state self.old).keys (λ keys. keys ≡ keyring ∷ [])) }
+        ensures key { IfOk result (λ keyring. IfSome (keydir_meaning S.state self.old).keys
+            (λ keys. keys ≡ keyring ∷ [])) }
         ensures active { IfOk result (λ keyring. keyring.retired ≡ false) }
         ensures keeps { Keeps S.state self.old self.new }
         ensures answers { Answers S.state self.old self.new result }

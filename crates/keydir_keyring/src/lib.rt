@@ -1,8 +1,8 @@
-//! A raw AES keyring whose wrapping key stands in a file of a shelf, which is read anew at each call.
-//! AWS Encryption SDK Specification, "Raw AES Keyring".
+//! A raw AES keyring whose wrapping key stands in a file of a shelf, which is read anew at each
+//! call. AWS Encryption SDK Specification, "Raw AES Keyring".
 //!
-//! The definitions stand in `specs/`: `Reading` says what is read of the file, `Keydir` what the keyring means to its callers, and `Answers` when a call
-//! fails and what it leaves.
+//! The definitions stand in `specs/`: `Reading` says what is read of the file, `Keydir` what the
+//! keyring means to its callers, and `Answers` when a call fails and what it leaves.
 #![tactic(auto)]
 
 mod keydir;

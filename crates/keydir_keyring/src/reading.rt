@@ -10,7 +10,8 @@ use esdk_base::{Failed, Shelf};
 /// How many bytes the file of a key has.
 const KEY_LENGTH: usize = 32;
 
-/// The bytes of the file, where it has just 32. None where a read of it failed, or where it has more or fewer. No more than 33 of its bytes are read.
+/// The bytes of the file, where it has just 32. None where a read of it failed, or where it has
+/// more or fewer. No more than 33 of its bytes are read.
 pub(crate) fn read_key<S: Shelf>(shelf: &mut S, file: &str) -> Option<[u8; 32]>
     ensures files { (S.state shelf.new).files ≡ (S.state shelf.old).files }
     ensures later { (S.state shelf.old).faults ≤ (S.state shelf.new).faults }
@@ -38,13 +39,15 @@ fn key_of(bytes: &[u8]) -> [u8; 32]
     key
 }
 
-/// Fills the room with the front of the file, as far as the file goes, and answers how many bytes that is.
+/// Fills the room with the front of the file, as far as the file goes, and answers how many bytes
+/// that is.
 fn read_front<S: Shelf>(shelf: &mut S, file: &str, room: &mut [u8]) -> Result<usize, Failed>
     requires { 0 < length room.old }
     ensures front { IfOk result (IsFront (S.state shelf.old).files file.now room.new) }
     ensures gave { IfOk result (Gave (S.state shelf.old) (S.state shelf.new)) }
     ensures most { (S.state shelf.new).given ≤ (S.state shelf.old).given + length room.old }
-    ensures cause { HasCauseOrMissing (is_missing (S.state shelf.old).files file.now) (S.state shelf.old).faults (S.state shelf.new).faults result }
+    ensures cause { HasCauseOrMissing (is_missing (S.state shelf.old).files file.now)
+        (S.state shelf.old).faults (S.state shelf.new).faults result }
     ensures files { (S.state shelf.new).files ≡ (S.state shelf.old).files }
 {
     let mut count = 0;
@@ -68,11 +71,14 @@ fn read_more<S: Shelf>(
     room: &mut [u8],
 ) -> Result<usize, Failed>
     requires { count < length room.old }
-    ensures filled { IfOk result (λ more. IsFilled (S.state shelf.old).files file.now room.old count → IsFilled (S.state shelf.old).files file.now room.new (count + more)) }
-    ensures end { IfOk result (λ more. (bytes : List ℕ) → Holds (S.state shelf.old).files file.now bytes → more ≡ 0 → drop count bytes ≡ []) }
+    ensures filled { IfOk result (λ more. IsFilled (S.state shelf.old).files file.now room.old count
+        → IsFilled (S.state shelf.old).files file.now room.new (count + more)) }
+    ensures end { IfOk result (λ more. (bytes : List ℕ)
+        → Holds (S.state shelf.old).files file.now bytes → more ≡ 0 → drop count bytes ≡ []) }
     ensures bound { IfOk result (λ more. count + more ≤ length room.new) }
     ensures given { CountsGiven (S.state shelf.old).given (S.state shelf.new).given result }
-    ensures cause { HasCauseOrMissing (is_missing (S.state shelf.old).files file.now) (S.state shelf.old).faults (S.state shelf.new).faults result }
+    ensures cause { HasCauseOrMissing (is_missing (S.state shelf.old).files file.now)
+        (S.state shelf.old).faults (S.state shelf.new).faults result }
     ensures files { (S.state shelf.new).files ≡ (S.state shelf.old).files }
 {
     shelf.read_at(file, count as u64, &mut room[count..])

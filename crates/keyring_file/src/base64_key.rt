@@ -7,7 +7,8 @@ use base64::DecodeAllocError;
 use base64::engine::general_purpose::STANDARD;
 use std::alloc::{AllocError, Global};
 
-/// The key that the text is the strict base64 of. None exactly where the text isn't that of 32 bytes; fails only where memory runs out.
+/// The key that the text is the strict base64 of. None exactly where the text isn't that of 32
+/// bytes; fails only where memory runs out.
 #[tactic(auto, unfolding(crate::specs::Base64Key::base64_key))]
 pub(crate) fn base64_key(alloc: Global, text: &str) -> Result<Option<[u8; 32]>, AllocError>
     ensures { IfOk result (λ key. key ≡ base64_key text.now) }

@@ -39,7 +39,8 @@ pub(crate) enum Form<'a> {
     },
 }
 
-/// The version and the node of a file of the form `{"version":1,"ring":NODE}`, or with the number 2.
+/// The version and the node of a file of the form `{"version":1,"ring":NODE}`, or with the number
+/// 2.
 #[tactic(auto, unfolding(crate::specs::Form::ring_of))]
 pub(crate) fn ring_of(file: &Value) -> Option<(Version, &Value)>
     ensures { option_map (λ found. (found.0, view found.1.now)) result ≡ ring_of (view file.now) }
@@ -82,7 +83,8 @@ pub(crate) fn form_of(version: Version, node: &Value) -> Option<Form<'_>>
     multi_form(node.get("multi")?)
 }
 
-/// A raw key: exactly the three texts, where neither the namespace nor the name is too long, and in version 2 maybe whether it is retired.
+/// A raw key: exactly the three texts, where neither the namespace nor the name is too long, and in
+/// version 2 maybe whether it is retired.
 #[tactic(auto, unfolding(crate::specs::Form::raw_form))]
 fn raw_form(version: Version, raw: &Value) -> Option<Form<'_>>
     ensures { option_map form_value result ≡ raw_form version (view raw.now) }
@@ -113,7 +115,8 @@ fn retired_member(version: Version, raw: &Value) -> Option<&Value>
     }
 }
 
-/// Whether a raw key is retired: not, where nothing is said of it. No answer where another value is said than true or false.
+/// Whether a raw key is retired: not, where nothing is said of it. No answer where another value is
+/// said than true or false.
 fn is_retired(said: Option<&Value>) -> Option<bool>
     ensures { result ≡ is_retired (option_map (λ said. view said.now) said.entry) }
 {
@@ -168,7 +171,8 @@ fn multi_form(multi: &Value) -> Option<Form<'_>>
 /// Whether there is a generator or a child.
 #[tactic(auto, using(crate::proofs::Members::none_listed))]
 fn has_node(generator: Option<&Value>, children: &[Value]) -> bool
-    ensures { result ≡ has_node (option_map (λ value. view value.now) generator.entry) (items_view children.now) }
+    ensures { result ≡ has_node (option_map (λ value. view value.now) generator.entry)
+        (items_view children.now) }
 {
     generator.is_some() || !children.is_empty()
 }
@@ -186,7 +190,8 @@ fn count(member: Option<&Value>) -> usize
 
 /// The nodes of a list, none where there is no list; or no answer where it is another value.
 fn children_of<'a>(listed: Option<&'a Value>) -> Option<&'a [Value]>
-    ensures { option_map (λ children. items_view children.now) result ≡ children_of (option_map (λ value. view value.now) listed.entry) }
+    ensures { option_map (λ children. items_view children.now) result ≡ children_of
+        (option_map (λ value. view value.now) listed.entry) }
 {
     match listed {
         Some(list) => Some(list.as_array()?.as_slice()),

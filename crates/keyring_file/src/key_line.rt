@@ -45,7 +45,8 @@ pub(crate) fn key_line(bytes: &[u8]) -> Result<KeyLine<'_>, FileRefusal>
     key_of_parts(parts)
 }
 
-/// The parts between single spaces, without one line feed at the end. None exactly where there are not three.
+/// The parts between single spaces, without one line feed at the end. None exactly where there are
+/// not three.
 fn parts_of(text: &str) -> Option<Parts<'_>>
     ensures { FindsParts result (parts_in text.now) }
 {
@@ -68,7 +69,8 @@ fn line_of(text: &str) -> &str
     text.strip_suffix('\n').unwrap_or(text)
 }
 
-/// What stands before the first space, and what stands behind it. None exactly where there is no space.
+/// What stands before the first space, and what stands behind it. None exactly where there is no
+/// space.
 fn split_at_space(text: &str) -> Option<(&str, &str)>
     ensures { SplitsAtSpace result text.now }
 {
@@ -78,7 +80,8 @@ fn split_at_space(text: &str) -> Option<(&str, &str)>
 /// The key of these parts: K2(1), then K4, then K3(1), or none of them.
 #[tactic(auto, unfolding(crate::specs::KeyLine::key_of_parts))]
 fn key_of_parts(parts: Parts<'_>) -> Result<KeyLine<'_>, FileRefusal>
-    ensures { FindsKey result (key_of_parts parts.entry.namespace.now parts.entry.name.now parts.entry.digits.now) }
+    ensures { FindsKey result (key_of_parts parts.entry.namespace.now parts.entry.name.now
+        parts.entry.digits.now) }
 {
     if !is_word(parts.namespace) || !is_word(parts.name) {
         return Err(FileRefusal::BadShape(1));

@@ -1,4 +1,5 @@
-//! Laws about keyring files. A law is a function that does nothing: its contract is what is proved, for each type of keyrings that are handed over.
+//! Laws about keyring files. A law is a function that does nothing: its contract is what is proved,
+//! for each type of keyrings that are handed over.
 
 ghost use Rattle.keyring_file.specs.Laws.{ReadsKeyLines, WrittenLinesAreRead, TreesAreSmall, RawKeysAgree, MigrationKeepsTrees};
 
@@ -7,12 +8,14 @@ pub fn key_lines_are_read<P>()
     ensures { ReadsKeyLines P }
 {}
 
-/// A key's line is read as that key, with digits of either case, with or without a line feed at the end.
+/// A key's line is read as that key, with digits of either case, with or without a line feed at the
+/// end.
 pub fn written_lines_are_read<P>()
     ensures { WrittenLinesAreRead P }
 {}
 
-/// A tree that is read has at most 8 levels and at most 64 leaves, where a keyring that is handed over counts as many as it wraps.
+/// A tree that is read has at most 8 levels and at most 64 leaves, where a keyring that is handed
+/// over counts as many as it wraps.
 pub fn trees_are_small<P>()
     ensures { TreesAreSmall P }
 {}
@@ -22,7 +25,8 @@ pub fn raw_keys_agree<P>()
     ensures { RawKeysAgree P }
 {}
 
-/// A file that `migrate` writes has the tree of the file that it was given, refusals included, but for the key that is retired.
+/// A file that `migrate` writes has the tree of the file that it was given, refusals included, but
+/// for the key that is retired.
 pub fn migration_keeps_trees<P>()
     ensures { MigrationKeepsTrees P }
 {}

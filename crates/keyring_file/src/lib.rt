@@ -1,9 +1,12 @@
-//! Keyring files: which tree of keyrings a file means. A file is a JSON file, or a key line: the namespace of a raw AES key, one space, its name, one space, the
-//! key in 64 hexadecimal digits, and at most one line feed at the end.
+//! Keyring files: which tree of keyrings a file means. A file is a JSON file, or a key line: the
+//! namespace of a raw AES key, one space, its name, one space, the key in 64 hexadecimal digits,
+//! and at most one line feed at the end.
 //!
-//! `specs/KeyFile.antt` says what a file is read as. `specs/KeyLine.antt` reads a key line, and `specs/Spelling.antt` says the same without splitting;
-//! `specs/Form.antt` has the forms of a JSON file and its nodes, and `specs/Tree.antt` the order in which nodes are read and refused.
-//! `specs/Migrate.antt` says how a file is written anew in version 2, and `specs/Retired.antt` what its tree is.
+//! `specs/KeyFile.antt` says what a file is read as. `specs/KeyLine.antt` reads a key line, and
+//! `specs/Spelling.antt` says the same without splitting; `specs/Form.antt` has the forms of a JSON
+//! file and its nodes, and `specs/Tree.antt` the order in which nodes are read and refused.
+//! `specs/Migrate.antt` says how a file is written anew in version 2, and `specs/Retired.antt` what
+//! its tree is.
 #![tactic(auto)]
 
 mod base64_key;

@@ -19,13 +19,17 @@ use esdk_fields::{Blob, FileRefusal};
 use serde_json::Value;
 use std::alloc::{AllocError, Global};
 
-/// A keyring file in version 2, as compact JSON and a line feed. The members of each object stand in the order of their names; `retired` stands only where it is
-/// true, and what is absent stays absent. A key line becomes one raw key. The raw key of the number `retire`, if one is named, is retired.
+/// A keyring file in version 2, as compact JSON and a line feed. The members of each object stand
+/// in the order of their names; `retired` stands only where it is true, and what is absent stays
+/// absent. A key line becomes one raw key. The raw key of the number `retire`, if one is named, is
+/// retired.
 ///
-/// The tree of the new file is that of the given one, whichever keyrings are handed over, but for the key that is retired.
+/// The tree of the new file is that of the given one, whichever keyrings are handed over, but for
+/// the key that is retired.
 ///
-/// The first refusal that applies: those of `read_tree`, but that K8 is not judged, and that a keyring which is handed over counts as one leaf; then K11 `NotRaw`
-/// where the node of the number `retire` is no raw key, or there is none. `Memory` where memory runs out.
+/// The first refusal that applies: those of `read_tree`, but that K8 is not judged, and that a
+/// keyring which is handed over counts as one leaf; then K11 `NotRaw` where the node of the number
+/// `retire` is no raw key, or there is none. `Memory` where memory runs out.
 pub fn migrate(alloc: Global, bytes: &[u8], retire: Option<u32>) -> Result<Blob, TreeError>
     ensures { Migrates result (migration retire bytes.now) }
 {

@@ -1,4 +1,5 @@
-//! The nodes of a keyring file of version 2, as they are written. An object keeps its members in the order of their names.
+//! The nodes of a keyring file of version 2, as they are written. An object keeps its members in
+//! the order of their names.
 
 ghost use Rattle.std.specs.Prelude.{◌≡◌, option_map, IfOk, OnOk};
 ghost use Rattle.serde_json.specs.View.{view, members_view};
@@ -39,7 +40,8 @@ pub(crate) fn multi_node(
     generator: Option<Value>,
     children: Option<Value>,
 ) -> Result<Value, AllocError>
-    ensures { IfOk result (λ node. view node ≡ multi_node (option_map view generator) (option_map view children)) }
+    ensures { IfOk result (λ node. view node ≡ multi_node (option_map view generator)
+        (option_map view children)) }
 {
     let mut members = Map::new(alloc);
     put_if(alloc, &mut members, "generator", generator)?;
@@ -56,7 +58,8 @@ fn put_if(
     name: &str,
     value: Option<Value>,
 ) -> Result<(), AllocError>
-    ensures { OnOk result (members_view members.new.entries ≡ put_if name.now (option_map view value) (members_view members.old.entries)) }
+    ensures { OnOk result (members_view members.new.entries ≡ put_if name.now
+        (option_map view value) (members_view members.old.entries)) }
 {
     match value {
         Some(value) => serde_json::put(members, alloc, name, value),

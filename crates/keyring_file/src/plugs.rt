@@ -13,7 +13,8 @@ pub struct Plug<P> {
     pub keyring: P,
 }
 
-/// Takes the first keyring of this name out of the plugs. None exactly where there is none, and then all are left.
+/// Takes the first keyring of this name out of the plugs. None exactly where there is none, and
+/// then all are left.
 pub(crate) fn take<P>(plugs: &mut Vec<Plug<P>>, name: &str) -> Option<P>
     ensures { Takes name.now plugs.old.items plugs.new.items result }
 {

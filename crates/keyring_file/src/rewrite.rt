@@ -15,7 +15,8 @@ use esdk_fields::FileRefusal;
 use serde_json::Value;
 use std::alloc::Global;
 
-/// What is written anew: a file of this version, whose raw key of the number `retire`, if one is named, is retired.
+/// What is written anew: a file of this version, whose raw key of the number `retire`, if one is
+/// named, is retired.
 #[derive(Clone, Copy)]
 pub(crate) struct Plan {
     pub(crate) version: Version,
@@ -23,8 +24,9 @@ pub(crate) struct Plan {
 }
 
 impl<P> Walk<P> {
-    /// A node, which may have so many levels, in version 2; and whether the raw key that is to be retired stands in it. Nodes are numbered and refused as in a
-    /// tree, but that a keyring which is handed over counts as one leaf, whether there is one of its name or not.
+    /// A node, which may have so many levels, in version 2; and whether the raw key that is to be
+    /// retired stands in it. Nodes are numbered and refused as in a tree, but that a keyring which
+    /// is handed over counts as one leaf, whether there is one of its name or not.
     #[cycle(migrated)]
     pub(crate) fn migrated(
         &mut self,
@@ -34,7 +36,8 @@ impl<P> Walk<P> {
         levels: u32,
     ) -> Result<(Value, bool), TreeError>
         requires { HasSpace levels (met self.old) }
-        ensures { Gives (λ made. (view made.0, made.1)) result self.new (migrated plan.retire plan.version levels (view node.now) (met self.old)) }
+        ensures { Gives (λ made. (view made.0, made.1)) result self.new
+            (migrated plan.retire plan.version levels (view node.now) (met self.old)) }
     {
         self.nodes += 1;
         let Some(form) = form_of(plan.version, node) else {
@@ -47,7 +50,8 @@ impl<P> Walk<P> {
         self.migrated_form(alloc, plan, form, listed, levels - 1)
     }
 
-    /// A node of this form, which stands at the last number. The nodes below it may have so many levels.
+    /// A node of this form, which stands at the last number. The nodes below it may have so many
+    /// levels.
     #[cycle(migrated)]
     fn migrated_form(
         &mut self,
@@ -59,7 +63,8 @@ impl<P> Walk<P> {
     ) -> Result<(Value, bool), TreeError>
         requires { HasSpace levels (met self.old) }
         ensures { Gives (λ made. (view made.0, made.1)) result self.new
-            (migrated_form plan.retire (migrated plan.retire plan.version levels) self.old.nodes listed (form_value form.entry) (met self.old)) }
+            (migrated_form plan.retire (migrated plan.retire plan.version levels) self.old.nodes
+            listed (form_value form.entry) (met self.old)) }
     {
         match form {
             Form::Raw {
@@ -84,7 +89,8 @@ impl<P> Walk<P> {
         }
     }
 
-    /// A multi-keyring: its generator, then its children, each with what is below it. A list of children that is absent stays so.
+    /// A multi-keyring: its generator, then its children, each with what is below it. A list of
+    /// children that is absent stays so.
     #[cycle(migrated)]
     #[tactic(auto, unfolding(crate::specs::Migrate::migrated_multi))]
     fn migrated_multi(
@@ -98,7 +104,9 @@ impl<P> Walk<P> {
     ) -> Result<(Value, bool), TreeError>
         requires { HasSpace levels (met self.old) }
         ensures { Gives (λ made. (view made.0, made.1)) result self.new
-            (migrated_multi (migrated plan.retire plan.version levels) listed (option_map (λ node. view node.now) generator.entry) (items_view children.now) (met self.old)) }
+            (migrated_multi (migrated plan.retire plan.version levels) listed
+            (option_map (λ node. view node.now) generator.entry) (items_view children.now)
+            (met self.old)) }
     {
         let (generator, in_generator) = self.migrated_optional(alloc, plan, generator, levels)?;
         let (children, in_children) = self.migrated_row(alloc, plan, children, levels)?;
@@ -117,7 +125,8 @@ impl<P> Walk<P> {
     ) -> Result<(Option<Value>, bool), TreeError>
         requires { HasSpace levels (met self.old) }
         ensures { Gives (λ made. (option_map view made.0, made.1)) result self.new
-            (migrated_optional (migrated plan.retire plan.version levels) (option_map (λ node. view node.now) node.entry) (met self.old)) }
+            (migrated_optional (migrated plan.retire plan.version levels)
+            (option_map (λ node. view node.now) node.entry) (met self.old)) }
     {
         match node {
             Some(node) => {
@@ -139,7 +148,8 @@ impl<P> Walk<P> {
     ) -> Result<(Vec<Value>, bool), TreeError>
         requires { HasSpace levels (met self.old) }
         ensures { Gives (λ made. (items_view made.0.items, made.1)) result self.new
-            (migrated_row (migrated plan.retire plan.version levels) (items_view nodes.now) (met self.old)) }
+            (migrated_row (migrated plan.retire plan.version levels) (items_view nodes.now)
+            (met self.old)) }
     {
         let mut made = Vec::new(alloc);
         let mut found = false;

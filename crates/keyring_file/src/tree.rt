@@ -18,8 +18,9 @@ use serde_json::Value;
 use std::alloc::Global;
 
 impl<P: Keyring> Walk<P> {
-    /// The tree of a node of a file of this version, which may have so many levels. K2 `BadShape` at its number where it has none of the three forms; then K6 `TooDeep` where no level is
-    /// left for it; then the refusals of its form.
+    /// The tree of a node of a file of this version, which may have so many levels. K2 `BadShape`
+    /// at its number where it has none of the three forms; then K6 `TooDeep` where no level is left
+    /// for it; then the refusals of its form.
     #[cycle(tree)]
     pub(crate) fn tree(
         &mut self,
@@ -29,7 +30,8 @@ impl<P: Keyring> Walk<P> {
         levels: u32,
     ) -> Result<Node<P>, TreeError>
         requires { HasRoom levels (met self.old) }
-        ensures { Gives (λ node. forest (node ∷ [])) result self.new (tree (wraps_of P.meaning) version levels (view node.now) (met self.old)) }
+        ensures { Gives (λ node. forest (node ∷ [])) result self.new
+            (tree (wraps_of P.meaning) version levels (view node.now) (met self.old)) }
     {
         self.nodes += 1;
         let Some(form) = form_of(version, node) else {
@@ -41,7 +43,8 @@ impl<P: Keyring> Walk<P> {
         self.formed(alloc, version, form, levels - 1)
     }
 
-    /// The tree of a node of this form, which stands at the last number. The nodes below it may have so many levels.
+    /// The tree of a node of this form, which stands at the last number. The nodes below it may
+    /// have so many levels.
     #[cycle(tree)]
     fn formed(
         &mut self,
@@ -54,7 +57,8 @@ impl<P: Keyring> Walk<P> {
         requires low { levels ≤ 7 }
         requires fit { IsFit (form_value form) }
         ensures { Gives (λ node. forest (node ∷ [])) result self.new
-            (formed (wraps_of P.meaning) (tree (wraps_of P.meaning) version levels) self.old.nodes (form_value form.entry) (met self.old)) }
+            (formed (wraps_of P.meaning) (tree (wraps_of P.meaning) version levels) self.old.nodes
+            (form_value form.entry) (met self.old)) }
     {
         match form {
             Form::Raw {
@@ -87,9 +91,12 @@ impl<P: Keyring> Walk<P> {
     ) -> Result<Multi<P>, TreeError>
         requires room { HasRoom levels (met self.old) }
         requires low { levels ≤ 7 }
-        requires member { has_node (option_map (λ node. view node.now) generator) (items_view children.now) ≡ true }
+        requires member { has_node (option_map (λ node. view node.now) generator)
+            (items_view children.now) ≡ true }
         ensures { Gives (λ multi. multi) result self.new
-            (multi (tree (wraps_of P.meaning) version levels) (option_map (λ node. view node.now) generator.entry) (items_view children.now) (met self.old)) }
+            (multi (tree (wraps_of P.meaning) version levels)
+            (option_map (λ node. view node.now) generator.entry) (items_view children.now)
+            (met self.old)) }
     {
         let generator = self.optional(alloc, version, generator, levels)?;
         let children = self.row(alloc, version, children, levels)?;
@@ -110,7 +117,8 @@ impl<P: Keyring> Walk<P> {
     ) -> Result<Option<Node<P>>, TreeError>
         requires { HasRoom levels (met self.old) }
         ensures gives { Gives (λ node. forest (option_to_list node)) result self.new
-            (optional (tree (wraps_of P.meaning) version levels) (option_map (λ node. view node.now) node.entry) (met self.old)) }
+            (optional (tree (wraps_of P.meaning) version levels)
+            (option_map (λ node. view node.now) node.entry) (met self.old)) }
         ensures there { IfOk result (λ found. is_some found ≡ is_some node.entry) }
     {
         match node {
@@ -129,7 +137,8 @@ impl<P: Keyring> Walk<P> {
         levels: u32,
     ) -> Result<Vec<Node<P>>, TreeError>
         requires { HasRoom levels (met self.old) }
-        ensures { Gives (λ trees. forest trees.items) result self.new (row (tree (wraps_of P.meaning) version levels) (items_view nodes.now) (met self.old)) }
+        ensures { Gives (λ trees. forest trees.items) result self.new
+            (row (tree (wraps_of P.meaning) version levels) (items_view nodes.now) (met self.old)) }
     {
         let mut trees = Vec::new(alloc);
         for node in nodes {

@@ -20,8 +20,8 @@ use std::alloc::Global;
 /// The most leaves that a tree may have.
 const MOST_LEAVES: u32 = 64;
 
-/// What was met of a file: how many nodes, how many leaves, where a keyring that is handed over counts as many as it wraps, the raw keys, and the plugs that
-/// are left.
+/// What was met of a file: how many nodes, how many leaves, where a keyring that is handed over
+/// counts as many as it wraps, the raw keys, and the plugs that are left.
 #[derive(Drop)]
 pub(crate) struct Walk<P> {
     pub(crate) nodes: u32,
@@ -57,7 +57,8 @@ impl<P> Walk<P> {
         Ok(())
     }
 
-    /// One more raw key. K5 `ClashingKeys` exactly where an earlier one has its namespace and its name, and is another.
+    /// One more raw key. K5 `ClashingKeys` exactly where an earlier one has its namespace and its
+    /// name, and is another.
     #[tactic(auto, unfolding(crate::specs::Walk::kept))]
     fn keep(&mut self, key: WrapKey) -> Result<(), TreeError>
         ensures gives { GivesNothing result self.new (kept key (met self.old)) }
@@ -82,8 +83,9 @@ impl<P> Walk<P> {
         }
     }
 
-    /// The bytes of a raw key, which stands at the last number. K4 `ReservedNamespace` where its namespace is `aws-kms`; then K3 `BadKey` at that number where the
-    /// text isn't strict base64 of 32 bytes; then K5 `ClashingKeys`; then K7 `TooManyLeaves`.
+    /// The bytes of a raw key, which stands at the last number. K4 `ReservedNamespace` where its
+    /// namespace is `aws-kms`; then K3 `BadKey` at that number where the text isn't strict base64
+    /// of 32 bytes; then K5 `ClashingKeys`; then K7 `TooManyLeaves`.
     #[tactic(auto, unfolding(crate::specs::Leaves::raw_key))]
     pub(crate) fn raw_key(
         &mut self,
@@ -93,7 +95,8 @@ impl<P> Walk<P> {
         text: &str,
     ) -> Result<[u8; 32], TreeError>
         requires { self.old.leaves ≤ 64 }
-        ensures gives { Gives (λ key. key) result self.new (raw_key self.old.nodes namespace.now name.now text.now (met self.old)) }
+        ensures gives { Gives (λ key. key) result self.new
+            (raw_key self.old.nodes namespace.now name.now text.now (met self.old)) }
         ensures unreserved { IfOk result (λ key. namespace.now ≢ reserved_namespace) }
     {
         if namespace == RESERVED {
@@ -112,7 +115,8 @@ impl<P> Walk<P> {
         Ok(key)
     }
 
-    /// A raw key, which stands at the last number and may be retired. It is refused as its bytes are.
+    /// A raw key, which stands at the last number and may be retired. It is refused as its bytes
+    /// are.
     #[tactic(auto, unfolding(crate::specs::Leaves::raw_leaf))]
     pub(crate) fn raw_leaf(
         &mut self,
@@ -125,7 +129,8 @@ impl<P> Walk<P> {
         requires namespace { length namespace.now ≤ 1024 }
         requires name { length name.now ≤ 1024 }
         requires leaves { self.old.leaves ≤ 64 }
-        ensures { Gives (λ key. key) result self.new (raw_leaf self.old.nodes namespace.now name.now text.now retired (met self.old)) }
+        ensures { Gives (λ key. key) result self.new
+            (raw_leaf self.old.nodes namespace.now name.now text.now retired (met self.old)) }
     {
         let key = self.raw_key(alloc, namespace, name, text)?;
         raw_keyring(alloc, namespace, name, key, retired)
@@ -133,11 +138,13 @@ impl<P> Walk<P> {
 }
 
 impl<P: Keyring> Walk<P> {
-    /// A keyring that is handed over. K8 `NoSuchPlug`; then K7 `TooManyLeaves`, where it counts as many leaves as it wraps.
+    /// A keyring that is handed over. K8 `NoSuchPlug`; then K7 `TooManyLeaves`, where it counts as
+    /// many leaves as it wraps.
     #[tactic(auto, unfolding(crate::specs::Leaves::plug_leaf))]
     pub(crate) fn plug_leaf(&mut self, alloc: Global, name: &str) -> Result<P, TreeError>
         requires { self.old.leaves ≤ 64 }
-        ensures { Gives (λ p. p) result self.new (plug_leaf (wraps_of P.meaning) name.now (met self.old)) }
+        ensures { Gives (λ p. p) result self.new (plug_leaf (wraps_of P.meaning) name.now
+            (met self.old)) }
     {
         let keyring = self.take(alloc, name)?;
         self.count(keyring.wraps())?;

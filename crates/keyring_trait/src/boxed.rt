@@ -1,4 +1,5 @@
-//! Keyrings and materials managers behind a box: whoever holds one in a box has one, of what type it ever is.
+//! Keyrings and materials managers behind a box: whoever holds one in a box has one, of what type
+//! it ever is.
 
 use crate::data_keys::DataKey;
 use crate::keyring::Keyring;

@@ -41,8 +41,9 @@ impl DataKey {
     }
 }
 
-/// A wrapping key: the namespace and the name by which an encrypted data key speaks of it, its 32 bytes, and whether it is retired.
-/// A contract sees a `WrapKeyValue` of the three lists of bytes and that truth value.
+/// A wrapping key: the namespace and the name by which an encrypted data key speaks of it, its 32
+/// bytes, and whether it is retired. A contract sees a `WrapKeyValue` of the three lists of bytes
+/// and that truth value.
 #[derive(Drop)]
 pub struct WrapKey {
     /// The namespace, which is the provider id of the entries that this key makes.
@@ -60,7 +61,13 @@ impl Model for WrapKey {
 
     ghost Value = { WrapKeyValue };
 
-    ghost view = { λ w. record { namespace = w.namespace; name = w.name; key = w.key; retired = w.retired } };
+    ghost view = { λ w. record {
+      namespace = w.namespace;
+      name = w.name;
+      key = w.key;
+      retired =
+          w.retired;
+    } };
 }
 
 impl WrapKey {

@@ -19,24 +19,28 @@ pub trait Keyring: Drop {
     /// What the keyring means to its callers. Every call keeps all of it but the count of faults.
     ghost meaning: { Self → KeyringMeaning };
 
-    /// How many entries the keyring makes of a data key, at most 64. Where the keys are told, as many of them aren't retired; a keyring that generates
-    /// data keys makes at least one entry.
+    /// How many entries the keyring makes of a data key, at most 64. Where the keys are told, as
+    /// many of them aren't retired; a keyring that generates data keys makes at least one entry.
     fn wraps(&self) -> u32
         ensures value { result ≡ (meaning self.now).wraps }
         ensures bound { result ≤ 64 }
-        ensures told { IfSome (meaning self.now).keys (λ keys. length (active keys) ≡ (meaning self.now).wraps) }
+        ensures told { IfSome (meaning self.now).keys
+            (λ keys. length (active keys) ≡ (meaning self.now).wraps) }
         ensures generates { (meaning self.now).refuses_none ≡ None → 1 ≤ (meaning self.now).wraps }
-        ensures steady { (meaning self.now).steady ≡ true → Stayed (meaning self.now).faults (meaning self.now).faults };
+        ensures steady { (meaning self.now).steady ≡ true
+            → Stayed (meaning self.now).faults (meaning self.now).faults };
 
     /// What `on_encrypt` refuses with a data key handed to it, or without one.
     fn refuses(&self, has_key: bool) -> Option<RingRefusal>
         ensures { result ≡ refusal_with has_key (meaning self.now) };
 
-    /// Wraps the data key, or a new one of the first 32 random bytes where none is handed over, for each wrap with the next 12 random bytes as IV.
-    /// Where the keys are told, the entries are its wraps under each key that isn't retired, in order. The text of the context, which has to be the whole
-    /// context, is authenticated with it.
+    /// Wraps the data key, or a new one of the first 32 random bytes where none is handed over, for
+    /// each wrap with the next 12 random bytes as IV. Where the keys are told, the entries are its
+    /// wraps under each key that isn't retired, in order. The text of the context, which has to be
+    /// the whole context, is authenticated with it.
     ///
-    /// `Refused` exactly where `refuses` says so, before all else. `KeyringFault` only where the count of faults rose.
+    /// `Refused` exactly where `refuses` says so, before all else. `KeyringFault` only where the
+    /// count of faults rose.
     fn on_encrypt(
         &mut self,
         alloc: Global,
@@ -46,12 +50,16 @@ pub trait Keyring: Drop {
     ) -> Result<Wrapped, RingError>
         requires { length random.now ≡ wanted (is_some key) (meaning self.old).wraps }
         ensures goes { KeyringGoes (meaning self.old) (meaning self.new) }
-        ensures wraps { IfOk result (Wraps (meaning self.old) context.now random.now (option_copied key.entry)) }
+        ensures wraps { IfOk result (Wraps (meaning self.old) context.now random.now
+            (option_copied key.entry)) }
         ensures taken { OnOk result (refusal_with (is_some key.entry) (meaning self.old) ≡ None) }
-        ensures cause { IfErr result (WrapCause (refusal_with (is_some key.entry) (meaning self.old)) (meaning self.old).faults (meaning self.new).faults) };
+        ensures cause { IfErr result (WrapCause (refusal_with (is_some key.entry)
+            (meaning self.old)) (meaning self.old).faults (meaning self.new).faults) };
 
-    /// The data key of the first wrapping key, retired or not, that opens an entry, and for it of the first such entry. None where no key opens an entry.
-    /// The text of the context, which has to be the whole context, is what was authenticated. An entry that is of no key, or doesn't open, is passed over.
+    /// The data key of the first wrapping key, retired or not, that opens an entry, and for it of
+    /// the first such entry. None where no key opens an entry. The text of the context, which has
+    /// to be the whole context, is what was authenticated. An entry that is of no key, or doesn't
+    /// open, is passed over.
     ///
     /// `KeyringFault` only where the count of faults rose; never `Refused`.
     fn on_decrypt(
@@ -61,6 +69,8 @@ pub trait Keyring: Drop {
         entries: &[DataKeyEntry],
     ) -> Result<Option<DataKey>, RingError>
         ensures goes { KeyringGoes (meaning self.old) (meaning self.new) }
-        ensures opens { IfOk result (Opens (meaning self.old) (meaning self.new) context.now entries.now) }
-        ensures cause { IfErr result (UnwrapCause (meaning self.old).faults (meaning self.new).faults) };
+        ensures opens { IfOk result (Opens (meaning self.old)
+            (meaning self.new) context.now entries.now) }
+        ensures cause { IfErr result (UnwrapCause (meaning self.old).faults
+            (meaning self.new).faults) };
 }

@@ -1,8 +1,10 @@
-//! Laws about wrapping and unlocking. A law is a function that does nothing: its contract is what is proved.
+//! Laws about wrapping and unlocking. A law is a function that does nothing: its contract is what
+//! is proved.
 
 ghost use Rattle.keyring_trait.specs.Laws.{DrawsIvs, WrappedKeysComeBack, UnwrapsWraps, PassesOtherNamespaces, PassesOtherNames, UnwrapsTheKey, UnwrapsOnlyWraps, UnwrapsNone, WrapsWhatIsMade, UnlocksWhatWasStored, UnlocksOnlyWraps, NamesTheLeastMissing, NamesTheLeastMismatch, StoresTheSpelled};
 
-/// An entry is unwrapped to a data key exactly where it is a wrap of that data key, by the same key and over the same context.
+/// An entry is unwrapped to a data key exactly where it is a wrap of that data key, by the same key
+/// and over the same context.
 pub fn wraps_are_unwrapped()
     ensures { UnwrapsWraps }
 {}
@@ -17,12 +19,14 @@ pub fn other_names_are_passed_over()
     ensures { PassesOtherNames }
 {}
 
-/// Where all entries wrap one data key, a reader who has one of the writer's keys unwraps it, whatever other keys it has and whatever order they have.
+/// Where all entries wrap one data key, a reader who has one of the writer's keys unwraps it,
+/// whatever other keys it has and whatever order they have.
 pub fn the_wrapped_key_is_unwrapped()
     ensures { UnwrapsTheKey }
 {}
 
-/// A data key that is unwrapped was wrapped, over that context and under a key of the reader's, in an entry that is there.
+/// A data key that is unwrapped was wrapped, over that context and under a key of the reader's, in
+/// an entry that is there.
 pub fn only_wraps_are_unwrapped()
     ensures { UnwrapsOnlyWraps }
 {}
@@ -42,18 +46,21 @@ pub fn drawn_bytes_are_ivs()
     ensures { DrawsIvs }
 {}
 
-/// A data key that was handed to a keyring to wrap is the one that the keyring finds again, where it tells its keys and doesn't fail.
+/// A data key that was handed to a keyring to wrap is the one that the keyring finds again, where
+/// it tells its keys and doesn't fail.
 pub fn wrapped_keys_come_back()
     ensures { WrappedKeysComeBack }
 {}
 
-/// What a writer stored is unlocked by a reader who has one of its keys and gives the pairs that it required: with the whole context, the
-/// required pairs as those that are only authenticated, and the data key.
+/// What a writer stored is unlocked by a reader who has one of its keys and gives the pairs that it
+/// required: with the whole context, the required pairs as those that are only authenticated, and
+/// the data key.
 pub fn what_was_stored_is_unlocked()
     ensures { UnlocksWhatWasStored }
 {}
 
-/// Where a reader unlocks, the data key was wrapped under one of its keys over the stored and the given pairs together.
+/// Where a reader unlocks, the data key was wrapped under one of its keys over the stored and the
+/// given pairs together.
 pub fn only_wraps_are_unlocked()
     ensures { UnlocksOnlyWraps }
 {}

@@ -1,7 +1,9 @@
-//! Data keys and wrapping keys; keyrings, which wrap and unwrap data keys; and cryptographic materials managers, which give the materials of a message.
+//! Data keys and wrapping keys; keyrings, which wrap and unwrap data keys; and cryptographic
+//! materials managers, which give the materials of a message.
 //!
-//! The definitions stand in `specs/`: `Wrapping` says how a raw AES key wraps a data key, `Unlocking` what a reader makes of a header, `Keyring` and
-//! `Manager` what keyrings and managers mean and answer. A law is a function with an empty body, whose contract is the law.
+//! The definitions stand in `specs/`: `Wrapping` says how a raw AES key wraps a data key,
+//! `Unlocking` what a reader makes of a header, `Keyring` and `Manager` what keyrings and managers
+//! mean and answer. A law is a function with an empty body, whose contract is the law.
 #![tactic(auto)]
 
 mod boxed;

@@ -9,8 +9,9 @@ use context_codec::{Context, KeySet};
 use edk_codec::DataKeyEntry;
 use std::marker::Model;
 
-/// Materials to encrypt with: between 1 and 64 entries, and required keys that are in the context. A contract sees an `EncMaterialsValue`.
-/// AWS Encryption SDK Specification, "Structures", Encryption Materials.
+/// Materials to encrypt with: between 1 and 64 entries, and required keys that are in the context.
+/// A contract sees an `EncMaterialsValue`. AWS Encryption SDK Specification, "Structures",
+/// Encryption Materials.
 #[derive(Drop)]
 pub struct EncMaterials {
     context: Context,
@@ -25,7 +26,14 @@ impl Model for EncMaterials {
 
     ghost Value = { EncMaterialsValue };
 
-    ghost view = { λ m. record { context = m.context; required = m.required; key = m.key; entries = m.entries.items; served = m.served } };
+    ghost view = { λ m. record {
+      context = m.context;
+      required = m.required;
+      key = m.key;
+      entries =
+          m.entries.items;
+      served = m.served;
+    } };
 
     ghost invariant = { λ m. AreEncMaterials m.context m.required m.entries.items };
 }
@@ -40,7 +48,14 @@ impl EncMaterials {
         served: Served,
     ) -> EncMaterials
         requires { AreEncMaterials context required entries.items }
-        ensures { result ≡ record { context = context; required = required; key = key; entries = entries.items; served = served } }
+        ensures { result ≡ record {
+          context = context;
+          required = required;
+          key = key;
+          entries =
+              entries.items;
+          served = served;
+        } }
     {
         EncMaterials {
             context,
@@ -89,7 +104,8 @@ impl EncMaterials {
         self.served
     }
 
-    /// The whole context, the keys that a reader has to give, the data key, and the entries that hold it wrapped, by value. Takes no memory.
+    /// The whole context, the keys that a reader has to give, the data key, and the entries that
+    /// hold it wrapped, by value. Takes no memory.
     pub fn into_parts(self) -> (Context, KeySet, DataKey, Vec<DataKeyEntry>)
         ensures context { result.0 ≡ self.context }
         ensures required { result.1 ≡ self.required }
@@ -116,7 +132,12 @@ impl Model for DecMaterials {
 
     ghost Value = { DecMaterialsValue };
 
-    ghost view = { λ m. record { context = m.context; only = m.only; key = m.key; served = m.served } };
+    ghost view = { λ m. record {
+      context = m.context;
+      only = m.only;
+      key = m.key;
+      served = m.served;
+    } };
 }
 
 impl DecMaterials {

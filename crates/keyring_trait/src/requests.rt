@@ -12,8 +12,9 @@ use esdk_fields::{Refusal, Text};
 use std::alloc::{AllocError, Global};
 use std::marker::Model;
 
-/// A request for materials to encrypt with. Its required keys are in its context. A contract sees an `EncRequestValue`.
-/// AWS Encryption SDK Specification, "CMM Interface", Encryption Materials Request.
+/// A request for materials to encrypt with. Its required keys are in its context. A contract sees
+/// an `EncRequestValue`. AWS Encryption SDK Specification, "CMM Interface", Encryption Materials
+/// Request.
 #[derive(Drop)]
 pub struct EncRequest {
     context: Context,
@@ -32,7 +33,8 @@ impl Model for EncRequest {
 }
 
 impl EncRequest {
-    /// A request over this context, of which no key is required of the reader, for so many bytes where their number is declared. Takes no memory.
+    /// A request over this context, of which no key is required of the reader, for so many bytes
+    /// where their number is declared. Takes no memory.
     pub fn new(alloc: Global, context: Context, declared: Option<u64>) -> EncRequest
         ensures { result ≡ record { context = context; required = []; declared = declared } }
     {
@@ -45,10 +47,15 @@ impl EncRequest {
 
     /// The same request, with these keys required of the reader too.
     ///
-    /// Q4 `RequiredAbsent` with the least of these keys that isn't in the context, exactly where there is one; `Memory` where memory runs out.
+    /// Q4 `RequiredAbsent` with the least of these keys that isn't in the context, exactly where
+    /// there is one; `Memory` where memory runs out.
     pub fn requiring(&self, alloc: Global, keys: &KeySet) -> Result<EncRequest, PairError>
         ensures request { IfOk result (λ made. made
-            ≡ record { context = self.now.context; required = with_keys self.now.required keys.now; declared = self.now.declared }) }
+            ≡ record {
+              context = self.now.context;
+              required = with_keys self.now.required keys.now;
+              declared = self.now.declared;
+            }) }
         ensures taken { OnOk result (required_absent self.now.context keys.now ≡ None) }
         ensures cause { IfErr result (λ e. RefusesAs e (required_absent self.now.context keys.now)) }
     {
@@ -63,7 +70,11 @@ impl EncRequest {
     fn with_required(&self, alloc: Global, keys: &KeySet) -> Result<EncRequest, AllocError>
         requires { AllHeld self.now.context keys.now }
         ensures { IfOk result (λ made. made
-            ≡ record { context = self.now.context; required = with_keys self.now.required keys.now; declared = self.now.declared }) }
+            ≡ record {
+              context = self.now.context;
+              required = with_keys self.now.required keys.now;
+              declared = self.now.declared;
+            }) }
     {
         Ok(EncRequest {
             context: self.context.copy(alloc)?,
@@ -98,7 +109,8 @@ impl EncRequest {
 
 /// The first of the keys that isn't in the context.
 fn first_absent<'a>(context: &Context, keys: &'a [Text]) -> Option<&'a Text>
-    ensures { option_map (λ key. key.now) result ≡ find (λ key. not (holds context.now key)) keys.now }
+    ensures { option_map (λ key. key.now) result ≡ find
+        (λ key. not (holds context.now key)) keys.now }
 {
     for key in keys {
         if !context.contains_key(key.as_str()) {
@@ -123,18 +135,31 @@ impl Model for DecRequest {
 
     ghost Value = { DecRequestValue };
 
-    ghost view = { λ r. record { suite = r.suite; stored = r.stored; given = r.given; entries = r.entries.items } };
+    ghost view = { λ r. record {
+      suite = r.suite;
+      stored = r.stored;
+      given = r.given;
+      entries =
+          r.entries.items;
+    } };
 }
 
 impl DecRequest {
-    /// A request of a header of this suite, which stores these pairs and holds these entries, where the caller gives those pairs. Takes no memory.
+    /// A request of a header of this suite, which stores these pairs and holds these entries, where
+    /// the caller gives those pairs. Takes no memory.
     pub fn new(
         suite: u16,
         stored: Context,
         given: Context,
         entries: Vec<DataKeyEntry>,
     ) -> DecRequest
-        ensures { result ≡ record { suite = suite; stored = stored; given = given; entries = entries.items } }
+        ensures { result ≡ record {
+          suite = suite;
+          stored = stored;
+          given = given;
+          entries =
+              entries.items;
+        } }
     {
         DecRequest {
             suite,

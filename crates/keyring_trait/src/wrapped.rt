@@ -6,7 +6,8 @@ use crate::data_keys::DataKey;
 use edk_codec::DataKeyEntry;
 use std::marker::Model;
 
-/// A data key, and the entries that hold it wrapped. A contract sees a `WrappedValue` of the key's bytes and the list of the entries.
+/// A data key, and the entries that hold it wrapped. A contract sees a `WrappedValue` of the key's
+/// bytes and the list of the entries.
 #[derive(Drop)]
 pub struct Wrapped {
     key: DataKey,

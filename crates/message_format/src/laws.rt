@@ -3,20 +3,23 @@
 ghost use Rattle.message_format.specs.Legacy.{JudgesLegacyMessages, ForbidsLegacyMessages};
 ghost use Rattle.message_format.specs.Laws.{FaultsStay, UnitsStay, UnlockingStays, RefusesTrailingBytes, FrontsGoOn, OfJudged, OfRead, JudgesWhatIsWritten, ReleasesTheText, ReleasesWholeFrames, ReleasesTheFront, ReadsWhatIsWritten, ReadsWholeFrames, JudgesLineByLine};
 
-/// A written message is whole under every answer that has its data key and the pairs that it doesn't store, and what is released of it is its text.
+/// A written message is whole under every answer that has its data key and the pairs that it
+/// doesn't store, and what is released of it is its text.
 pub fn written_messages_are_whole()
     ensures whole { JudgesWhatIsWritten }
     ensures text { ReleasesTheText }
 {}
 
-/// Of a front of a written message the regular frames that are whole are released: a front of its text.
+/// Of a front of a written message the regular frames that are whole are released: a front of its
+/// text.
 pub fn whole_frames_are_released()
     ensures judged { ReleasesWholeFrames }
     ensures read { ReadsWholeFrames }
     ensures text { ReleasesTheFront }
 {}
 
-/// Who holds one of the keys that a message's data key is wrapped under, and is given its required pairs, reads the message: its whole context, and its text.
+/// Who holds one of the keys that a message's data key is wrapped under, and is given its required
+/// pairs, reads the message: its whole context, and its text.
 pub fn written_messages_are_read()
     ensures { ReadsWhatIsWritten }
 {}
@@ -51,14 +54,15 @@ pub fn fronts_go_on()
     ensures read { OfRead FrontsGoOn }
 {}
 
-/// A message of version 1.0 is whole, where the reader allows that, under every answer that has its data key and the pairs that it doesn't store; where the
-/// reader doesn't, it is M23.
+/// A message of version 1.0 is whole, where the reader allows that, under every answer that has its
+/// data key and the pairs that it doesn't store; where the reader doesn't, it is M23.
 pub fn legacy_messages_are_judged()
     ensures whole { JudgesLegacyMessages }
     ensures forbidden { ForbidsLegacyMessages }
 {}
 
-/// The judgement of any bytes line by line: the header's fault, the header that isn't whole, the answer's fault, M16, M17, and then the body's table.
+/// The judgement of any bytes line by line: the header's fault, the header that isn't whole, the
+/// answer's fault, M16, M17, and then the body's table.
 pub fn judgement_goes_line_by_line()
     ensures { JudgesLineByLine }
 {}

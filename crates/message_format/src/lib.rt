@@ -1,10 +1,12 @@
-//! A whole message: what is written of a text, and how any bytes are judged once it is answered what unlocks them.
-//! Standard: AWS Encryption SDK Specification, "AWS Encryption SDK Message Format".
+//! A whole message: what is written of a text, and how any bytes are judged once it is answered
+//! what unlocks them. Standard: AWS Encryption SDK Specification, "AWS Encryption SDK Message
+//! Format".
 //!
-//! `specs/Message.antt` says what is written, `specs/Judgement.antt` how bytes are judged, `specs/Reading.antt` how a reader that holds wrapping keys
-//! judges them. `specs/Laws.antt` says it a second time, line by line, and what follows: a written message is whole and has its text, a fault stays when
-//! bytes follow, and what was released is never taken back. The code is what writing and reading share: the message's key, the header's tag,
-//! and what unlocks a header.
+//! `specs/Message.antt` says what is written, `specs/Judgement.antt` how bytes are judged,
+//! `specs/Reading.antt` how a reader that holds wrapping keys judges them. `specs/Laws.antt` says
+//! it a second time, line by line, and what follows: a written message is whole and has its text, a
+//! fault stays when bytes follow, and what was released is never taken back. The code is what
+//! writing and reading share: the message's key, the header's tag, and what unlocks a header.
 #![tactic(auto)]
 
 mod comparing;

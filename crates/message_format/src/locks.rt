@@ -1,4 +1,5 @@
-//! The lock of a header: the key that is derived from the data key, the header's tag under it, and what unlocks a header.
+//! The lock of a header: the key that is derived from the data key, the header's tag under it, and
+//! what unlocks a header.
 
 ghost use Rattle.std.specs.Prelude.{◌≡◌, ◌+◌, ◌^◌, ◌<◌, ◌≤◌, [], ◌++◌, length, IfOk};
 ghost use Rattle.cipher_spec.specs.Gcm.{sealed};
@@ -17,7 +18,8 @@ use keyring_trait::DataKey;
 use std::alloc::{AllocError, Global};
 use suite_table::{Suite, commitment, derived};
 
-/// The key of a message's header tag and units, ready for use: what the suite derives from the data key and the message id, which is as long as the suite says.
+/// The key of a message's header tag and units, ready for use: what the suite derives from the data
+/// key and the message id, which is as long as the suite says.
 pub fn message_key(suite: Suite, key: &DataKey, message_id: &[u8]) -> GcmKey
     requires id { length message_id.now ≡ id_length suite }
     ensures { result ≡ derived suite key.now message_id.now }
@@ -25,8 +27,9 @@ pub fn message_key(suite: Suite, key: &DataKey, message_id: &[u8]) -> GcmKey
     GcmKey::new(&derived(suite, key.bytes(), message_id))
 }
 
-/// The authentication tag of a header under the message's key: of its body, and of the pairs that it doesn't store, with the header's initialization vector, which is
-/// twelve zero bytes under the committing suite. Fails only where memory runs out.
+/// The authentication tag of a header under the message's key: of its body, and of the pairs that
+/// it doesn't store, with the header's initialization vector, which is twelve zero bytes under the
+/// committing suite. Fails only where memory runs out.
 pub fn header_tag(
     alloc: Global,
     message_key: &mut GcmKey,
@@ -73,10 +76,12 @@ fn commits(header: &Header, key: &DataKey) -> bool
     }
 }
 
-/// Unlocks a header with this data key: the message's key, with which the units of its body are opened, or why the data key doesn't unlock it.
+/// Unlocks a header with this data key: the message's key, with which the units of its body are
+/// opened, or why the data key doesn't unlock it.
 ///
-/// M16 `Commitment` where the header doesn't commit to the data key, and its suite has commitments; else M17 `HeaderTag` where the header's tag isn't that of its body
-/// and of the pairs that it doesn't store. The outer error comes only where memory runs out.
+/// M16 `Commitment` where the header doesn't commit to the data key, and its suite has commitments;
+/// else M17 `HeaderTag` where the header's tag isn't that of its body and of the pairs that it
+/// doesn't store. The outer error comes only where memory runs out.
 #[tactic(auto, unfolding(crate::specs::Judgement::lock_fault, crate::specs::Message::header_tag))]
 pub fn unlocked_key(
     alloc: Global,

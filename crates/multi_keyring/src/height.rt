@@ -7,7 +7,8 @@ ghost use Rattle.multi_keyring.specs.Nodes.{node_height};
 use crate::tree::{Multi, Node};
 
 impl<P> Node<P> {
-    /// The number of levels of the tree: 1 for a raw or a handed keyring, and for a multi-keyring one more than its highest member's.
+    /// The number of levels of the tree: 1 for a raw or a handed keyring, and for a multi-keyring
+    /// one more than its highest member's.
     pub fn height(&self) -> u32
         ensures value { result ≡ node_height self.now }
         ensures bound { result ≤ 8 }

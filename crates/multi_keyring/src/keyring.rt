@@ -11,15 +11,19 @@ use edk_codec::DataKeyEntry;
 use keyring_trait::{DataKey, Keyring, RingError, RingRefusal, Wrapped};
 use std::alloc::Global;
 
-/// A tree makes the entries of its leaves, the generator's first, and opens an entry with any of them: a raw key makes one, a retired one none, and a keyring that was handed
-/// in as many as it says.
+/// A tree makes the entries of its leaves, the generator's first, and opens an entry with any of
+/// them: a raw key makes one, a retired one none, and a keyring that was handed in as many as it
+/// says.
 ///
-/// With a data key handed to it a multi-keyring refuses `GeneratorHasKey` where it has a generator, else what the first child refuses that does. Without one it refuses
-/// `NoGenerator` where it has no generator, else what the generator refuses without one, else what the first child refuses with one.
-/// `Memory` comes from `on_encrypt` where memory runs out, and where the leaves would make more than 64 entries: there is no such tree as long as each keyring that was
-/// handed in keeps to its number of entries.
+/// With a data key handed to it a multi-keyring refuses `GeneratorHasKey` where it has a generator,
+/// else what the first child refuses that does. Without one it refuses `NoGenerator` where it has
+/// no generator, else what the generator refuses without one, else what the first child refuses
+/// with one. `Memory` comes from `on_encrypt` where memory runs out, and where the leaves would
+/// make more than 64 entries: there is no such tree as long as each keyring that was handed in
+/// keeps to its number of entries.
 ///
-/// A member that fails is passed over by `on_decrypt`: `KeyringFault` comes only where no leaf opens an entry that tells its key and didn't fail.
+/// A member that fails is passed over by `on_decrypt`: `KeyringFault` comes only where no leaf
+/// opens an entry that tells its key and didn't fail.
 impl<P: Keyring> Keyring for Node<P> {
     ghost meaning = { tree_meaning P.meaning };
 
@@ -47,11 +51,15 @@ impl<P: Keyring> Keyring for Node<P> {
         context: &Context,
         entries: &[DataKeyEntry],
     ) -> Result<Option<DataKey>, RingError>
-        ensures goes { KeyringGoes (tree_meaning P.meaning self.old) (tree_meaning P.meaning self.new) }
-        ensures opens { IfOk result (Opens (tree_meaning P.meaning self.old) (tree_meaning P.meaning self.new) context.now entries.now) }
-        ensures cause { IfErr result (UnwrapCause (tree_meaning P.meaning self.old).faults (tree_meaning P.meaning self.new).faults) }
+        ensures goes { KeyringGoes (tree_meaning P.meaning self.old)
+            (tree_meaning P.meaning self.new) }
+        ensures opens { IfOk result (Opens (tree_meaning P.meaning self.old)
+            (tree_meaning P.meaning self.new) context.now entries.now) }
+        ensures cause { IfErr result (UnwrapCause (tree_meaning P.meaning self.old).faults
+            (tree_meaning P.meaning self.new).faults) }
         ensures none { FindsNone result
-            → NoneOpens (node_leaves P.meaning self.old) (node_leaves P.meaning self.new) context.now entries.now }
+            → NoneOpens (node_leaves P.meaning self.old)
+            (node_leaves P.meaning self.new) context.now entries.now }
     {
         self.decrypt(alloc, context, entries)
     }

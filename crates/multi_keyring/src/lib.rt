@@ -1,7 +1,8 @@
-//! Multi-keyrings: keyrings that wrap a data key with each of their members, and unwrap it with any of them. They can be nested, to trees.
-//! AWS Encryption SDK Specification, "Multi-Keyring".
+//! Multi-keyrings: keyrings that wrap a data key with each of their members, and unwrap it with any
+//! of them. They can be nested, to trees. AWS Encryption SDK Specification, "Multi-Keyring".
 //!
-//! The definitions stand in `specs/`: `Forest` says what trees are, `Tree` what a tree means as a keyring, `Making` what is refused as a multi-keyring.
+//! The definitions stand in `specs/`: `Forest` says what trees are, `Tree` what a tree means as a
+//! keyring, `Making` what is refused as a multi-keyring.
 #![tactic(auto)]
 
 mod height;

@@ -30,10 +30,12 @@ pub enum MultiError {
 }
 
 impl<P: Keyring> Multi<P> {
-    /// A multi-keyring of this generator, where there is one, and of these children. Takes no memory.
+    /// A multi-keyring of this generator, where there is one, and of these children. Takes no
+    /// memory.
     ///
-    /// `Empty` exactly where there is neither; else `TooDeep` exactly where its height, one more than its highest member's, would be over 8; else `TooWide` with the
-    /// number of entries that the members make, exactly where these are over 64. After a refusal the members are gone.
+    /// `Empty` exactly where there is neither; else `TooDeep` exactly where its height, one more
+    /// than its highest member's, would be over 8; else `TooWide` with the number of entries that
+    /// the members make, exactly where these are over 64. After a refusal the members are gone.
     pub fn new(generator: Option<Node<P>>, children: Vec<Node<P>>) -> Result<Multi<P>, MultiError>
         requires { length children.items < 2 ^ 32 }
         ensures { MakesMulti (multi_fault P.meaning (generator_first generator children.items))

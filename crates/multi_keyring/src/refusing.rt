@@ -33,7 +33,8 @@ impl<P: Keyring> Multi<P> {
 }
 
 impl<P: Keyring> Members<P> {
-    /// What is refused by a multi-keyring of these members: a data key, where there is a generator, and the want of one, where there is none; else what a member refuses.
+    /// What is refused by a multi-keyring of these members: a data key, where there is a generator,
+    /// and the want of one, where there is none; else what a member refuses.
     #[cycle(refusal)]
     pub(crate) fn refusal(&self, has_key: bool) -> Option<RingRefusal>
         ensures { result ≡ refusal_with has_key

@@ -3,7 +3,8 @@
 use raw_aes_keyring::RawAes;
 use std::marker::Model;
 
-/// A tree of keyrings: one raw AES key, which may be retired, a keyring that was handed in, or a multi-keyring of further trees.
+/// A tree of keyrings: one raw AES key, which may be retired, a keyring that was handed in, or a
+/// multi-keyring of further trees.
 #[derive(Drop)]
 #[cycle(tree)]
 pub enum Node<P> {
@@ -15,9 +16,9 @@ pub enum Node<P> {
     Multi(Box<Multi<P>>),
 }
 
-/// A multi-keyring: its generator, where it has one, and its children. Its height is at most 8. A contract sees whether it has a generator, and its members as a
-/// `Forest`, in which the generator stands first.
-/// AWS Encryption SDK Specification, "Multi-Keyring", Structure.
+/// A multi-keyring: its generator, where it has one, and its children. Its height is at most 8. A
+/// contract sees whether it has a generator, and its members as a `Forest`, in which the generator
+/// stands first. AWS Encryption SDK Specification, "Multi-Keyring", Structure.
 #[derive(Drop)]
 #[cycle(tree)]
 pub struct Multi<P> {
@@ -49,7 +50,8 @@ impl<P> Model for Multi<P> {
 
     ghost view = { λ m. (is_some m.members.generator, forest (all_of m.members)) };
 
-    ghost invariant = { λ m. (m.height ≤ 8) × (length m.members.children.items < 2 ^ 32) × (tallest (forest (all_of m.members)) + 1 ≡ m.height) };
+    ghost invariant = { λ m. (m.height ≤ 8) × (length m.members.children.items < 2 ^ 32)
+        × (tallest (forest (all_of m.members)) + 1 ≡ m.height) };
 
     ghost size = { λ v. tallest v.1 + 1 };
 

@@ -1,4 +1,5 @@
-//! Unwrapping a data key with the first member that can. AWS Encryption SDK Specification, "Multi-Keyring", OnDecrypt.
+//! Unwrapping a data key with the first member that can. AWS Encryption SDK Specification,
+//! "Multi-Keyring", OnDecrypt.
 
 ghost use Rattle.std.specs.Prelude.{◌≡◌, ◌<◌, ◌^◌, length, is_some};
 ghost use Rattle.keyring_trait.specs.Keyring.{KeyringGoes};
@@ -16,7 +17,8 @@ use keyring_trait::{DataKey, Keyring, RingError};
 use std::alloc::Global;
 
 impl<P: Keyring> Node<P> {
-    /// Unwraps as `Keyring::on_decrypt` says. A member that fails is passed over: `KeyringFault` comes only where no leaf opens that didn't fail.
+    /// Unwraps as `Keyring::on_decrypt` says. A member that fails is passed over: `KeyringFault`
+    /// comes only where no leaf opens that didn't fail.
     #[cycle(decrypt)]
     pub(crate) fn decrypt(
         &mut self,
@@ -25,11 +27,14 @@ impl<P: Keyring> Node<P> {
         entries: &[DataKeyEntry],
     ) -> Result<Option<DataKey>, RingError>
         ensures height { node_height self.new ≡ node_height self.old }
-        ensures goes { KeyringGoes (tree_meaning P.meaning self.old) (tree_meaning P.meaning self.new) }
-        ensures opens { OpensAs (tree_meaning P.meaning self.old).keys (tree_meaning P.meaning self.old).faults
+        ensures goes { KeyringGoes (tree_meaning P.meaning self.old)
+            (tree_meaning P.meaning self.new) }
+        ensures opens { OpensAs (tree_meaning P.meaning self.old).keys
+            (tree_meaning P.meaning self.old).faults
             (tree_meaning P.meaning self.new).faults context.now entries.now result }
         ensures none { FindsNone result
-            → NoneOpens (node_leaves P.meaning self.old) (node_leaves P.meaning self.new) context.now entries.now }
+            → NoneOpens (node_leaves P.meaning self.old)
+            (node_leaves P.meaning self.new) context.now entries.now }
     {
         match self {
             Node::Raw(keyring) => keyring.on_decrypt(alloc, context, entries),
@@ -49,18 +54,23 @@ impl<P: Keyring> Multi<P> {
         entries: &[DataKeyEntry],
     ) -> Result<Option<DataKey>, RingError>
         ensures height { tallest self.new.1 ≡ tallest self.old.1 }
-        ensures goes { KeyringGoes (joined self.old.0 (meanings P.meaning self.old.1)) (joined self.new.0 (meanings P.meaning self.new.1)) }
-        ensures opens { OpensAs (joined self.old.0 (meanings P.meaning self.old.1)).keys (joined self.old.0 (meanings P.meaning self.old.1)).faults
-            (joined self.new.0 (meanings P.meaning self.new.1)).faults context.now entries.now result }
+        ensures goes { KeyringGoes (joined self.old.0 (meanings P.meaning self.old.1))
+            (joined self.new.0 (meanings P.meaning self.new.1)) }
+        ensures opens { OpensAs (joined self.old.0 (meanings P.meaning self.old.1)).keys
+            (joined self.old.0 (meanings P.meaning self.old.1)).faults
+            (joined self.new.0 (meanings P.meaning self.new.1)).faults context.now entries.now
+            result }
         ensures none { FindsNone result
-            → NoneOpens (leaves P.meaning self.old.1) (leaves P.meaning self.new.1) context.now entries.now }
+            → NoneOpens (leaves P.meaning self.old.1)
+            (leaves P.meaning self.new.1) context.now entries.now }
     {
         self.members.decrypt(alloc, context, entries)
     }
 }
 
 impl<P: Keyring> Members<P> {
-    /// The data key that the generator finds, or else the first child that finds one. `KeyringFault` where a member failed and no later one finds a data key.
+    /// The data key that the generator finds, or else the first child that finds one.
+    /// `KeyringFault` where a member failed and no later one finds a data key.
     #[cycle(decrypt)]
     fn decrypt(
         &mut self,
@@ -71,7 +81,8 @@ impl<P: Keyring> Members<P> {
         requires { length self.old.children.items < 2 ^ 32 }
         ensures same { is_some self.new.generator ≡ is_some self.old.generator }
         ensures few { length self.new.children.items ≡ length self.old.children.items }
-        ensures unwraps { Unwraps P.meaning (all_of self.old) (all_of self.new) context.now entries.now result }
+        ensures unwraps { Unwraps P.meaning (all_of self.old)
+            (all_of self.new) context.now entries.now result }
     {
         // Called for its clauses alone: a tree that isn't asked goes on as it is.
         let _count = entry_count_of(&self.children);
@@ -94,7 +105,8 @@ impl<P: Keyring> Members<P> {
     }
 }
 
-/// The data key that the first of these trees finds that finds one. `KeyringFault` where one of them failed and no later one finds a data key.
+/// The data key that the first of these trees finds that finds one. `KeyringFault` where one of
+/// them failed and no later one finds a data key.
 #[cycle(decrypt)]
 fn unwrap_with_any<P: Keyring>(
     nodes: &mut Vec<Node<P>>,

@@ -1,4 +1,5 @@
-//! Wrapping a data key with each member. AWS Encryption SDK Specification, "Multi-Keyring", OnEncrypt.
+//! Wrapping a data key with each member. AWS Encryption SDK Specification, "Multi-Keyring",
+//! OnEncrypt.
 
 ghost use Rattle.std.specs.Prelude.{◌≡◌, ◌<◌, ◌*◌, ◌^◌, None, length, map, min, is_some, IfOk, IfErr, OnOk};
 ghost use Rattle.std.specs.Option.{option_copied};
@@ -26,13 +27,18 @@ impl<P: Keyring> Node<P> {
         random: &[u8],
         key: Option<&DataKey>,
     ) -> Result<Wrapped, RingError>
-        requires { length random.now ≡ wanted (is_some key) (tree_meaning P.meaning self.old).wraps }
+        requires { length random.now ≡ wanted (is_some key)
+            (tree_meaning P.meaning self.old).wraps }
         ensures height { node_height self.new ≡ node_height self.old }
-        ensures goes { KeyringGoes (tree_meaning P.meaning self.old) (tree_meaning P.meaning self.new) }
+        ensures goes { KeyringGoes (tree_meaning P.meaning self.old)
+            (tree_meaning P.meaning self.new) }
         ensures wraps { IfOk result
-            (Wraps (tree_meaning P.meaning self.old) context.now random.now (option_copied key.entry)) }
-        ensures taken { OnOk result (refusal_with (is_some key.entry) (tree_meaning P.meaning self.old) ≡ None) }
-        ensures cause { IfErr result (WrapCause (refusal_with (is_some key.entry) (tree_meaning P.meaning self.old))
+            (Wraps (tree_meaning P.meaning self.old) context.now random.now
+            (option_copied key.entry)) }
+        ensures taken { OnOk result (refusal_with (is_some key.entry)
+            (tree_meaning P.meaning self.old) ≡ None) }
+        ensures cause { IfErr result (WrapCause (refusal_with (is_some key.entry)
+            (tree_meaning P.meaning self.old))
             (tree_meaning P.meaning self.old).faults (tree_meaning P.meaning self.new).faults) }
     {
         match self {
@@ -53,22 +59,30 @@ impl<P: Keyring> Multi<P> {
         random: &[u8],
         key: Option<&DataKey>,
     ) -> Result<Wrapped, RingError>
-        requires { length random.now ≡ wanted (is_some key) (joined self.old.0 (meanings P.meaning self.old.1)).wraps }
+        requires { length random.now ≡ wanted (is_some key)
+            (joined self.old.0 (meanings P.meaning self.old.1)).wraps }
         ensures height { tallest self.new.1 ≡ tallest self.old.1 }
-        ensures goes { KeyringGoes (joined self.old.0 (meanings P.meaning self.old.1)) (joined self.new.0 (meanings P.meaning self.new.1)) }
+        ensures goes { KeyringGoes (joined self.old.0 (meanings P.meaning self.old.1))
+            (joined self.new.0 (meanings P.meaning self.new.1)) }
         ensures wraps { IfOk result
-            (Wraps (joined self.old.0 (meanings P.meaning self.old.1)) context.now random.now (option_copied key.entry)) }
-        ensures taken { OnOk result (refusal_with (is_some key.entry) (joined self.old.0 (meanings P.meaning self.old.1)) ≡ None) }
-        ensures cause { IfErr result (WrapCause (refusal_with (is_some key.entry) (joined self.old.0 (meanings P.meaning self.old.1)))
-            (joined self.old.0 (meanings P.meaning self.old.1)).faults (joined self.new.0 (meanings P.meaning self.new.1)).faults) }
+            (Wraps (joined self.old.0 (meanings P.meaning self.old.1)) context.now random.now
+            (option_copied key.entry)) }
+        ensures taken { OnOk result (refusal_with (is_some key.entry)
+            (joined self.old.0 (meanings P.meaning self.old.1)) ≡ None) }
+        ensures cause { IfErr result (WrapCause (refusal_with (is_some key.entry)
+            (joined self.old.0 (meanings P.meaning self.old.1)))
+            (joined self.old.0 (meanings P.meaning self.old.1)).faults
+            (joined self.new.0 (meanings P.meaning self.new.1)).faults) }
     {
         self.members.encrypt(alloc, context, random, key)
     }
 }
 
 impl<P: Keyring> Members<P> {
-    /// Has the generator draw and wrap a data key, or takes the one handed over where there is no generator, and has each child wrap it too.
-    /// `Memory` comes also where the members would make more than 64 entries, which no multi-keyring does whose members keep to their numbers of entries.
+    /// Has the generator draw and wrap a data key, or takes the one handed over where there is no
+    /// generator, and has each child wrap it too. `Memory` comes also where the members would make
+    /// more than 64 entries, which no multi-keyring does whose members keep to their numbers of
+    /// entries.
     #[cycle(encrypt)]
     fn encrypt(
         &mut self,
@@ -78,17 +92,22 @@ impl<P: Keyring> Members<P> {
         key: Option<&DataKey>,
     ) -> Result<Wrapped, RingError>
         requires few { length self.old.children.items < 2 ^ 32 }
-        requires room { length random.now ≡ wanted (is_some key) (min (all_wraps (map (tree_meaning P.meaning) (all_of self.old))) 64) }
+        requires room { length random.now ≡ wanted (is_some key)
+            (min (all_wraps (map (tree_meaning P.meaning) (all_of self.old))) 64) }
         ensures same { is_some self.new.generator ≡ is_some self.old.generator }
         ensures few { length self.new.children.items ≡ length self.old.children.items }
         ensures stays { Stays P.meaning (all_of self.old) (all_of self.new) }
-        ensures wraps { IfOk result (Wraps (joined (is_some self.old.generator) (map (tree_meaning P.meaning) (all_of self.old)))
+        ensures wraps { IfOk result (Wraps (joined (is_some self.old.generator)
+            (map (tree_meaning P.meaning) (all_of self.old)))
             context.now random.now (option_copied key.entry)) }
         ensures taken { OnOk result
-            (refusal_with (is_some key.entry) (joined (is_some self.old.generator) (map (tree_meaning P.meaning) (all_of self.old))) ≡ None) }
+            (refusal_with (is_some key.entry) (joined (is_some self.old.generator)
+            (map (tree_meaning P.meaning) (all_of self.old))) ≡ None) }
         ensures cause { IfErr result
-            (WrapCause (refusal_with (is_some key.entry) (joined (is_some self.old.generator) (map (tree_meaning P.meaning) (all_of self.old))))
-            (all_faults (map (tree_meaning P.meaning) (all_of self.old))) (all_faults (map (tree_meaning P.meaning) (all_of self.new)))) }
+            (WrapCause (refusal_with (is_some key.entry)
+            (joined (is_some self.old.generator) (map (tree_meaning P.meaning) (all_of self.old))))
+            (all_faults (map (tree_meaning P.meaning) (all_of self.old)))
+            (all_faults (map (tree_meaning P.meaning) (all_of self.new)))) }
     {
         let wraps = self.entry_count();
         if let Some(refusal) = self.refusal(key.is_some()) {
@@ -115,7 +134,8 @@ impl<P: Keyring> Members<P> {
     }
 }
 
-/// Has each of these trees wrap the data key, with the next random bytes as IVs, and puts what they make behind the entries there are.
+/// Has each of these trees wrap the data key, with the next random bytes as IVs, and puts what they
+/// make behind the entries there are.
 #[cycle(encrypt)]
 fn wrap_with_all<P: Keyring>(
     nodes: &mut Vec<Node<P>>,
@@ -126,13 +146,16 @@ fn wrap_with_all<P: Keyring>(
 ) -> Result<Wrapped, RingError>
     requires few { length nodes.old.items < 2 ^ 32 }
     requires takes { first_refusal (map (tree_meaning P.meaning) nodes.old.items) ≡ None }
-    requires room { length random.now ≡ 12 * all_wraps (map (tree_meaning P.meaning) nodes.old.items) }
+    requires room { length random.now ≡ 12 * all_wraps
+        (map (tree_meaning P.meaning) nodes.old.items) }
     ensures stays { Stays P.meaning nodes.old.items nodes.new.items }
     ensures key { IfOk result (λ wrapped. wrapped.key ≡ begun.key) }
     ensures appends { IfOk result
-        (λ wrapped. Appends (map (tree_meaning P.meaning) nodes.old.items) context.now begun.key random.now begun.entries wrapped.entries) }
+        (λ wrapped. Appends (map (tree_meaning P.meaning) nodes.old.items) context.now begun.key
+        random.now begun.entries wrapped.entries) }
     ensures cause { IfErr result
-        (WrapCause None (all_faults (map (tree_meaning P.meaning) nodes.old.items)) (all_faults (map (tree_meaning P.meaning) nodes.new.items))) }
+        (WrapCause None (all_faults (map (tree_meaning P.meaning) nodes.old.items))
+        (all_faults (map (tree_meaning P.meaning) nodes.new.items))) }
 {
     // Called for its clauses alone: a tree that isn't asked goes on as it is.
     let _count = entry_count_of(nodes);

@@ -1,9 +1,9 @@
 //! The S-box as a circuit of gates, on all bytes at once.
 //!
 //! It is the circuit of Boyar and Peralta ("A new combinational logic minimization technique with
-//! applications to cryptology", 2010) with its names: x0 to x7 are the bits of a byte and s0 to s7 those
-//! of its image, the highest first. The four inverters at its end are left out, so the sum of each byte
-//! with 63 in hexadecimal comes out.
+//! applications to cryptology", 2010) with its names: x0 to x7 are the bits of a byte and s0 to s7
+//! those of its image, the highest first. The four inverters at its end are left out, so the sum of
+//! each byte with 63 in hexadecimal comes out.
 
 ghost use Rattle.std.specs.Prelude.{◌≡◌, ℕ, ◌∷◌, [], bit_xor};
 ghost use Rattle.cipher_spec.specs.Aes.{sub_byte};
@@ -26,8 +26,10 @@ struct Waist<P> {
 #[inline(always)]
 #[tactic(auto, unfolding(crate::specs::Circuit::head))]
 fn head<P: Plane>(x: &Planes<P>) -> Waist<P>
-    ensures { (j b : ℕ) → (P.bit result.a j b ∷ P.bit result.b j b ∷ P.bit result.c j b ∷ P.bit result.d j b ∷ [])
-        ≡ head (P.bit x.now.b7 j b) (P.bit x.now.b6 j b) (P.bit x.now.b5 j b) (P.bit x.now.b4 j b) (P.bit x.now.b3 j b) (P.bit x.now.b2 j b) (P.bit x.now.b1 j b) (P.bit x.now.b0 j b) }
+    ensures { (j b : ℕ) → (P.bit result.a j b ∷ P.bit result.b j b ∷ P.bit result.c j b ∷ P.bit
+        result.d j b ∷ [])
+        ≡ head (P.bit x.now.b7 j b) (P.bit x.now.b6 j b) (P.bit x.now.b5 j b) (P.bit x.now.b4 j b)
+        (P.bit x.now.b3 j b) (P.bit x.now.b2 j b) (P.bit x.now.b1 j b) (P.bit x.now.b0 j b) }
 {
     let x0 = x.b7;
     let x1 = x.b6;
@@ -95,7 +97,8 @@ fn head<P: Plane>(x: &Planes<P>) -> Waist<P>
 #[inline(always)]
 #[tactic(auto, unfolding(crate::specs::Circuit::inner))]
 fn inner<P: Plane>(n: &Waist<P>) -> Waist<P>
-    ensures { (j b : ℕ) → (P.bit result.a j b ∷ P.bit result.b j b ∷ P.bit result.c j b ∷ P.bit result.d j b ∷ [])
+    ensures { (j b : ℕ) → (P.bit result.a j b ∷ P.bit result.b j b ∷ P.bit result.c j b ∷ P.bit
+        result.d j b ∷ [])
         ≡ inner (P.bit n.now.a j b) (P.bit n.now.b j b) (P.bit n.now.c j b) (P.bit n.now.d j b) }
 {
     let t21 = n.a;
@@ -130,8 +133,11 @@ fn inner<P: Plane>(n: &Waist<P>) -> Waist<P>
 #[inline(always)]
 #[tactic(auto, unfolding(crate::specs::Circuit::tail))]
 fn tail<P: Plane>(x: &Planes<P>, n: &Waist<P>) -> Planes<P>
-    ensures { (j b : ℕ) → (P.bit result.b7 j b ∷ P.bit result.b6 j b ∷ P.bit result.b5 j b ∷ P.bit result.b4 j b ∷ P.bit result.b3 j b ∷ P.bit result.b2 j b ∷ P.bit result.b1 j b ∷ P.bit result.b0 j b ∷ [])
-        ≡ tail (P.bit x.now.b7 j b) (P.bit x.now.b6 j b) (P.bit x.now.b5 j b) (P.bit x.now.b4 j b) (P.bit x.now.b3 j b) (P.bit x.now.b2 j b) (P.bit x.now.b1 j b) (P.bit x.now.b0 j b)
+    ensures { (j b : ℕ) → (P.bit result.b7 j b ∷ P.bit result.b6 j b ∷ P.bit result.b5 j b ∷ P.bit
+        result.b4 j b ∷ P.bit result.b3 j b ∷ P.bit result.b2 j b ∷ P.bit result.b1 j b ∷ P.bit
+        result.b0 j b ∷ [])
+        ≡ tail (P.bit x.now.b7 j b) (P.bit x.now.b6 j b) (P.bit x.now.b5 j b) (P.bit x.now.b4 j b)
+        (P.bit x.now.b3 j b) (P.bit x.now.b2 j b) (P.bit x.now.b1 j b) (P.bit x.now.b0 j b)
         (P.bit n.now.a j b) (P.bit n.now.b j b) (P.bit n.now.c j b) (P.bit n.now.d j b) }
 {
     let x0 = x.b7;
@@ -234,7 +240,8 @@ fn tail<P: Plane>(x: &Planes<P>, n: &Waist<P>) -> Planes<P>
 /// The S-box on each byte (FIPS 197, 5.1.1), but for the constant of its affine transformation.
 #[inline(always)]
 pub fn sub_bytes<P: Plane>(x: &Planes<P>) -> Planes<P>
-    ensures { (j b : ℕ) → byte_of P.bit result j b ≡ bit_xor (sub_byte (byte_of P.bit x.now j b)) 0x63 }
+    ensures { (j b : ℕ) → byte_of P.bit result j b ≡ bit_xor
+        (sub_byte (byte_of P.bit x.now j b)) 0x63 }
 {
     tail(x, &inner(&head(x)))
 }

@@ -13,7 +13,8 @@ use crate::planes::Planes;
 #[inline(always)]
 fn first_half(x: [u8; 16]) -> u64
     ensures long { length x ≡ 16 }
-    ensures bytes { to_le_bytes w64 result ≡ slice_index x 0 ∷ slice_index x 1 ∷ slice_index x 2 ∷ slice_index x 3
+    ensures bytes { to_le_bytes w64 result ≡ slice_index x 0 ∷ slice_index x 1 ∷ slice_index x 2
+        ∷ slice_index x 3
         ∷ slice_index x 4 ∷ slice_index x 5 ∷ slice_index x 6 ∷ slice_index x 7 ∷ [] }
 {
     u64::from_le_bytes([x[0], x[1], x[2], x[3], x[4], x[5], x[6], x[7]])
@@ -22,7 +23,8 @@ fn first_half(x: [u8; 16]) -> u64
 /// The last eight bytes of a block.
 #[inline(always)]
 fn second_half(x: [u8; 16]) -> u64
-    ensures bytes { to_le_bytes w64 result ≡ slice_index x 8 ∷ slice_index x 9 ∷ slice_index x 10 ∷ slice_index x 11
+    ensures bytes { to_le_bytes w64 result ≡ slice_index x 8 ∷ slice_index x 9 ∷ slice_index x 10
+        ∷ slice_index x 11
         ∷ slice_index x 12 ∷ slice_index x 13 ∷ slice_index x 14 ∷ slice_index x 15 ∷ [] }
 {
     u64::from_le_bytes([x[8], x[9], x[10], x[11], x[12], x[13], x[14], x[15]])

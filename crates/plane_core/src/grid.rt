@@ -25,18 +25,24 @@ pub trait Grid: Copy {
 
     /// Groups of one bit.
     fn ones(self, other: Self) -> Pair<Self>
-        ensures low { (k : ℕ) → row cell result.low k ≡ even_groups 1 (row cell self k) (row cell other k) }
-        ensures high { (k : ℕ) → row cell result.high k ≡ odd_groups 1 (row cell self k) (row cell other k) };
+        ensures low { (k : ℕ) → row cell result.low k ≡ even_groups 1 (row cell self k)
+            (row cell other k) }
+        ensures high { (k : ℕ) → row cell result.high k ≡ odd_groups 1 (row cell self k)
+            (row cell other k) };
 
     /// Groups of two bits.
     fn twos(self, other: Self) -> Pair<Self>
-        ensures low { (k : ℕ) → row cell result.low k ≡ even_groups 2 (row cell self k) (row cell other k) }
-        ensures high { (k : ℕ) → row cell result.high k ≡ odd_groups 2 (row cell self k) (row cell other k) };
+        ensures low { (k : ℕ) → row cell result.low k ≡ even_groups 2 (row cell self k)
+            (row cell other k) }
+        ensures high { (k : ℕ) → row cell result.high k ≡ odd_groups 2 (row cell self k)
+            (row cell other k) };
 
     /// Groups of four bits.
     fn fours(self, other: Self) -> Pair<Self>
-        ensures low { (k : ℕ) → row cell result.low k ≡ even_groups 4 (row cell self k) (row cell other k) }
-        ensures high { (k : ℕ) → row cell result.high k ≡ odd_groups 4 (row cell self k) (row cell other k) };
+        ensures low { (k : ℕ) → row cell result.low k ≡ even_groups 4 (row cell self k)
+            (row cell other k) }
+        ensures high { (k : ℕ) → row cell result.high k ≡ odd_groups 4 (row cell self k)
+            (row cell other k) };
 }
 
 impl Grid for u8x16 {
@@ -101,8 +107,8 @@ impl Grid for u64 {
     }
 }
 
-/// Eight words, rows and columns exchanged: bit i of each byte of word q goes to bit q of that byte in
-/// word i.
+/// Eight words, rows and columns exchanged: bit i of each byte of word q goes to bit q of that byte
+/// in word i.
 #[inline(always)]
 pub fn transposed<W: Grid>(x: &Planes<W>) -> Planes<W>
     ensures { (q k : ℕ) → q < 8 → row W.cell (word_at result q) k

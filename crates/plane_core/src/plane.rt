@@ -36,8 +36,8 @@ pub trait Plane: Copy {
     ghost is_bit: { (v : Self) (j b : ℕ) → bit v j b < 2 };
 }
 
-// Eight blocks: a lane has a byte of each block, where bit b is block b's. The lanes go row by row, so
-// the bytes below are four lanes further.
+// Eight blocks: a lane has a byte of each block, where bit b is block b's. The lanes go row by row,
+// so the bytes below are four lanes further.
 impl Plane for u8x16 {
     ghost bit = { lane_bit };
 
@@ -79,8 +79,8 @@ fn turned(w: u64, n: u32) -> u64
     (w >> n) ^ (w << (64 - n))
 }
 
-// Four blocks: byte j % 8 of the word has byte j of each block, in its lower four bits where j is below
-// 8, and else in its upper four.
+// Four blocks: byte j % 8 of the word has byte j of each block, in its lower four bits where j is
+// below 8, and else in its upper four.
 impl Plane for u64 {
     ghost bit = { word_bit };
 

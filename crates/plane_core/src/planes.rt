@@ -22,7 +22,8 @@ pub struct Planes<P> {
 /// The sum, in the field of 256 elements, of each two bytes.
 #[inline(always)]
 pub fn sum<P: Plane>(x: &Planes<P>, y: &Planes<P>) -> Planes<P>
-    ensures { (j b : ℕ) → byte_of P.bit result j b ≡ bit_xor (byte_of P.bit x.now j b) (byte_of P.bit y.now j b) }
+    ensures { (j b : ℕ) → byte_of P.bit result j b ≡ bit_xor (byte_of P.bit x.now j b)
+        (byte_of P.bit y.now j b) }
 {
     Planes {
         b0: x.b0.xor(y.b0),

@@ -14,7 +14,8 @@ use crate::planes::{Planes, doubled, sum};
 /// Each byte of `x` where the bit is 1, and 0 elsewhere.
 #[inline(always)]
 fn chosen<P: Plane>(bit: P, x: &Planes<P>) -> Planes<P>
-    ensures { (j b : ℕ) → byte_of P.bit result j b ≡ add_if (P.bit bit j b) 0 (byte_of P.bit x.now j b) }
+    ensures { (j b : ℕ) → byte_of P.bit result j b ≡ add_if (P.bit bit j b) 0
+        (byte_of P.bit x.now j b) }
 {
     Planes {
         b0: bit.and(x.b0),
@@ -28,11 +29,12 @@ fn chosen<P: Plane>(bit: P, x: &Planes<P>) -> Planes<P>
     }
 }
 
-/// The product of each two bytes (FIPS 197, 4.2): the sum of `y` times the powers of x whose coefficient
-/// in `x` is 1.
+/// The product of each two bytes (FIPS 197, 4.2): the sum of `y` times the powers of x whose
+/// coefficient in `x` is 1.
 #[inline(always)]
 pub fn product<P: Plane>(x: &Planes<P>, y: &Planes<P>) -> Planes<P>
-    ensures { (j b : ℕ) → byte_of P.bit result j b ≡ field_product (byte_of P.bit x.now j b) (byte_of P.bit y.now j b) }
+    ensures { (j b : ℕ) → byte_of P.bit result j b ≡ field_product (byte_of P.bit x.now j b)
+        (byte_of P.bit y.now j b) }
 {
     let y1 = doubled(y);
     let y2 = doubled(&y1);
@@ -54,7 +56,8 @@ pub fn product<P: Plane>(x: &Planes<P>, y: &Planes<P>) -> Planes<P>
 /// The product of each byte with itself. A bit times itself is the bit, so there are sums alone.
 #[inline(always)]
 pub fn square<P: Plane>(x: &Planes<P>) -> Planes<P>
-    ensures { (j b : ℕ) → byte_of P.bit result j b ≡ field_product (byte_of P.bit x.now j b) (byte_of P.bit x.now j b) }
+    ensures { (j b : ℕ) → byte_of P.bit result j b ≡ field_product (byte_of P.bit x.now j b)
+        (byte_of P.bit x.now j b) }
 {
     Planes {
         b0: x.b0.xor(x.b4).xor(x.b6),
@@ -90,7 +93,8 @@ fn inverse<P: Plane>(x: &Planes<P>) -> Planes<P>
 #[inline(always)]
 fn sum_of_five<P: Plane>(a: P, b: P, c: P, d: P, e: P) -> P
     ensures { (j k : ℕ) → P.bit result j k
-        ≡ bit_xor (bit_xor (bit_xor (bit_xor (P.bit a j k) (P.bit b j k)) (P.bit c j k)) (P.bit d j k)) (P.bit e j k) }
+        ≡ bit_xor (bit_xor (bit_xor (bit_xor (P.bit a j k) (P.bit b j k)) (P.bit c j k))
+        (P.bit d j k)) (P.bit e j k) }
 {
     a.xor(b).xor(c).xor(d).xor(e)
 }
@@ -98,7 +102,8 @@ fn sum_of_five<P: Plane>(a: P, b: P, c: P, d: P, e: P) -> P
 /// The affine transformation of the S-box but for its constant (FIPS 197, 5.1.1).
 #[inline(always)]
 fn affine<P: Plane>(x: &Planes<P>) -> Planes<P>
-    ensures { (j b : ℕ) → byte_of P.bit result j b ≡ bit_xor (affine (byte_of P.bit x.now j b)) 0x63 }
+    ensures { (j b : ℕ) → byte_of P.bit result j b ≡ bit_xor
+        (affine (byte_of P.bit x.now j b)) 0x63 }
 {
     Planes {
         b0: sum_of_five(x.b0, x.b4, x.b5, x.b6, x.b7),
@@ -115,7 +120,8 @@ fn affine<P: Plane>(x: &Planes<P>) -> Planes<P>
 /// The S-box on each byte (FIPS 197, 5.1.1), but for the constant of its affine transformation.
 #[inline(always)]
 pub fn sub_bytes<P: Plane>(x: &Planes<P>) -> Planes<P>
-    ensures { (j b : ℕ) → byte_of P.bit result j b ≡ bit_xor (sub_byte (byte_of P.bit x.now j b)) 0x63 }
+    ensures { (j b : ℕ) → byte_of P.bit result j b ≡ bit_xor
+        (sub_byte (byte_of P.bit x.now j b)) 0x63 }
 {
     affine(&inverse(x))
 }

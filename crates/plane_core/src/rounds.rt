@@ -59,8 +59,8 @@ fn two_below<P: Plane>(x: &Planes<P>) -> Planes<P>
     }
 }
 
-/// MixColumns. With s for the sum of a byte and the one below it, each byte comes to 2 s, the byte below
-/// it and the s of two rows below.
+/// MixColumns. With s for the sum of a byte and the one below it, each byte comes to 2 s, the byte
+/// below it and the s of two rows below.
 #[inline(always)]
 fn mixed<P: Plane>(x: &Planes<P>) -> Planes<P>
     ensures { (j b : ℕ) → j < 16 → byte_of P.bit result j b
@@ -75,7 +75,8 @@ fn mixed<P: Plane>(x: &Planes<P>) -> Planes<P>
 /// AddRoundKey.
 #[inline(always)]
 pub fn keyed<P: Plane>(x: &Planes<P>, key: &Planes<P>) -> Planes<P>
-    ensures { (b : ℕ) → block P.bit result b ≡ add_round_key (block P.bit x.now b) (block P.bit key.now b) }
+    ensures { (b : ℕ) → block P.bit result b ≡ add_round_key (block P.bit x.now b)
+        (block P.bit key.now b) }
 {
     sum(x, key)
 }

@@ -1,4 +1,5 @@
-//! One wrapping key as a keyring. AWS Encryption SDK Specification, "Keyring Interface" and "Raw AES Keyring".
+//! One wrapping key as a keyring. AWS Encryption SDK Specification, "Keyring Interface" and "Raw
+//! AES Keyring".
 
 ghost use Rattle.std.specs.Prelude.{◌≡◌, length, is_some};
 ghost use Rattle.std.specs.Option.{option_copied};
@@ -11,8 +12,9 @@ use edk_codec::DataKeyEntry;
 use keyring_trait::{DataKey, Keyring, RingError, RingRefusal, Wrapped};
 use std::alloc::Global;
 
-/// The keyring of one wrapping key makes one entry, refuses nothing, and fails only where memory runs out. Where the key is retired, it makes no entry: it refuses to generate
-/// a data key, and gives back one that it is handed.
+/// The keyring of one wrapping key makes one entry, refuses nothing, and fails only where memory
+/// runs out. Where the key is retired, it makes no entry: it refuses to generate a data key, and
+/// gives back one that it is handed.
 impl Keyring for RawAes {
     ghost meaning = { raw_meaning };
 
@@ -60,7 +62,8 @@ impl Keyring for RawAes {
     }
 }
 
-/// The data key that is wrapped, which is the one handed over or the first 32 random bytes, and the IV, which is the 12 bytes that are left.
+/// The data key that is wrapped, which is the one handed over or the first 32 random bytes, and the
+/// IV, which is the 12 bytes that are left.
 fn key_and_iv(random: &[u8], key: Option<&DataKey>) -> (DataKey, [u8; 12])
     requires { length random.now ≡ wanted (is_some key) 1 }
     ensures key { result.0 ≡ key_in (option_copied key.entry) random.now }

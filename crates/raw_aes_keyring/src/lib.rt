@@ -1,5 +1,5 @@
-//! A raw AES keyring: one wrapping key of AES-256, which wraps data keys and unwraps them. A retired key unwraps and doesn't wrap.
-//! AWS Encryption SDK Specification, "Raw AES Keyring".
+//! A raw AES keyring: one wrapping key of AES-256, which wraps data keys and unwraps them. A
+//! retired key unwraps and doesn't wrap. AWS Encryption SDK Specification, "Raw AES Keyring".
 #![tactic(auto)]
 
 mod keyring;

@@ -34,8 +34,8 @@ impl From<AllocError> for RawError {
     }
 }
 
-/// A keyring of one wrapping key, which may be retired. Its namespace and its name have at most 1,024 bytes each, and the namespace isn't `aws-kms`.
-/// A contract sees the wrapping key.
+/// A keyring of one wrapping key, which may be retired. Its namespace and its name have at most
+/// 1,024 bytes each, and the namespace isn't `aws-kms`. A contract sees the wrapping key.
 #[derive(Drop)]
 pub struct RawAes {
     pub(crate) key: WrapKey,
@@ -53,8 +53,9 @@ impl Model for RawAes {
 }
 
 impl RawAes {
-    /// A keyring of the wrapping key of this namespace, this name and these bytes. `ReservedNamespace` comes exactly where the namespace is
-    /// `aws-kms`; `Memory` where memory ran out.
+    /// A keyring of the wrapping key of this namespace, this name and these bytes.
+    /// `ReservedNamespace` comes exactly where the namespace is `aws-kms`; `Memory` where memory
+    /// ran out.
     pub fn new(
         alloc: Global,
         namespace: &str,
@@ -63,13 +64,19 @@ impl RawAes {
     ) -> Result<RawAes, RawError>
         requires namespace { length namespace.now ≤ 1024 }
         requires name { length name.now ≤ 1024 }
-        ensures { MakesKeyring (record { namespace = namespace.now; name = name.now; key = key; retired = false }) result }
+        ensures { MakesKeyring (record {
+          namespace = namespace.now;
+          name = name.now;
+          key = key;
+          retired = false;
+        }) result }
     {
         made(alloc, namespace, name, key, false)
     }
 
-    /// A keyring of the retired wrapping key of this namespace, this name and these bytes: it opens what that key wrapped, and wraps nothing itself.
-    /// `ReservedNamespace` comes exactly where the namespace is `aws-kms`; `Memory` where memory ran out.
+    /// A keyring of the retired wrapping key of this namespace, this name and these bytes: it opens
+    /// what that key wrapped, and wraps nothing itself. `ReservedNamespace` comes exactly where the
+    /// namespace is `aws-kms`; `Memory` where memory ran out.
     pub fn retired(
         alloc: Global,
         namespace: &str,
@@ -78,7 +85,12 @@ impl RawAes {
     ) -> Result<RawAes, RawError>
         requires namespace { length namespace.now ≤ 1024 }
         requires name { length name.now ≤ 1024 }
-        ensures { MakesKeyring (record { namespace = namespace.now; name = name.now; key = key; retired = true }) result }
+        ensures { MakesKeyring (record {
+          namespace = namespace.now;
+          name = name.now;
+          key = key;
+          retired = true;
+        }) result }
     {
         made(alloc, namespace, name, key, true)
     }
@@ -103,7 +115,13 @@ fn made(
 ) -> Result<RawAes, RawError>
     requires namespace { length namespace.now ≤ 1024 }
     requires name { length name.now ≤ 1024 }
-    ensures { MakesKeyring (record { namespace = namespace.now; name = name.now; key = key; retired = retired }) result }
+    ensures { MakesKeyring (record {
+      namespace = namespace.now;
+      name = name.now;
+      key = key;
+      retired
+          = retired;
+    }) result }
 {
     if namespace == RESERVED_NAMESPACE {
         return Err(RawError::ReservedNamespace);

@@ -16,9 +16,10 @@ use keyring_trait::{DataKey, WrapKey};
 use std::alloc::{AllocError, Global};
 
 impl RawAes {
-    /// The data key of the first entry that is one of this keyring's key and opens under it, over the text of the context, which has to be the
-    /// whole context. An entry of another key, or one that doesn't open, is passed over. None exactly where no entry is left. Fails only
-    /// where memory runs out.
+    /// The data key of the first entry that is one of this keyring's key and opens under it, over
+    /// the text of the context, which has to be the whole context. An entry of another key, or one
+    /// that doesn't open, is passed over. None exactly where no entry is left. Fails only where
+    /// memory runs out.
     pub fn unwrap(
         &self,
         alloc: Global,
@@ -72,7 +73,8 @@ fn unwrapped_entry(
     }
 }
 
-/// The IV, where the entry is one of this key: where it has the key's namespace and name, and a ciphertext of 32 bytes with a tag of 16.
+/// The IV, where the entry is one of this key: where it has the key's namespace and name, and a
+/// ciphertext of 32 bytes with a tag of 16.
 fn iv_of(key: &WrapKey, entry: &DataKeyEntry) -> Option<[u8; 12]>
     ensures iv { FindsIv key.now entry.now result }
     ensures long { OnSome result (length entry.now.cipher ≡ 48) }

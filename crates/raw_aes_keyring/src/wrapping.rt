@@ -15,10 +15,11 @@ use keyring_trait::{DataKey, WrapKey};
 use std::alloc::{AllocError, Global};
 
 impl RawAes {
-    /// The entry that wraps the data key under this keyring's key and the IV: its provider is the namespace, its information the name, the
-    /// lengths of tag and IV, and the IV, and its ciphertext the sealed data key with the tag behind it. The text of the context, which has to
-    /// be the whole context, is authenticated with it. The key isn't retired, and no two data keys may be wrapped with one IV. Fails only where memory
-    /// runs out.
+    /// The entry that wraps the data key under this keyring's key and the IV: its provider is the
+    /// namespace, its information the name, the lengths of tag and IV, and the IV, and its
+    /// ciphertext the sealed data key with the tag behind it. The text of the context, which has to
+    /// be the whole context, is authenticated with it. The key isn't retired, and no two data keys
+    /// may be wrapped with one IV. Fails only where memory runs out.
     pub fn wrap(
         &self,
         alloc: Global,
@@ -75,7 +76,8 @@ fn sealed_key(
 ) -> Result<Blob, AllocError>
     requires { length aad.now ≤ 65535 }
     ensures sealed { IfOk result (λ cipher. cipher
-        ≡ (sealed cipher_key.now iv.now aad.now key.now).0 ++ (sealed cipher_key.now iv.now aad.now key.now).1) }
+        ≡ (sealed cipher_key.now iv.now aad.now key.now).0
+        ++ (sealed cipher_key.now iv.now aad.now key.now).1) }
     ensures long { IfOk result (λ cipher. length cipher ≡ 48) }
 {
     let mut text = *key.bytes();

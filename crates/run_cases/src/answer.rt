@@ -24,8 +24,8 @@ pub fn answer(alloc: Global, case: &Case) -> Result<String, Fault> {
     Ok(line(alloc, case, &objects, status, has_tree)?)
 }
 
-/// Runs the top call over the objects and the plugs, which are handed in as a caller does whose keyrings differ in type. Answers the status, and whether a
-/// tree was given back.
+/// Runs the top call over the objects and the plugs, which are handed in as a caller does whose
+/// keyrings differ in type. Answers the status, and whether a tree was given back.
 fn run_over(alloc: Global, case: &Case, objects: &mut Objects) -> Result<(u8, bool), Fault> {
     let mut plugs = Vec::new(alloc);
     for plan in &case.plugs {

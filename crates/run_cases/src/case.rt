@@ -9,7 +9,8 @@ use std::alloc::Global;
 /// The name of the file that holds a plug's key.
 pub const KEY_FILE: &str = "esdk.key";
 
-/// An object, by what was said of it: the bytes that it gives, how many it gives at once or takes in all, and which of its calls fail.
+/// An object, by what was said of it: the bytes that it gives, how many it gives at once or takes
+/// in all, and which of its calls fail.
 #[derive(Drop)]
 pub struct Plan {
     pub bytes: Vec<u8>,
@@ -17,7 +18,8 @@ pub struct Plan {
     pub failing: Vec<u64>,
 }
 
-/// A keyring that is handed in: its name, those of its key, and its shelf's files and failing calls.
+/// A keyring that is handed in: its name, those of its key, and its shelf's files and failing
+/// calls.
 #[derive(Drop)]
 pub struct PlugPlan {
     pub name: String,

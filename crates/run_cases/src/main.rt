@@ -1,7 +1,8 @@
 //! Runs the top call of `esdk` over cases, and prints one line for each.
 //!
-//! The cases come by lines from standard input: `cases/README.md` says how a case is written and what is printed. A line that can't be
-//! read ends the program with status 1, and the line `line N: WHY` as its last.
+//! The cases come by lines from standard input: `cases/README.md` says how a case is written and
+//! what is printed. A line that can't be read ends the program with status 1, and the line `line N:
+//! WHY` as its last.
 #![tactic(auto)]
 
 mod answer;

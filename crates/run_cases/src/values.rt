@@ -8,7 +8,8 @@ use std::alloc::Global;
 /// How many prefixes a value may have.
 const MOST_PREFIXES: u8 = 8;
 
-/// Takes in a name and its value. Where the line goes on from one that gave the same name, the bytes go behind those of that.
+/// Takes in a name and its value. Where the line goes on from one that gave the same name, the
+/// bytes go behind those of that.
 pub fn name_value(
     alloc: Global,
     values: &mut Vec<Named>,

@@ -13,8 +13,9 @@ use header_codec::Header;
 use keyring_trait::{DecMaterials, DecRequest, Manager, ManagerError};
 use std::alloc::{AllocError, Global};
 
-/// The manager's materials for a header, at the moment `now`, when the caller gives these pairs. `Fault` with the one that the manager names, `KeyringFault` where it
-/// failed, `Memory` where memory runs out; never another error.
+/// The manager's materials for a header, at the moment `now`, when the caller gives these pairs.
+/// `Fault` with the one that the manager names, `KeyringFault` where it failed, `Memory` where
+/// memory runs out; never another error.
 pub(crate) fn materials_for<M: Manager>(
     alloc: Global,
     manager: &mut M,
@@ -23,15 +24,21 @@ pub(crate) fn materials_for<M: Manager>(
     header: &Header,
 ) -> Result<DecMaterials, OpenError>
     requires { ManagerGoes (M.meaning manager.old) (M.meaning manager.old) }
-    ensures found { IfOk result (Answered (asking_of (M.meaning manager.old) (M.meaning manager.new) (M.tells manager.old) (M.exact manager.old) (M.found manager.new) (M.bears manager.old) (M.bears manager.new) now)
+    ensures found { IfOk result (Answered (asking_of (M.meaning manager.old) (M.meaning manager.new)
+        (M.tells manager.old) (M.exact manager.old) (M.found manager.new) (M.bears manager.old)
+        (M.bears manager.new) now)
         (request_of given.now header.now)) }
-    ensures cause { IfErr result (Unanswered (asking_of (M.meaning manager.old) (M.meaning manager.new) (M.tells manager.old) (M.exact manager.old) (M.found manager.new) (M.bears manager.old) (M.bears manager.new) now)
+    ensures cause { IfErr result (Unanswered (asking_of (M.meaning manager.old)
+        (M.meaning manager.new) (M.tells manager.old) (M.exact manager.old) (M.found manager.new)
+        (M.bears manager.old) (M.bears manager.new) now)
         (request_of given.now header.now)) }
     ensures goes { ManagerGoes (M.meaning manager.old) (M.meaning manager.new) }
     ensures tells { TellsOn (M.tells manager.old) (M.tells manager.new) }
-    ensures same { (M.meaning manager.old).plain ≡ true → TellsOn (M.tells manager.new) (M.tells manager.old) }
+    ensures same { (M.meaning manager.old).plain ≡ true
+        → TellsOn (M.tells manager.new) (M.tells manager.old) }
     ensures exact { M.exact manager.old → M.exact manager.new }
-    ensures limits { (lines : List JournalLine) → M.within manager.new lines → M.within manager.old lines }
+    ensures limits { (lines : List JournalLine) → M.within manager.new lines
+        → M.within manager.old lines }
 {
     let request = request_for(alloc, given, header)?;
     match manager.for_decryption(alloc, &request, now) {

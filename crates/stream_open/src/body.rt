@@ -36,7 +36,8 @@ pub(crate) struct Body {
     pub(crate) unit: UnitBuffer,
 }
 
-/// How many bytes are reserved for one unit: a frame and 40 bytes. A single block's buffer grows with the bytes that come.
+/// How many bytes are reserved for one unit: a frame and 40 bytes. A single block's buffer grows
+/// with the bytes that come.
 fn reserved_for(content: Content) -> usize
     ensures { framed content ≡ true → HoldsFrames content result }
 {
@@ -47,7 +48,8 @@ fn reserved_for(content: Content) -> usize
 }
 
 impl Body {
-    /// The body behind this header, under the message's key; no byte of it came yet. Fails only where memory runs out.
+    /// The body behind this header, under the message's key; no byte of it came yet. Fails only
+    /// where memory runs out.
     pub(crate) fn new(
         alloc: Global,
         header: &Header,
@@ -58,8 +60,10 @@ impl Body {
         ensures id { IfOk result (λ body. body.message_id ≡ header.now.message_id) }
         ensures content { IfOk result (λ body. body.content ≡ header.now.content) }
         ensures max_unit { IfOk result (λ body. body.max_unit ≡ max_unit) }
-        ensures begun { IfOk result (λ body. (body.number ≡ 1) × (body.ended ≡ false) × (body.unit.held ≡ []) × (body.unit.out ≡ [])) }
-        ensures reserved { IfOk result (λ body. framed body.content ≡ true → HoldsFrames body.content body.unit.reserved) }
+        ensures begun { IfOk result (λ body. (body.number ≡ 1) × (body.ended ≡ false)
+            × (body.unit.held ≡ []) × (body.unit.out ≡ [])) }
+        ensures reserved { IfOk result (λ body. framed body.content ≡ true
+            → HoldsFrames body.content body.unit.reserved) }
     {
         let unit = UnitBuffer::new(alloc, reserved_for(header.content()))?;
         Ok(Body {
@@ -73,14 +77,17 @@ impl Body {
         })
     }
 
-    /// Takes bytes up to the end of the open unit, or of the piece, and answers how many. At the unit's end its content is given; else nothing is.
+    /// Takes bytes up to the end of the open unit, or of the piece, and answers how many. At the
+    /// unit's end its content is given; else nothing is.
     ///
-    /// `Fault` with M18, M19, M21 or M9 at the last byte of the field that has it, with M20 at the last byte of a unit whose tag is wrong, and with M22 where a byte comes
-    /// behind the last unit. `Memory` only where a single block grows; never another error.
+    /// `Fault` with M18, M19, M21 or M9 at the last byte of the field that has it, with M20 at the
+    /// last byte of a unit whose tag is wrong, and with M22 where a byte comes behind the last
+    /// unit. `Memory` only where a single block grows; never another error.
     pub(crate) fn step(&mut self, piece: &[u8]) -> Result<usize, OpenError>
         ensures answer { IsInUnit self.old → AnswersBody self.old piece.now result }
         ensures same { SameBody self.old self.new }
-        ensures steps { IsInUnit self.old → IfOk result (λ n. StepsBody self.old piece.now n self.new) }
+        ensures steps { IsInUnit self.old → IfOk result
+            (λ n. StepsBody self.old piece.now n self.new) }
         ensures kept { OnErr result (self.new.ended ≡ self.old.ended) }
         ensures nothing { OnErr result (self.new.unit.out ≡ []) }
         ensures within { IfOk result (λ n. n ≤ length piece.now) }
@@ -102,7 +109,8 @@ impl Body {
         requires out { self.old.unit.out ≡ [] }
         ensures answer { IsInUnit self.old → AnswersBody self.old piece.now result }
         ensures same { SameBody self.old self.new }
-        ensures steps { IsInUnit self.old → IfOk result (λ n. StepsBody self.old piece.now n self.new) }
+        ensures steps { IsInUnit self.old → IfOk result
+            (λ n. StepsBody self.old piece.now n self.new) }
         ensures kept { OnErr result (self.new.ended ≡ self.old.ended) }
         ensures nothing { OnErr result (self.new.unit.out ≡ []) }
         ensures within { IfOk result (λ n. n ≤ length piece.now) }
@@ -131,15 +139,18 @@ impl Body {
         }
     }
 
-    /// Opens the unit behind this head, which is whole, and goes on to the next number, or ends. `Fault` with M20 where its tag is wrong.
+    /// Opens the unit behind this head, which is whole, and goes on to the next number, or ends.
+    /// `Fault` with M20 where its tag is wrong.
     fn open(&mut self, head: &UnitHead) -> Result<(), OpenError>
         requires whole { length self.old.unit.held ≡ head.now.size + head.now.length + 16 }
         requires short { head.now.length ≤ longest_block }
         requires numbered { IfRegular head.now.kind (head.now.number < final_mark) }
         requires going { self.old.ended ≡ false }
-        ensures opens { IfOk result (λ _. opened_of self.old.key self.old.message_id head.now self.old.unit.held ≡ Some self.new.unit.out) }
+        ensures opens { IfOk result (λ _. opened_of self.old.key self.old.message_id head.now
+            self.old.unit.held ≡ Some self.new.unit.out) }
         ensures on { IfOk result (λ _. GoesOn head.now self.new) }
-        ensures fault { IfErr result (λ e. (e ≡ errors.Fault (UnitTag head.now.number)) × (opened_of self.old.key self.old.message_id head.now self.old.unit.held ≡ None)) }
+        ensures fault { IfErr result (λ e. (e ≡ errors.Fault (UnitTag head.now.number))
+            × (opened_of self.old.key self.old.message_id head.now self.old.unit.held ≡ None)) }
         ensures nothing { OnErr result (self.new.unit.out ≡ []) }
         ensures kept { OnErr result (self.new.ended ≡ self.old.ended) }
         ensures same { SameBody self.old self.new }

@@ -17,9 +17,10 @@ use header_codec::{Header, HeaderReader, Settings};
 use keyring_trait::{Manager, Served};
 use std::alloc::Global;
 
-/// Opens a message piece by piece: the header, which a materials manager unlocks, and one frame after another, or the single block. Each content is handed out by the step
-/// that takes the last byte of its unit, after its tag was checked. Once the header of a framed message is unlocked, no step takes memory.
-/// AWS Encryption SDK Specification, "Decrypt".
+/// Opens a message piece by piece: the header, which a materials manager unlocks, and one frame
+/// after another, or the single block. Each content is handed out by the step that takes the last
+/// byte of its unit, after its tag was checked. Once the header of a framed message is unlocked, no
+/// step takes memory. AWS Encryption SDK Specification, "Decrypt".
 #[derive(Drop)]
 pub struct Opener {
     settings: Settings,
@@ -31,7 +32,8 @@ pub struct Opener {
 }
 
 impl Opener {
-    /// An opener that has taken nothing. It keeps these limits, and the manager is told these pairs beside those that the header stores.
+    /// An opener that has taken nothing. It keeps these limits, and the manager is told these pairs
+    /// beside those that the header stores.
     pub fn new(alloc: Global, settings: Settings, given: Context) -> Opener
         ensures { Stands result (opened settings given) }
     {
@@ -45,7 +47,8 @@ impl Opener {
         }
     }
 
-    /// The content that the last step released. It is empty where that step released none, before the first step, after `finish` and after an error.
+    /// The content that the last step released. It is empty where that step released none, before
+    /// the first step, after `finish` and after an error.
     pub fn out(&self) -> &[u8]
         ensures { (v : OpeningValue) → Stands self.now v → result.now ≡ v.out }
     {
@@ -55,13 +58,18 @@ impl Opener {
         }
     }
 
-    /// Takes bytes up to the end of the piece, of the header's tag or of a unit, whichever is first, and answers how many; at least one where the piece isn't empty. At the
-    /// end of the header's tag the manager is asked for the data key, at the moment `now`, in seconds; else it stays. At the end of a unit `out` is its content.
+    /// Takes bytes up to the end of the piece, of the header's tag or of a unit, whichever is
+    /// first, and answers how many; at least one where the piece isn't empty. At the end of the
+    /// header's tag the manager is asked for the data key, at the moment `now`, in seconds; else it
+    /// stays. At the end of a unit `out` is its content.
     ///
-    /// - `Fault`: the bytes taken, followed by the piece, have this fault, and no unit is released before it. M1 to M9 and M23 to M26 in the header, M11 to M15 where the
-    ///   manager doesn't unlock it, M16 or M17 where its key or the header's tag isn't right, M9 and M18 to M22 in the body.
+    /// - `Fault`: the bytes taken, followed by the piece, have this fault, and no unit is released
+    ///   before it. M1 to M9 and M23 to M26 in the header, M11 to M15 where the manager doesn't
+    ///   unlock it, M16 or M17 where its key or the header's tag isn't right, M9 and M18 to M22 in
+    ///   the body.
     /// - `KeyringFault`: a keyring failed when the manager was asked.
-    /// - `Memory`: memory ran out, and no content was given yet: in the header, or in a single block that isn't whole.
+    /// - `Memory`: memory ran out, and no content was given yet: in the header, or in a single
+    ///   block that isn't whole.
     /// - `Stopped`: exactly where an earlier call answered an error.
     ///
     /// Any error leaves `out` empty and stops the opener.
@@ -73,17 +81,24 @@ impl Opener {
         piece: &[u8],
     ) -> Result<usize, OpenError>
         ensures steps { (v : OpeningValue) → Stands self.old v → Steps
-            (asking_of (M.meaning manager.old) (M.meaning manager.new) (M.tells manager.old) (M.exact manager.old) (M.found manager.new) (M.bears manager.old) (M.bears manager.new) now)
+            (asking_of (M.meaning manager.old) (M.meaning manager.new) (M.tells manager.old)
+            (M.exact manager.old) (M.found manager.new) (M.bears manager.old)
+            (M.bears manager.new) now)
             v piece.now result self.new }
-        ensures within { (v : OpeningValue) → Stands self.old v → IfOk result (λ used. used ≤ length piece.now) }
+        ensures within { (v : OpeningValue) → Stands self.old v
+            → IfOk result (λ used. used ≤ length piece.now) }
         ensures goes { ManagerGoes (M.meaning manager.old) (M.meaning manager.new) }
         ensures tells { TellsOn (M.tells manager.old) (M.tells manager.new) }
-        ensures same { (M.meaning manager.old).plain ≡ true → TellsOn (M.tells manager.new) (M.tells manager.old) }
+        ensures same { (M.meaning manager.old).plain ≡ true
+            → TellsOn (M.tells manager.new) (M.tells manager.old) }
         ensures exact { M.exact manager.old → M.exact manager.new }
-        ensures limits { (lines : List JournalLine) → M.within manager.new lines → M.within manager.old lines }
-        ensures unasked { (v : OpeningValue) → Stands self.old v → asked_of v piece.now ≡ None → manager.new ≡ manager.old }
+        ensures limits { (lines : List JournalLine) → M.within manager.new lines
+            → M.within manager.old lines }
+        ensures unasked { (v : OpeningValue) → Stands self.old v → asked_of v piece.now ≡ None
+            → manager.new ≡ manager.old }
     {
-        // Where the manager isn't asked, it stays as it is: `wraps` says so of a steady one's count.
+        // Where the manager isn't asked, it stays as it is: `wraps` says so of a steady one's
+        // count.
         let _wraps = manager.wraps();
         if self.stopped {
             self.give_nothing();
@@ -123,15 +138,21 @@ impl Opener {
         requires going { self.old.stopped ≡ false }
         requires locked { self.old.unlocked ≡ None }
         ensures steps { (v : OpeningValue) → Stands self.old v → Steps
-            (asking_of (M.meaning manager.old) (M.meaning manager.new) (M.tells manager.old) (M.exact manager.old) (M.found manager.new) (M.bears manager.old) (M.bears manager.new) now)
+            (asking_of (M.meaning manager.old) (M.meaning manager.new) (M.tells manager.old)
+            (M.exact manager.old) (M.found manager.new) (M.bears manager.old)
+            (M.bears manager.new) now)
             v piece.now result self.new }
-        ensures within { (v : OpeningValue) → Stands self.old v → IfOk result (λ used. used ≤ length piece.now) }
+        ensures within { (v : OpeningValue) → Stands self.old v
+            → IfOk result (λ used. used ≤ length piece.now) }
         ensures goes { ManagerGoes (M.meaning manager.old) (M.meaning manager.new) }
         ensures tells { TellsOn (M.tells manager.old) (M.tells manager.new) }
-        ensures same { (M.meaning manager.old).plain ≡ true → TellsOn (M.tells manager.new) (M.tells manager.old) }
+        ensures same { (M.meaning manager.old).plain ≡ true
+            → TellsOn (M.tells manager.new) (M.tells manager.old) }
         ensures exact { M.exact manager.old → M.exact manager.new }
-        ensures limits { (lines : List JournalLine) → M.within manager.new lines → M.within manager.old lines }
-        ensures unasked { (v : OpeningValue) → Stands self.old v → asked_of v piece.now ≡ None → manager.new ≡ manager.old }
+        ensures limits { (lines : List JournalLine) → M.within manager.new lines
+            → M.within manager.old lines }
+        ensures unasked { (v : OpeningValue) → Stands self.old v → asked_of v piece.now ≡ None
+            → manager.new ≡ manager.old }
     {
         self.stopped = true;
         let step = match self.reader.step(alloc, piece) {
@@ -149,8 +170,9 @@ impl Opener {
         Ok(step.used)
     }
 
-    /// Says that no byte follows. Ok exactly where the message is whole; M10 `Truncated` exactly where more bytes are wanted, and then the opener is stopped; `Stopped`
-    /// exactly where an earlier call answered an error. In all cases `out` is empty.
+    /// Says that no byte follows. Ok exactly where the message is whole; M10 `Truncated` exactly
+    /// where more bytes are wanted, and then the opener is stopped; `Stopped` exactly where an
+    /// earlier call answered an error. In all cases `out` is empty.
     pub fn finish(&mut self) -> Result<(), OpenError>
         ensures answer { (v : OpeningValue) → Stands self.old v → result ≡ finish_answer v }
         ensures stands { (v : OpeningValue) → Stands self.old v → Stands self.new (finished v) }
@@ -166,7 +188,8 @@ impl Opener {
         Ok(())
     }
 
-    /// The whole context, once the header was unlocked: the pairs that it stores, and those that are only authenticated.
+    /// The whole context, once the header was unlocked: the pairs that it stores, and those that
+    /// are only authenticated.
     pub fn context(&self) -> Option<&Context>
         ensures { (v : OpeningValue) → Stands self.now v → option_copied result ≡ whole_context v }
     {
@@ -189,7 +212,8 @@ impl Opener {
 
     /// The pairs of the context that are only authenticated, once the header was unlocked.
     pub fn only(&self) -> Option<&Context>
-        ensures { (v : OpeningValue) → Stands self.now v → option_copied result ≡ only_authenticated v }
+        ensures { (v : OpeningValue) → Stands self.now v
+            → option_copied result ≡ only_authenticated v }
     {
         match &self.unlocked {
             None => None,
@@ -197,7 +221,8 @@ impl Opener {
         }
     }
 
-    /// How the manager's materials were served, once it answered them; also where the header wasn't unlocked with them.
+    /// How the manager's materials were served, once it answered them; also where the header wasn't
+    /// unlocked with them.
     pub fn served(&self) -> Option<Served>
         ensures { (v : OpeningValue) → Stands self.now v → result ≡ v.served }
     {

@@ -19,8 +19,9 @@ pub(crate) struct Span {
     pub(crate) end: usize,
 }
 
-/// A unit that is filled and opened where it lies, and whose content is handed out as a slice. A contract sees a `UnitValue`: how many bytes are reserved, the bytes that
-/// came of the open unit, and the content of the unit that was opened last.
+/// A unit that is filled and opened where it lies, and whose content is handed out as a slice. A
+/// contract sees a `UnitValue`: how many bytes are reserved, the bytes that came of the open unit,
+/// and the content of the unit that was opened last.
 #[derive(Drop)]
 pub(crate) struct UnitBuffer {
     bytes: Vec<u8>,
@@ -34,7 +35,12 @@ impl Model for UnitBuffer {
 
     ghost Value = { UnitValue };
 
-    ghost view = { λ u. record { reserved = u.reserved; held = held_in u.opened u.bytes.items; out = out_in u.opened u.bytes.items } };
+    ghost view = { λ u. record {
+      reserved = u.reserved;
+      held = held_in u.opened u.bytes.items;
+      out =
+          out_in u.opened u.bytes.items;
+    } };
 
     ghost invariant = { λ u. FitsUnit u.opened u.reserved u.bytes.items (vec_capacity u.bytes) };
 }
@@ -81,11 +87,14 @@ impl UnitBuffer {
         }
     }
 
-    /// Takes bytes of the piece into the open unit, up to `end` bytes of the unit or to the end of the piece, and answers how many. Fails only where memory runs out, and
-    /// only where more than the reserved bytes are held then; nothing is taken then.
+    /// Takes bytes of the piece into the open unit, up to `end` bytes of the unit or to the end of
+    /// the piece, and answers how many. Fails only where memory runs out, and only where more than
+    /// the reserved bytes are held then; nothing is taken then.
     pub(crate) fn fill(&mut self, end: usize, piece: &[u8]) -> Result<usize, AllocError>
-        ensures count { IfOk result (λ count. count ≡ min (end - length self.old.held) (length piece.now)) }
-        ensures taken { IfOk result (λ count. self.new ≡ record self.old { held = self.old.held ++ take count piece.now; out = [] }) }
+        ensures count { IfOk result (λ count. count ≡ min (end - length self.old.held)
+            (length piece.now)) }
+        ensures taken { IfOk result (λ count. self.new ≡ record self.old
+            { held = self.old.held ++ take count piece.now; out = [] }) }
         ensures more { IfOk result (λ count. length self.new.held ≡ length self.old.held + count) }
         ensures most { IfOk result (λ count. count ≤ length piece.now) }
         ensures short { OnErr result (self.old.reserved < end) }
@@ -100,13 +109,15 @@ impl UnitBuffer {
         Ok(count)
     }
 
-    /// Opens the unit, which is whole, where it lies: whether its tag is right. If it is, its content is given; if it isn't, nothing is.
+    /// Opens the unit, which is whole, where it lies: whether its tag is right. If it is, its
+    /// content is given; if it isn't, nothing is.
     #[tactic(auto, unfolding(frame_codec::specs::Unit::opened_unit))]
     pub(crate) fn open(&mut self, key: &mut GcmKey, message_id: &[u8], head: &UnitHead) -> bool
         requires id { length message_id.now ≤ 32 }
         requires whole { length self.old.held ≡ head.now.size + head.now.length + 16 }
         requires short { head.now.length ≤ longest_block }
-        ensures answer { opened_of key.old message_id.now head.now self.old.held ≡ (if result then Some self.new.out else None) }
+        ensures answer { opened_of key.old message_id.now head.now self.old.held
+            ≡ (if result then Some self.new.out else None) }
         ensures given { result ≡ true → self.new.held ≡ [] }
         ensures kept { result ≡ false → self.new.out ≡ [] }
         ensures reserved { self.new.reserved ≡ self.old.reserved }

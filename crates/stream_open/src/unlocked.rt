@@ -23,18 +23,20 @@ pub(crate) struct Unlocked {
 }
 
 impl Unlocked {
-    /// A step behind the header: takes bytes up to the end of the piece or of a unit, whichever is first, and answers how many, or the body's fault; `Memory` only where
-    /// a single block grows.
+    /// A step behind the header: takes bytes up to the end of the piece or of a unit, whichever is
+    /// first, and answers how many, or the body's fault; `Memory` only where a single block grows.
     pub(crate) fn step(&mut self, piece: &[u8]) -> Result<usize, OpenError>
-        ensures steps { (v : OpeningValue) → IsUnlocked self.old v → v.stopped ≡ false → StepsUnlocked v piece.now result self.new }
+        ensures steps { (v : OpeningValue) → IsUnlocked self.old v → v.stopped ≡ false
+            → StepsUnlocked v piece.now result self.new }
         ensures within { IfOk result (λ used. used ≤ length piece.now) }
     {
         self.body.step(piece)
     }
 }
 
-/// Unlocks a header with the manager's materials. `Fault` with M16 where the header doesn't commit to their data key, else with M17 where its tag isn't that of its body
-/// and of the pairs that it doesn't store; `Memory` where memory runs out; never another error.
+/// Unlocks a header with the manager's materials. `Fault` with M16 where the header doesn't commit
+/// to their data key, else with M17 where its tag isn't that of its body and of the pairs that it
+/// doesn't store; `Memory` where memory runs out; never another error.
 pub(crate) fn unlocked_by(
     alloc: Global,
     header: &Header,

@@ -29,8 +29,9 @@ pub(crate) enum Stage {
     Final,
 }
 
-/// A frame that is filled and sealed where it lies, and handed out as a slice. Its memory is reserved at the start: one frame and 40 bytes.
-/// A contract sees a `FrameValue`: the frame length, the content that came so far, and the frame that was sealed last.
+/// A frame that is filled and sealed where it lies, and handed out as a slice. Its memory is
+/// reserved at the start: one frame and 40 bytes. A contract sees a `FrameValue`: the frame length,
+/// the content that came so far, and the frame that was sealed last.
 #[derive(Drop)]
 pub(crate) struct FrameBuffer {
     size: u32,
@@ -44,13 +45,19 @@ impl Model for FrameBuffer {
 
     ghost Value = { FrameValue };
 
-    ghost view = { λ f. record { size = f.size; text = text_in f.stage f.bytes.items; out = out_in f.stage f.bytes.items } };
+    ghost view = { λ f. record {
+      size = f.size;
+      text = text_in f.stage f.bytes.items;
+      out = out_in
+          f.stage f.bytes.items;
+    } };
 
     ghost invariant = { λ f. FitsFrame f.stage f.size f.bytes.items (vec_capacity f.bytes) };
 }
 
 impl FrameBuffer {
-    /// A buffer for frames of so many bytes, at least one; none came yet. Fails only where memory runs out.
+    /// A buffer for frames of so many bytes, at least one; none came yet. Fails only where memory
+    /// runs out.
     pub(crate) fn new(alloc: Global, size: u32) -> Result<FrameBuffer, AllocError>
         requires some { 1 ≤ size }
         ensures { IfOk result (λ f. f ≡ record { size = size; text = []; out = [] }) }
@@ -107,13 +114,15 @@ impl FrameBuffer {
         append(&mut self.bytes, bytes);
     }
 
-    /// Seals the open frame as the regular frame that has this number, under a derived key and a message id. Takes no memory.
+    /// Seals the open frame as the regular frame that has this number, under a derived key and a
+    /// message id. Takes no memory.
     #[tactic(auto, unfolding(frame_codec::specs::Written::regular_frame))]
     pub(crate) fn seal_regular(&mut self, key: &mut GcmKey, message_id: &[u8; 32], number: u32)
         requires open { self.old.out ≡ [] }
         ensures sealed { (frame : ℕ) → self.new ≡ record self.old {
           text = [];
-          out = regular_frame (record { key = key.old; id = message_id.now; frame = frame }) number self.old.text;
+          out = regular_frame (record { key = key.old; id = message_id.now; frame = frame }) number
+              self.old.text;
         } }
         ensures same { key.new ≡ key.old }
     {
@@ -129,13 +138,15 @@ impl FrameBuffer {
         self.stage = Stage::Regular;
     }
 
-    /// Seals the open frame as the final frame that has this number, under a derived key and a message id. Takes no memory.
+    /// Seals the open frame as the final frame that has this number, under a derived key and a
+    /// message id. Takes no memory.
     #[tactic(auto, unfolding(frame_codec::specs::Written::final_frame))]
     pub(crate) fn seal_final(&mut self, key: &mut GcmKey, message_id: &[u8; 32], number: u32)
         requires open { self.old.out ≡ [] }
         ensures sealed { (frame : ℕ) → self.new ≡ record self.old {
           text = [];
-          out = final_frame (record { key = key.old; id = message_id.now; frame = frame }) number self.old.text;
+          out = final_frame (record { key = key.old; id = message_id.now; frame = frame }) number
+              self.old.text;
         } }
         ensures same { key.new ≡ key.old }
     {
@@ -161,7 +172,8 @@ fn iv_of(number: u32) -> [u8; 12]
     [0, 0, 0, 0, 0, 0, 0, 0, n[0], n[1], n[2], n[3]]
 }
 
-/// Seals the text behind the first 24 bytes where it lies, and writes the head before it and the tag behind it, for which memory is reserved.
+/// Seals the text behind the first 24 bytes where it lies, and writes the head before it and the
+/// tag behind it, for which memory is reserved.
 fn seal_behind(
     key: &mut GcmKey,
     message_id: &[u8; 32],
@@ -175,7 +187,8 @@ fn seal_behind(
     requires short { length bytes.old.items < 2 ^ 32 + 24 }
     requires room { length bytes.old.items + 16 ≤ vec_capacity bytes.old }
     ensures sealed { drop (24 - length head.now) bytes.new.items
-        ≡ head.now ++ sealed_unit key.old message_id.now kind number (iv_of number) (drop 24 bytes.old.items) }
+        ≡ head.now ++ sealed_unit key.old message_id.now kind number (iv_of number)
+        (drop 24 bytes.old.items) }
     ensures len { length bytes.new.items ≡ length bytes.old.items + 16 }
     ensures capacity { vec_capacity bytes.old ≤ vec_capacity bytes.new }
     ensures same { key.new ≡ key.old }
@@ -196,7 +209,8 @@ fn seal_text(
 ) -> [u8; 16]
     requires text { 24 ≤ length bytes.old.items }
     requires short { length bytes.old.items < 2 ^ 32 + 24 }
-    ensures sealed { drop 24 bytes.new.items ++ result ≡ sealed_unit key.old message_id.now kind number (iv_of number) (drop 24 bytes.old.items) }
+    ensures sealed { drop 24 bytes.new.items ++ result ≡ sealed_unit key.old message_id.now kind
+        number (iv_of number) (drop 24 bytes.old.items) }
     ensures len { length bytes.new.items ≡ length bytes.old.items }
     ensures capacity { vec_capacity bytes.old ≤ vec_capacity bytes.new }
     ensures same { key.new ≡ key.old }

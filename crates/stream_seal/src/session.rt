@@ -17,8 +17,9 @@ use message_format::message_key;
 use std::alloc::Global;
 use suite_table::Suite;
 
-/// Seals a message piece by piece: the header, the regular frames as the text comes, and the final frame. It holds one frame, and takes memory at the start alone.
-/// AWS Encryption SDK Specification, "Encrypt".
+/// Seals a message piece by piece: the header, the regular frames as the text comes, and the final
+/// frame. It holds one frame, and takes memory at the start alone. AWS Encryption SDK
+/// Specification, "Encrypt".
 #[derive(Drop)]
 pub struct Sealer {
     header: Blob,
@@ -31,11 +32,13 @@ pub struct Sealer {
 }
 
 impl Sealer {
-    /// Begins a message with these materials, in frames of `frame_length` bytes, under this message id, which must be used for no other message of the data key. Where a
-    /// length of the text is declared, no more bytes than these are taken. One frame and 40 bytes are reserved.
+    /// Begins a message with these materials, in frames of `frame_length` bytes, under this message
+    /// id, which must be used for no other message of the data key. Where a length of the text is
+    /// declared, no more bytes than these are taken. One frame and 40 bytes are reserved.
     ///
-    /// `TooManyDataKeys` (Q7), where the materials have more entries than `max_keys`; else `HeaderTooLong` (Q8), where the header would be too long; `Memory`, where
-    /// memory runs out; never `Stopped`.
+    /// `TooManyDataKeys` (Q7), where the materials have more entries than `max_keys`; else
+    /// `HeaderTooLong` (Q8), where the header would be too long; `Memory`, where memory runs out;
+    /// never `Stopped`.
     pub fn begin(
         alloc: Global,
         materials: &EncMaterials,
@@ -45,9 +48,11 @@ impl Sealer {
         message_id: &[u8; 32],
     ) -> Result<Sealer, SealError>
         requires some { 1 ≤ frame_length }
-        ensures stands { IfOk result (λ sealer. Stands sealer (opened materials.now declared frame_length message_id.now)) }
+        ensures stands { IfOk result (λ sealer. Stands sealer
+            (opened materials.now declared frame_length message_id.now)) }
         ensures taken { OnOk result (start_refusal materials.now max_keys message_id.now ≡ None) }
-        ensures cause { IfErr result (BeginsNot (start_refusal materials.now max_keys message_id.now)) }
+        ensures cause { IfErr result (BeginsNot (start_refusal materials.now max_keys
+            message_id.now)) }
     {
         let mut key = message_key(Suite::Committing, materials.key(), message_id);
         let header = match message_start(
@@ -80,26 +85,33 @@ impl Sealer {
         self.header.bytes()
     }
 
-    /// What the last `step` or `finish` gave. It is empty before the first of these calls and after an error.
+    /// What the last `step` or `finish` gave. It is empty before the first of these calls and after
+    /// an error.
     pub fn out(&self) -> &[u8]
         ensures { (v : SealingValue) → Stands self.now v → result.now ≡ v.out }
     {
         self.frame.out()
     }
 
-    /// Takes bytes of the piece, or gives a frame, and answers how many bytes it used. Takes no memory, and never answers `Memory`.
+    /// Takes bytes of the piece, or gives a frame, and answers how many bytes it used. Takes no
+    /// memory, and never answers `Memory`.
     ///
-    /// An empty piece uses and gives nothing. Otherwise: where all declared bytes were taken, it answers `OverDeclared` (Q10) with their number; where a full frame is
-    /// held and has the number 4,294,967,295, it answers `TooManyFrames` (Q9); where another full frame is held, it gives it as a regular frame and uses nothing; else it
-    /// takes as many bytes as the frame, the declared length and the piece allow, at least one, and gives nothing. So a loop that steps with what the last step left of a
-    /// piece ends.
+    /// An empty piece uses and gives nothing. Otherwise: where all declared bytes were taken, it
+    /// answers `OverDeclared` (Q10) with their number; where a full frame is held and has the
+    /// number 4,294,967,295, it answers `TooManyFrames` (Q9); where another full frame is held, it
+    /// gives it as a regular frame and uses nothing; else it takes as many bytes as the frame, the
+    /// declared length and the piece allow, at least one, and gives nothing. So a loop that steps
+    /// with what the last step left of a piece ends.
     ///
-    /// After an error, and after `finish`, it answers `Stopped`, and only then. Any error leaves `out` empty.
+    /// After an error, and after `finish`, it answers `Stopped`, and only then. Any error leaves
+    /// `out` empty.
     pub fn step(&mut self, piece: &[u8]) -> Result<usize, SealError>
         ensures answer { (v : SealingValue) → Stands self.old v → result ≡ step_answer v piece.now }
-        ensures stands { (v : SealingValue) → Stands self.old v → Stands self.new (stepped v piece.now) }
+        ensures stands { (v : SealingValue) → Stands self.old v
+            → Stands self.new (stepped v piece.now) }
         ensures within { IfOk result (λ used. used ≤ length piece.now) }
-        ensures falls { IfOk result (λ used. 1 ≤ length piece.now → work_of self.new (length piece.now - used) < work_of self.old (length piece.now)) }
+        ensures falls { IfOk result (λ used. 1 ≤ length piece.now
+            → work_of self.new (length piece.now - used) < work_of self.old (length piece.now)) }
         ensures no_memory { IfErr result IsNotMemory }
     {
         self.frame.go_on();
@@ -134,9 +146,11 @@ impl Sealer {
         }
     }
 
-    /// Gives the final frame, with the bytes that are held. Takes no memory, and never answers `Memory`.
+    /// Gives the final frame, with the bytes that are held. Takes no memory, and never answers
+    /// `Memory`.
     ///
-    /// `Stopped` exactly where an earlier call answered an error or this one was made before; it leaves `out` empty.
+    /// `Stopped` exactly where an earlier call answered an error or this one was made before; it
+    /// leaves `out` empty.
     pub fn finish(&mut self) -> Result<(), SealError>
         ensures answer { (v : SealingValue) → Stands self.old v → result ≡ finish_answer v }
         ensures stands { (v : SealingValue) → Stands self.old v → Stands self.new (finished v) }

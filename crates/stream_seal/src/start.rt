@@ -20,8 +20,10 @@ use suite_table::commitment;
 /// The initialization vector of the header's tag under the suite of the messages that are written.
 const HEADER_IV: [u8; 12] = [0; 12];
 
-/// The header of a message with these materials, and its tag under the message's key. The header stores the pairs whose keys aren't required; the tag authenticates the others too.
-/// Q7 `TooManyDataKeys`, where there are more entries than the limit; Q8 `HeaderTooLong`, where the header would be too long.
+/// The header of a message with these materials, and its tag under the message's key. The header
+/// stores the pairs whose keys aren't required; the tag authenticates the others too. Q7
+/// `TooManyDataKeys`, where there are more entries than the limit; Q8 `HeaderTooLong`, where the
+/// header would be too long.
 #[tactic(auto, unfolding(crate::specs::Start::start_of, message_format::specs::Message::header_tag))]
 pub(crate) fn message_start(
     alloc: Global,
@@ -33,10 +35,12 @@ pub(crate) fn message_start(
 ) -> Result<Blob, PairError>
     requires some { 1 ≤ frame_length }
     requires key { key.old ≡ derived Committing materials.now.key message_id.now }
-    ensures start { IfOk result (λ start. start ≡ start_of materials.now frame_length message_id.now) }
+    ensures start { IfOk result (λ start. start ≡ start_of materials.now frame_length
+        message_id.now) }
     ensures taken { OnOk result (start_refusal materials.now max_keys message_id.now ≡ None) }
     ensures same { key.new ≡ key.old }
-    ensures cause { IfErr result (λ e. RefusesAs e (start_refusal materials.now max_keys message_id.now)) }
+    ensures cause { IfErr result (λ e. RefusesAs e
+        (start_refusal materials.now max_keys message_id.now)) }
 {
     let mut start = body_of_header(alloc, materials, frame_length, max_keys, message_id)?;
     let only = materials.context().only(alloc, materials.required())?;
@@ -55,10 +59,12 @@ fn body_of_header(
     message_id: &[u8; 32],
 ) -> Result<Blob, PairError>
     requires some { 1 ≤ frame_length }
-    ensures body { IfOk result (λ body. body ≡ header_body materials.now.context materials.now.required frame_length materials.now.key materials.now.entries message_id.now) }
+    ensures body { IfOk result (λ body. body ≡ header_body materials.now.context
+        materials.now.required frame_length materials.now.key materials.now.entries message_id.now) }
     ensures short { IfOk result (λ body. length body < 2 ^ 25) }
     ensures taken { OnOk result (start_refusal materials.now max_keys message_id.now ≡ None) }
-    ensures cause { IfErr result (λ e. RefusesAs e (start_refusal materials.now max_keys message_id.now)) }
+    ensures cause { IfErr result (λ e. RefusesAs e
+        (start_refusal materials.now max_keys message_id.now)) }
 {
     let stored = materials.context().without(alloc, materials.required())?;
     let commitment = commitment(materials.key().bytes(), message_id);

@@ -8,7 +8,8 @@ ghost use Rattle.suite_table.specs.declared.suite.Suite.TheVariants.{Committing}
 use crate::suite::Suite;
 use hkdf_core::{hkdf256, hkdf512};
 
-/// The key under which the header's tag and the body stand, of the data key and the message id, which is as long as the suite says.
+/// The key under which the header's tag and the body stand, of the data key and the message id,
+/// which is as long as the suite says.
 #[tactic(auto, unfolding(crate::specs::Keys::derived))]
 pub fn derived(suite: Suite, key: &[u8; 32], message_id: &[u8]) -> [u8; 32]
     requires { length message_id.now ≡ id_length suite }
@@ -37,7 +38,8 @@ fn uncommitted_info(message_id: &[u8]) -> [u8; 18]
     info
 }
 
-/// The commitment to the data key under suite 0x0478, of that key and the message id, which has 32 bytes.
+/// The commitment to the data key under suite 0x0478, of that key and the message id, which has 32
+/// bytes.
 #[tactic(auto, unfolding(crate::specs::Keys::commitment))]
 pub fn commitment(key: &[u8; 32], message_id: &[u8]) -> [u8; 32]
     requires { length message_id.now ≡ id_length Committing }

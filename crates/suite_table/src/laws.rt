@@ -1,4 +1,5 @@
-//! Laws about the suites and the keys that are derived. A law is a function that does nothing: its contract is what is proved.
+//! Laws about the suites and the keys that are derived. A law is a function that does nothing: its
+//! contract is what is proved.
 
 ghost use Rattle.suite_table.specs.declared.suite.Suite.{Suite};
 ghost use Rattle.suite_table.specs.Keys.{derived, commitment};

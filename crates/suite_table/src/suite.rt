@@ -6,9 +6,11 @@ ghost use Rattle.suite_table.specs.Suites.{suite_id, suite_with, format_version,
 /// A suite whose messages can be read.
 #[derive(Debug, Clone, Copy, PartialEq, Eq)]
 pub enum Suite {
-    /// 0x0478: AES-256-GCM, HKDF over SHA-512, key commitment, no signature. Its messages have format 2.0.
+    /// 0x0478: AES-256-GCM, HKDF over SHA-512, key commitment, no signature. Its messages have
+    /// format 2.0.
     Committing,
-    /// 0x0178: AES-256-GCM, HKDF over SHA-256, no key commitment, no signature. Its messages have format 1.0, and are not written.
+    /// 0x0178: AES-256-GCM, HKDF over SHA-256, no key commitment, no signature. Its messages have
+    /// format 1.0, and are not written.
     Uncommitted,
 }
 

@@ -52,8 +52,10 @@ impl From<AllocError> for FileError {
 /// Takes all bytes of the file that has this name on the shelf, at most 1,048,576. The shelf stays
 /// as it is.
 pub fn take_file<F: Shelf>(alloc: Global, shelf: &mut F, name: &str) -> Result<Blob, FileError>
-    ensures file { IfOk result (λ bytes. IsFile (F.state shelf.old) (F.state shelf.new) name.now bytes) }
-    ensures cause { IfErr result (λ error. FileCause (F.state shelf.old) (F.state shelf.new) name.now error) }
+    ensures file { IfOk result (λ bytes. IsFile (F.state shelf.old)
+        (F.state shelf.new) name.now bytes) }
+    ensures cause { IfErr result (λ error. FileCause (F.state shelf.old)
+        (F.state shelf.new) name.now error) }
     ensures stays { (F.state shelf.new).files ≡ (F.state shelf.old).files }
 {
     let mut buffer = buffer_of(alloc, PIECE)?;
@@ -72,7 +74,8 @@ fn fill<F: Shelf>(
     requires room { 0 < length buffer.old }
     requires empty { bytes.old ≡ [] }
     ensures file { OnOk result (IsFile (F.state shelf.old) (F.state shelf.new) name.now bytes.new) }
-    ensures cause { IfErr result (λ error. FileCause (F.state shelf.old) (F.state shelf.new) name.now error) }
+    ensures cause { IfErr result (λ error. FileCause (F.state shelf.old)
+        (F.state shelf.new) name.now error) }
     ensures stays { (F.state shelf.new).files ≡ (F.state shelf.old).files }
 {
     while bytes.bytes().len() <= MOST_FILE {

@@ -24,8 +24,8 @@ pub enum End {
     TooLong,
 }
 
-/// An input's bytes, taken piece by piece: at most 65,536 bytes at once, and at most 2^62 in all. A contract sees a `PiecesValue`: how many bytes were taken so far, and the
-/// last piece.
+/// An input's bytes, taken piece by piece: at most 65,536 bytes at once, and at most 2^62 in all. A
+/// contract sees a `PiecesValue`: how many bytes were taken so far, and the last piece.
 #[derive(Drop)]
 pub struct Pieces {
     buffer: Vec<u8>,
@@ -45,7 +45,8 @@ impl Model for Pieces {
 }
 
 impl Pieces {
-    /// No byte is taken yet. The buffer of 65,536 bytes is taken now, and no other call takes memory. Fails only where memory runs out.
+    /// No byte is taken yet. The buffer of 65,536 bytes is taken now, and no other call takes
+    /// memory. Fails only where memory runs out.
     pub fn new(alloc: Global) -> Result<Pieces, AllocError>
         ensures { IfOk result (λ pieces. pieces ≡ record { taken = 0; piece = [] }) }
     {
@@ -59,10 +60,12 @@ impl Pieces {
 
     /// Takes the next piece of the input, by one read.
     ///
-    /// `Seen`, where the end was seen; `Failed`, where the read failed; `TooLong`, where 2^62 bytes were taken before, and then nothing is read. After each of them the
-    /// piece is empty, and what is left of the input is as before.
+    /// `Seen`, where the end was seen; `Failed`, where the read failed; `TooLong`, where 2^62 bytes
+    /// were taken before, and then nothing is read. After each of them the piece is empty, and what
+    /// is left of the input is as before.
     pub fn next<S: Source>(&mut self, input: &mut S) -> Result<(), End>
-        ensures next { NextPiece self.old.taken (S.state input.old) (S.state input.new) self.new result }
+        ensures next { NextPiece self.old.taken (S.state input.old)
+            (S.state input.new) self.new result }
         ensures empty { OnErr result (self.new.piece ≡ []) }
     {
         self.count = 0;
@@ -76,7 +79,8 @@ impl Pieces {
         Ok(())
     }
 
-    /// The piece that `next` took last. It is empty before the first call of `next`, and after one that took none.
+    /// The piece that `next` took last. It is empty before the first call of `next`, and after one
+    /// that took none.
     pub fn piece(&self) -> &[u8]
         ensures { result.now ≡ self.now.piece }
     {
@@ -84,7 +88,8 @@ impl Pieces {
     }
 }
 
-/// Reads at most so many bytes into the front of the buffer, and answers how many, at least one, or why there are none.
+/// Reads at most so many bytes into the front of the buffer, and answers how many, at least one, or
+/// why there are none.
 fn read_into<S: Source>(input: &mut S, room: usize, buffer: &mut [u8]) -> Result<usize, End>
     requires some { 1 ≤ room }
     requires room { room ≤ length buffer.old }
