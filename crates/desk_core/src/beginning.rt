@@ -18,7 +18,8 @@ use keyring_trait::{EncMaterials, JournalLine, Kind, Manager, ManagerError};
 use std::alloc::Global;
 use stream_seal::Sealer;
 
-/// The session of a message that is sealed with the manager's materials. The manager's answer is recorded; the room of its line is taken before it is asked.
+/// The session of a message that is sealed with the manager's materials. The manager's answer is
+/// recorded; the room of its line is taken before it is asked.
 pub(crate) fn begin_sealing<M: Manager>(
     alloc: Global,
     manager: &mut M,
@@ -30,14 +31,17 @@ pub(crate) fn begin_sealing<M: Manager>(
 ) -> Result<Session, DeskError>
     requires { length random.now ≡ 64 + 12 * (M.meaning manager.old).wraps }
     ensures begins { Begins
-        (giving_of (M.meaning manager.old) (M.meaning manager.new) (M.tells manager.old) (M.exact manager.old) (M.gave manager.new) request.now.wish now (rest_in random.now))
+        (giving_of (M.meaning manager.old) (M.meaning manager.new) (M.tells manager.old)
+        (M.exact manager.old) (M.gave manager.new) request.now.wish now (rest_in random.now))
         request.now id now random.now result journal.old.items journal.new.items }
     ensures goes { ManagerGoes (M.meaning manager.old) (M.meaning manager.new) }
     ensures tells { TellsOn (M.tells manager.old) (M.tells manager.new) }
-    ensures same { (M.meaning manager.old).plain ≡ true → TellsOn (M.tells manager.new) (M.tells manager.old) }
+    ensures same { (M.meaning manager.old).plain ≡ true
+        → TellsOn (M.tells manager.new) (M.tells manager.old) }
     ensures exact { M.exact manager.old → M.exact manager.new }
     ensures bears { M.bears manager.old journal.old.items → M.bears manager.new journal.new.items }
-    ensures limits { (lines : List JournalLine) → M.within manager.new lines → M.within manager.old lines }
+    ensures limits { (lines : List JournalLine) → M.within manager.new lines
+        → M.within manager.old lines }
 {
     // Where the manager isn't asked, it stays as it is: `wraps` says so of a steady one's count.
     let _wraps = manager.wraps();
@@ -60,14 +64,17 @@ fn begin_recorded<M: Manager>(
     requires drawn { length random.now ≡ 64 + 12 * (M.meaning manager.old).wraps }
     requires room { vec_len journal.old < vec_capacity journal.old }
     ensures begins { Begins
-        (giving_of (M.meaning manager.old) (M.meaning manager.new) (M.tells manager.old) (M.exact manager.old) (M.gave manager.new) request.now.wish now (rest_in random.now))
+        (giving_of (M.meaning manager.old) (M.meaning manager.new) (M.tells manager.old)
+        (M.exact manager.old) (M.gave manager.new) request.now.wish now (rest_in random.now))
         request.now id now random.now result journal.old.items journal.new.items }
     ensures goes { ManagerGoes (M.meaning manager.old) (M.meaning manager.new) }
     ensures tells { TellsOn (M.tells manager.old) (M.tells manager.new) }
-    ensures same { (M.meaning manager.old).plain ≡ true → TellsOn (M.tells manager.new) (M.tells manager.old) }
+    ensures same { (M.meaning manager.old).plain ≡ true
+        → TellsOn (M.tells manager.new) (M.tells manager.old) }
     ensures exact { M.exact manager.old → M.exact manager.new }
     ensures bears { M.bears manager.old journal.old.items → M.bears manager.new journal.new.items }
-    ensures limits { (lines : List JournalLine) → M.within manager.new lines → M.within manager.old lines }
+    ensures limits { (lines : List JournalLine) → M.within manager.new lines
+        → M.within manager.old lines }
 {
     let (message_id, rest) = random.split_at(32);
     match manager.for_encryption(alloc, request.wish(), now, rest) {
@@ -88,7 +95,8 @@ fn record(
     now: u64,
 )
     requires { vec_len journal.old < vec_capacity journal.old }
-    ensures { journal.new.items ≡ journal.old.items ++ lines_of id Seal now request.now.wish.declared (Some materials.now.served) }
+    ensures { journal.new.items ≡ journal.old.items ++ lines_of id Seal now
+        request.now.wish.declared (Some materials.now.served) }
 {
     let line = JournalLine {
         session: id,
@@ -110,9 +118,12 @@ fn begin(
     message_id: &[u8],
 ) -> Result<Session, DeskError>
     requires { length message_id.now ≡ 32 }
-    ensures stands { IfOk result (λ machine. StandsFor machine (begun_value materials.now request.now message_id.now)) }
-    ensures taken { OnOk result (start_refusal materials.now request.now.max_keys message_id.now ≡ None) }
-    ensures cause { IfErr result (NotBegun (start_refusal materials.now request.now.max_keys message_id.now)) }
+    ensures stands { IfOk result (λ machine. StandsFor machine
+        (begun_value materials.now request.now message_id.now)) }
+    ensures taken { OnOk result (start_refusal materials.now request.now.max_keys message_id.now
+        ≡ None) }
+    ensures cause { IfErr result (NotBegun (start_refusal materials.now request.now.max_keys
+        message_id.now)) }
 {
     let declared = request.wish().declared();
     let id = array_of(message_id);

@@ -13,7 +13,8 @@ use std::fmt;
 pub enum DeskError {
     /// No session of this number is live.
     NotLive,
-    /// The manager refuses the request (Q1, Q4 to Q6), or no message can be made of its materials (Q7, Q8) or of the text (Q9, Q10).
+    /// The manager refuses the request (Q1, Q4 to Q6), or no message can be made of its materials
+    /// (Q7, Q8) or of the text (Q9, Q10).
     Refusal(Refusal),
     /// The message that is opened has this fault.
     Fault(Fault),

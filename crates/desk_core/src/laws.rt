@@ -8,22 +8,28 @@ ghost use Rattle.desk_core.specs.Laws.{ActsAlone, FeedsMachines, FindsItsOwn, Ha
 
 use keyring_trait::Manager;
 
-/// No session sees another. A call answers and changes its own session from what that is worth alone, and leaves every other as it was. So whatever the calls and their order,
-/// what a session is handed is what it is handed by its own calls alone.
+/// No session sees another. A call answers and changes its own session from what that is worth
+/// alone, and leaves every other as it was. So whatever the calls and their order, what a session
+/// is handed is what it is handed by its own calls alone.
 pub fn sessions_stand_apart()
     ensures call { ActsAlone }
     ensures calls { HandsItsOwn }
 {}
 
-/// A session that is fed is fed as its sealer or opener is: it uses as many bytes, gives what that gives, and fails as that fails. So what these promise of a piece that is fed
-/// to its end, a session of a desk promises too.
+/// A session that is fed is fed as its sealer or opener is: it uses as many bytes, gives what that
+/// gives, and fails as that fails. So what these promise of a piece that is fed to its end, a
+/// session of a desk promises too.
 pub fn sessions_are_fed_as_their_machines()
     ensures { FeedsMachines }
 {}
 
-/// Over a manager that tells its keys and is steady, a message is unlocked with what its own header and given pairs say, whatever other sessions asked: the whole context,
-/// the pairs that are only authenticated, and the key that the told keys find.
+/// Over a manager that tells its keys and is steady, a message is unlocked with what its own header
+/// and given pairs say, whatever other sessions asked: the whole context, the pairs that are only
+/// authenticated, and the key that the told keys find.
 pub fn messages_are_unlocked_by_their_own<M: Manager>(before: &M, after: &M)
-    ensures { (keys : List WrapKeyValue) (now : ℕ) → M.tells before.now keys → (M.meaning before.now).steady ≡ true → ManagerGoes (M.meaning before.now) (M.meaning after.now)
-        → FindsItsOwn (asking_of (M.meaning before.now) (M.meaning after.now) (M.tells before.now) (M.exact before.now) (M.found after.now) (M.bears before.now) (M.bears after.now) now) keys }
+    ensures { (keys : List WrapKeyValue) (now : ℕ) → M.tells before.now keys
+        → (M.meaning before.now).steady ≡ true → ManagerGoes (M.meaning before.now)
+        (M.meaning after.now)
+        → FindsItsOwn (asking_of (M.meaning before.now) (M.meaning after.now) (M.tells before.now)
+        (M.exact before.now) (M.found after.now) (M.bears before.now) (M.bears after.now) now) keys }
 {}

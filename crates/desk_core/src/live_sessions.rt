@@ -24,11 +24,13 @@ use std::alloc::Global;
 use std::collections::BTreeMap;
 use stream_open::Opener;
 
-/// Sessions side by side, each of which seals or opens one message, over one materials manager. Each has a number, by which the calls name it; numbers are drawn from 1 on,
-/// and none is drawn twice. A session is live from its opening until it is ended, dropped or refused.
+/// Sessions side by side, each of which seals or opens one message, over one materials manager.
+/// Each has a number, by which the calls name it; numbers are drawn from 1 on, and none is drawn
+/// twice. A session is live from its opening until it is ended, dropped or refused.
 ///
-/// Every call answers and changes its own session alone. What the manager answered is recorded in a journal, one line for each answer. A session is found in a number of
-/// steps that grows with the logarithm of how many are live.
+/// Every call answers and changes its own session alone. What the manager answered is recorded in a
+/// journal, one line for each answer. A session is found in a number of steps that grows with the
+/// logarithm of how many are live.
 #[derive(Drop)]
 pub struct Desk<M> {
     manager: M,
@@ -75,24 +77,30 @@ impl<M: Manager> Desk<M> {
         self.last_id
     }
 
-    /// How many random bytes `open_seal` takes: 32 of message id, 32 of data key, and 12 of IV for each of the manager's wraps.
+    /// How many random bytes `open_seal` takes: 32 of message id, 32 of data key, and 12 of IV for
+    /// each of the manager's wraps.
     pub fn draws(&self) -> u64
         ensures draws { result ≡ 64 + 12 * (M.meaning (manager_of self.now)).wraps }
         ensures most { result ≤ 832 }
+        ensures goes { ManagerGoes (M.meaning (manager_of self.now))
+            (M.meaning (manager_of self.now)) }
     {
         64 + 12 * u64::from(self.manager.wraps())
     }
 
-    /// Opens a session that seals a message, and answers its number, which is the next. The manager is asked for materials, at the moment `now`, in seconds. The first 32 of
-    /// the random bytes are the message id, which must be used for no other message of the data key; the materials are made with the others.
+    /// Opens a session that seals a message, and answers its number, which is the next. The manager
+    /// is asked for materials, at the moment `now`, in seconds. The first 32 of the random bytes
+    /// are the message id, which must be used for no other message of the data key; the materials
+    /// are made with the others.
     ///
-    /// - `Refusal`: the manager refuses the request (Q4, Q1, Q5, Q6, in this order where it is exact), or it gives more entries than the limit allows (Q7), or the header
-    ///   would be too long (Q8).
+    /// - `Refusal`: the manager refuses the request (Q4, Q1, Q5, Q6, in this order where it is
+    ///   exact), or it gives more entries than the limit allows (Q7), or the header would be too
+    ///   long (Q8).
     /// - `KeyringFault`: a keyring failed.
     /// - `Memory`: memory ran out.
     ///
-    /// After an error the number was drawn all the same, no session has it, and every other session is as before. Where the manager answered with materials, its line is in
-    /// the journal.
+    /// After an error the number was drawn all the same, no session has it, and every other session
+    /// is as before. Where the manager answered with materials, its line is in the journal.
     pub fn open_seal(
         &mut self,
         alloc: Global,
@@ -103,16 +111,22 @@ impl<M: Manager> Desk<M> {
         requires drawn { length random.now ≡ 64 + 12 * (M.meaning (manager_of self.old)).wraps }
         requires room { last_of self.old < 2 ^ 64 - 1 }
         ensures opens { (v : DeskValue) → Stands self.old v → OpensSeal
-            (giving_of (M.meaning (manager_of self.old)) (M.meaning (manager_of self.new)) (M.tells (manager_of self.old)) (M.exact (manager_of self.old)) (M.gave (manager_of self.new)) request.now.wish now
+            (giving_of (M.meaning (manager_of self.old)) (M.meaning (manager_of self.new))
+            (M.tells (manager_of self.old)) (M.exact (manager_of self.old))
+            (M.gave (manager_of self.new)) request.now.wish now
             (rest_in random.now))
             v request.now now random.now result self.new }
         ensures last { last_of self.new ≡ last_of self.old + 1 }
-        ensures goes { ManagerGoes (M.meaning (manager_of self.old)) (M.meaning (manager_of self.new)) }
+        ensures goes { ManagerGoes (M.meaning (manager_of self.old))
+            (M.meaning (manager_of self.new)) }
         ensures tells { TellsOn (M.tells (manager_of self.old)) (M.tells (manager_of self.new)) }
-        ensures same { (M.meaning (manager_of self.old)).plain ≡ true → TellsOn (M.tells (manager_of self.new)) (M.tells (manager_of self.old)) }
+        ensures same { (M.meaning (manager_of self.old)).plain ≡ true
+            → TellsOn (M.tells (manager_of self.new)) (M.tells (manager_of self.old)) }
         ensures exact { M.exact (manager_of self.old) → M.exact (manager_of self.new) }
-        ensures bears { M.bears (manager_of self.old) (journal_of self.old) → M.bears (manager_of self.new) (journal_of self.new) }
-        ensures limits { (lines : List JournalLine) → M.within (manager_of self.new) lines → M.within (manager_of self.old) lines }
+        ensures bears { M.bears (manager_of self.old) (journal_of self.old)
+            → M.bears (manager_of self.new) (journal_of self.new) }
+        ensures limits { (lines : List JournalLine) → M.within (manager_of self.new) lines
+            → M.within (manager_of self.old) lines }
     {
         self.lent = Lent::Nothing;
         self.last_id += 1;
@@ -131,10 +145,11 @@ impl<M: Manager> Desk<M> {
         }
     }
 
-    /// Opens a session that opens a message, and answers its number, which is the next. It keeps these limits, and the manager is told these pairs beside those that the
-    /// header stores.
+    /// Opens a session that opens a message, and answers its number, which is the next. It keeps
+    /// these limits, and the manager is told these pairs beside those that the header stores.
     ///
-    /// `Memory`: memory ran out. The number was drawn all the same, no session has it, and every other session is as before.
+    /// `Memory`: memory ran out. The number was drawn all the same, no session has it, and every
+    /// other session is as before.
     pub fn open_open(
         &mut self,
         alloc: Global,
@@ -142,7 +157,8 @@ impl<M: Manager> Desk<M> {
         given: Context,
     ) -> Result<u64, DeskError>
         requires { last_of self.old < 2 ^ 64 - 1 }
-        ensures opens { (v : DeskValue) → Stands self.old v → OpensOpen v settings given result self.new }
+        ensures opens { (v : DeskValue) → Stands self.old v
+            → OpensOpen v settings given result self.new }
         ensures last { last_of self.new ≡ last_of self.old + 1 }
         ensures manager { manager_of self.new ≡ manager_of self.old }
         ensures journal { journal_of self.new ≡ journal_of self.old }
@@ -153,12 +169,15 @@ impl<M: Manager> Desk<M> {
         insert(&mut self.sessions, self.last_id, Session::Opening(opener))
     }
 
-    /// The header of a message that is sealed, and its tag, with which the message begins; nothing, of one that is opened.
+    /// The header of a message that is sealed, and its tag, with which the message begins; nothing,
+    /// of one that is opened.
     ///
     /// `NotLive`: no session of this number is live.
     pub fn header(&self, id: u64) -> Result<&[u8], DeskError>
-        ensures header { (v : DeskValue) → Stands self.now v → IfOk result (λ header. option_map header_of (v.live id) ≡ Some header.now) }
-        ensures not_live { (v : DeskValue) → Stands self.now v → IfErr result (λ error. (error ≡ NotLive) × (v.live id ≡ None)) }
+        ensures header { (v : DeskValue) → Stands self.now v
+            → IfOk result (λ header. option_map header_of (v.live id) ≡ Some header.now) }
+        ensures not_live { (v : DeskValue) → Stands self.now v
+            → IfErr result (λ error. (error ≡ NotLive) × (v.live id ≡ None)) }
     {
         match self.sessions.get(&id) {
             Some(session) => Ok(session.header()),
@@ -166,14 +185,17 @@ impl<M: Manager> Desk<M> {
         }
     }
 
-    /// Takes bytes of the piece for this session, or gives a frame of it, as its sealer or opener does, and answers how many bytes were used. Where the header of a message
-    /// that is opened becomes whole, the manager is asked for its data key, at the moment `now`, in seconds; else it stays as it is.
+    /// Takes bytes of the piece for this session, or gives a frame of it, as its sealer or opener
+    /// does, and answers how many bytes were used. Where the header of a message that is opened
+    /// becomes whole, the manager is asked for its data key, at the moment `now`, in seconds; else
+    /// it stays as it is.
     ///
     /// - `NotLive`: exactly where no session of this number is live.
     /// - `Refusal`: more bytes came than were declared (Q10) or have room in a message (Q9).
     /// - `Fault`: the message that is opened has this fault.
     /// - `KeyringFault`: a keyring failed when the manager was asked.
-    /// - `Memory`: memory ran out, for a message that is opened, and no content of it was given yet.
+    /// - `Memory`: memory ran out, for a message that is opened, and no content of it was given
+    ///   yet.
     ///
     /// Any error leaves `out` empty and ends this session, and no other.
     pub fn feed(
@@ -184,20 +206,32 @@ impl<M: Manager> Desk<M> {
         piece: &[u8],
     ) -> Result<usize, DeskError>
         ensures feeds { (v : DeskValue) → Stands self.old v → Feeds
-            (asking_of (M.meaning (manager_of self.old)) (M.meaning (manager_of self.new)) (M.tells (manager_of self.old)) (M.exact (manager_of self.old)) (M.found (manager_of self.new))
+            (asking_of (M.meaning (manager_of self.old)) (M.meaning (manager_of self.new))
+            (M.tells (manager_of self.old)) (M.exact (manager_of self.old))
+            (M.found (manager_of self.new))
             (M.bears (manager_of self.old)) (M.bears (manager_of self.new)) now)
             v id now piece.now result self.new }
-        ensures not_live { (v : DeskValue) → Stands self.old v → (result ≡ Err NotLive) ↔ (v.live id ≡ None) }
-        ensures within { (v : DeskValue) → Stands self.old v → IfOk result (λ used. used ≤ length piece.now) }
+        ensures not_live { (v : DeskValue) → Stands self.old v → (result ≡ Err NotLive)
+            ↔ (v.live id ≡ None) }
+        ensures within { (v : DeskValue) → Stands self.old v
+            → IfOk result (λ used. used ≤ length piece.now) }
         ensures falls { (v : DeskValue) → Stands self.old v
-            → IfOk result (λ used. 1 ≤ length piece.now → work_at self.new id (length piece.now - used) < work_at self.old id (length piece.now)) }
-        ensures goes { ManagerGoes (M.meaning (manager_of self.old)) (M.meaning (manager_of self.new)) }
+            → IfOk result (λ used. 1 ≤ length piece.now
+            → work_at self.new id (length piece.now - used) < work_at self.old id
+            (length piece.now)) }
+        ensures goes { ManagerGoes (M.meaning (manager_of self.old))
+            (M.meaning (manager_of self.new)) }
         ensures tells { TellsOn (M.tells (manager_of self.old)) (M.tells (manager_of self.new)) }
-        ensures same { (M.meaning (manager_of self.old)).plain ≡ true → TellsOn (M.tells (manager_of self.new)) (M.tells (manager_of self.old)) }
+        ensures same { (M.meaning (manager_of self.old)).plain ≡ true
+            → TellsOn (M.tells (manager_of self.new)) (M.tells (manager_of self.old)) }
         ensures exact { M.exact (manager_of self.old) → M.exact (manager_of self.new) }
-        ensures bears { (v : DeskValue) → Stands self.old v → M.bears (manager_of self.old) (journal_of self.old) → M.bears (manager_of self.new) (journal_of self.new) }
-        ensures limits { (lines : List JournalLine) → M.within (manager_of self.new) lines → M.within (manager_of self.old) lines }
-        ensures unasked { (v : DeskValue) → Stands self.old v → asked_by (v.live id) piece.now ≡ None → manager_of self.new ≡ manager_of self.old }
+        ensures bears { (v : DeskValue) → Stands self.old v
+            → M.bears (manager_of self.old) (journal_of self.old)
+            → M.bears (manager_of self.new) (journal_of self.new) }
+        ensures limits { (lines : List JournalLine) → M.within (manager_of self.new) lines
+            → M.within (manager_of self.old) lines }
+        ensures unasked { (v : DeskValue) → Stands self.old v
+            → asked_by (v.live id) piece.now ≡ None → manager_of self.new ≡ manager_of self.old }
     {
         self.lent = Lent::Nothing;
         match step_at(
@@ -217,7 +251,8 @@ impl<M: Manager> Desk<M> {
         }
     }
 
-    /// Ends this session, which isn't live any more. Of a message that is sealed it gives the final frame; of one that is opened it gives nothing. Takes no memory.
+    /// Ends this session, which isn't live any more. Of a message that is sealed it gives the final
+    /// frame; of one that is opened it gives nothing. Takes no memory.
     ///
     /// - `NotLive`: exactly where no session of this number is live.
     /// - `Fault`: M10 `Truncated`, exactly where the message that is opened isn't whole.
@@ -225,8 +260,10 @@ impl<M: Manager> Desk<M> {
     /// Any error leaves `out` empty. Every other session is as before.
     pub fn end(&mut self, id: u64) -> Result<(), DeskError>
         ensures answer { (v : DeskValue) → Stands self.old v → result ≡ (ended (v.live id)).answer }
-        ensures not_live { (v : DeskValue) → Stands self.old v → (result ≡ Err NotLive) ↔ (v.live id ≡ None) }
-        ensures stands { (v : DeskValue) → Stands self.old v → Stands self.new (after_call v id false End) }
+        ensures not_live { (v : DeskValue) → Stands self.old v → (result ≡ Err NotLive)
+            ↔ (v.live id ≡ None) }
+        ensures stands { (v : DeskValue) → Stands self.old v
+            → Stands self.new (after_call v id false End) }
         ensures manager { manager_of self.new ≡ manager_of self.old }
         ensures journal { journal_of self.new ≡ journal_of self.old }
     {
@@ -243,7 +280,8 @@ impl<M: Manager> Desk<M> {
         }
     }
 
-    /// What the last call gave, where it was a `feed` or an `end` that answered no error, among the calls that open, feed, end or drop a session; else it is empty.
+    /// What the last call gave, where it was a `feed` or an `end` that answered no error, among the
+    /// calls that open, feed, end or drop a session; else it is empty.
     pub fn out(&self) -> &[u8]
         ensures { (v : DeskValue) → Stands self.now v → result.now ≡ v.out }
     {
@@ -257,12 +295,16 @@ impl<M: Manager> Desk<M> {
         }
     }
 
-    /// The whole context of a message that is opened, once its header was unlocked; none, of one that is sealed.
+    /// The whole context of a message that is opened, once its header was unlocked; none, of one
+    /// that is sealed.
     ///
     /// `NotLive`: no session of this number is live.
     pub fn context(&self, id: u64) -> Result<Option<&Context>, DeskError>
-        ensures context { (v : DeskValue) → Stands self.now v → IfOk result (λ context. option_map context_of (v.live id) ≡ Some (option_copied context)) }
-        ensures not_live { (v : DeskValue) → Stands self.now v → IfErr result (λ error. (error ≡ NotLive) × (v.live id ≡ None)) }
+        ensures context { (v : DeskValue) → Stands self.now v
+            → IfOk result (λ context. option_map context_of (v.live id) ≡ Some
+            (option_copied context)) }
+        ensures not_live { (v : DeskValue) → Stands self.now v
+            → IfErr result (λ error. (error ≡ NotLive) × (v.live id ≡ None)) }
     {
         match self.sessions.get(&id) {
             Some(session) => Ok(session.context()),
@@ -274,8 +316,10 @@ impl<M: Manager> Desk<M> {
     ///
     /// `NotLive`: exactly where no session of this number is live.
     pub fn drop_session(&mut self, id: u64) -> Result<(), DeskError>
-        ensures answer { (v : DeskValue) → Stands self.old v → result ≡ (dropped (v.live id)).answer }
-        ensures stands { (v : DeskValue) → Stands self.old v → Stands self.new (after_call v id false DropSession) }
+        ensures answer { (v : DeskValue) → Stands self.old v
+            → result ≡ (dropped (v.live id)).answer }
+        ensures stands { (v : DeskValue) → Stands self.old v
+            → Stands self.new (after_call v id false DropSession) }
         ensures manager { manager_of self.new ≡ manager_of self.old }
         ensures journal { journal_of self.new ≡ journal_of self.old }
     {
@@ -289,12 +333,14 @@ impl<M: Manager> Desk<M> {
         }
     }
 
-    /// What the manager answered: one line for each answer with materials, in the order of the calls. Where the manager bears these lines, they are within the limits of its
-    /// cache; a new desk's manager does, and every call keeps it.
+    /// What the manager answered: one line for each answer with materials, in the order of the
+    /// calls. Where the manager bears these lines, they are within the limits of its cache; a new
+    /// desk's manager does, and every call keeps it.
     pub fn journal(&self) -> &[JournalLine]
         ensures lines { (v : DeskValue) → Stands self.now v → result.now ≡ v.journal }
         ensures journal { result.now ≡ journal_of self.now }
-        ensures within { M.bears (manager_of self.now) (journal_of self.now) → M.within (manager_of self.now) result.now }
+        ensures within { M.bears (manager_of self.now) (journal_of self.now)
+            → M.within (manager_of self.now) result.now }
     {
         // What a manager bears is within its limits: `wraps` says so.
         let _wraps = self.manager.wraps();
@@ -309,16 +355,19 @@ impl<M: Manager> Desk<M> {
     }
 }
 
-/// Makes a session live under this number, which no other has. `Memory`: memory ran out, and the same sessions are live as before.
+/// Makes a session live under this number, which no other has. `Memory`: memory ran out, and the
+/// same sessions are live as before.
 fn insert(
     sessions: &mut BTreeMap<u64, Session>,
     id: u64,
     session: Session,
 ) -> Result<u64, DeskError>
-    ensures ok { (live : ℕ → Option SessionValue) (s : SessionValue) → AreLive sessions.old live → StandsFor session s → IsLive s
+    ensures ok { (live : ℕ → Option SessionValue) (s : SessionValue) → AreLive sessions.old live
+        → StandsFor session s → IsLive s
         → OnOk result (AreLive sessions.new (update nat_eq live id (Some s))) }
     ensures number { IfOk result (λ number. number ≡ id) }
-    ensures err { (live : ℕ → Option SessionValue) → AreLive sessions.old live → OnErr result (AreLive sessions.new live) }
+    ensures err { (live : ℕ → Option SessionValue) → AreLive sessions.old live
+        → OnErr result (AreLive sessions.new live) }
     ensures memory { IfErr result (λ error. error ≡ Memory) }
 {
     match sessions.insert(id, session) {
@@ -329,9 +378,12 @@ fn insert(
 
 /// The session after its end, where it answers no error.
 fn after_end(session: Session) -> Result<Session, DeskError>
-    ensures ok { (s : SessionValue) → StandsFor session s → IfOk result (λ machine. StandsFor machine (finished s)) }
-    ensures answer { (s : SessionValue) → StandsFor session s → OnOk result (finish_answer s ≡ Ok tt) }
-    ensures err { (s : SessionValue) → StandsFor session s → IfErr result (λ error. finish_answer s ≡ Err error) }
+    ensures ok { (s : SessionValue) → StandsFor session s
+        → IfOk result (λ machine. StandsFor machine (finished s)) }
+    ensures answer { (s : SessionValue) → StandsFor session s
+        → OnOk result (finish_answer s ≡ Ok tt) }
+    ensures err { (s : SessionValue) → StandsFor session s
+        → IfErr result (λ error. finish_answer s ≡ Err error) }
 {
     let mut session = session;
     match session.finish() {

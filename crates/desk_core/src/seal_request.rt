@@ -5,8 +5,10 @@ ghost use Rattle.std.specs.Prelude.{◌≡◌, ◌≤◌};
 use keyring_trait::EncRequest;
 use std::marker::Model;
 
-/// What a message that is to be sealed is asked for with: the request for its materials, which has its context and its declared length; its frame length, at least 1; and
-/// the most encrypted data keys that its header may have, where there is such a limit. A contract sees a `SealRequestValue`.
+/// What a message that is to be sealed is asked for with: the request for its materials, which has
+/// its context and its declared length; its frame length, at least 1; and the most encrypted data
+/// keys that its header may have, where there is such a limit. A contract sees a
+/// `SealRequestValue`.
 #[derive(Drop)]
 pub struct SealRequest {
     wish: EncRequest,

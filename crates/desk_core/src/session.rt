@@ -54,7 +54,8 @@ impl Session {
     /// Ends the message.
     pub(crate) fn finish(&mut self) -> Result<(), DeskError>
         ensures answer { (s : SessionValue) → StandsFor self.old s → result ≡ finish_answer s }
-        ensures stands { (s : SessionValue) → StandsFor self.old s → StandsFor self.new (finished s) }
+        ensures stands { (s : SessionValue) → StandsFor self.old s
+            → StandsFor self.new (finished s) }
     {
         match self {
             Session::Sealing(sealer) => match sealer.finish() {

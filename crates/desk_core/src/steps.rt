@@ -21,7 +21,8 @@ use std::alloc::Global;
 use std::collections::BTreeMap;
 use stream_open::Opener;
 
-/// A step of the session of this number, where it is live; else `NotLive`. Any error ends the session.
+/// A step of the session of this number, where it is live; else `NotLive`. Any error ends the
+/// session.
 pub(crate) fn step_at<M: Manager>(
     alloc: Global,
     sessions: &mut BTreeMap<u64, Session>,
@@ -32,18 +33,24 @@ pub(crate) fn step_at<M: Manager>(
     piece: &[u8],
 ) -> Result<usize, DeskError>
     ensures steps { (live : ℕ → Option SessionValue) → AreLive sessions.old live → StepsAt
-        (asking_of (M.meaning manager.old) (M.meaning manager.new) (M.tells manager.old) (M.exact manager.old) (M.found manager.new) (M.bears manager.old) (M.bears manager.new) now)
+        (asking_of (M.meaning manager.old) (M.meaning manager.new) (M.tells manager.old)
+        (M.exact manager.old) (M.found manager.new) (M.bears manager.old) (M.bears manager.new) now)
         live id now piece.now result sessions.new journal.old.items journal.new.items }
-    ensures within { (live : ℕ → Option SessionValue) → AreLive sessions.old live → IfOk result (λ used. used ≤ length piece.now) }
+    ensures within { (live : ℕ → Option SessionValue) → AreLive sessions.old live
+        → IfOk result (λ used. used ≤ length piece.now) }
     ensures falls { (live : ℕ → Option SessionValue) → AreLive sessions.old live
         → IfOk result (λ used. 1 ≤ length piece.now
-        → work_in (get nat_cmp sessions.new id) (length piece.now - used) < work_in (get nat_cmp sessions.old id) (length piece.now)) }
+        → work_in (get nat_cmp sessions.new id) (length piece.now - used) < work_in
+        (get nat_cmp sessions.old id) (length piece.now)) }
     ensures goes { ManagerGoes (M.meaning manager.old) (M.meaning manager.new) }
     ensures tells { TellsOn (M.tells manager.old) (M.tells manager.new) }
-    ensures same { (M.meaning manager.old).plain ≡ true → TellsOn (M.tells manager.new) (M.tells manager.old) }
+    ensures same { (M.meaning manager.old).plain ≡ true
+        → TellsOn (M.tells manager.new) (M.tells manager.old) }
     ensures exact { M.exact manager.old → M.exact manager.new }
-    ensures limits { (lines : List JournalLine) → M.within manager.new lines → M.within manager.old lines }
-    ensures unasked { (live : ℕ → Option SessionValue) → AreLive sessions.old live → asked_by (live id) piece.now ≡ None → manager.new ≡ manager.old }
+    ensures limits { (lines : List JournalLine) → M.within manager.new lines
+        → M.within manager.old lines }
+    ensures unasked { (live : ℕ → Option SessionValue) → AreLive sessions.old live
+        → asked_by (live id) piece.now ≡ None → manager.new ≡ manager.old }
 {
     // Where the manager isn't asked, it stays as it is: `wraps` says so of a steady one's count.
     let _wraps = manager.wraps();
@@ -60,7 +67,8 @@ pub(crate) fn step_at<M: Manager>(
     }
 }
 
-/// A step of a session. The manager is asked where the header of a message that is opened becomes whole, and its answer is recorded.
+/// A step of a session. The manager is asked where the header of a message that is opened becomes
+/// whole, and its answer is recorded.
 fn step<M: Manager>(
     alloc: Global,
     session: &mut Session,
@@ -72,17 +80,24 @@ fn step<M: Manager>(
 ) -> Result<usize, DeskError>
     requires { ManagerGoes (M.meaning manager.old) (M.meaning manager.old) }
     ensures steps { (s : SessionValue) → StandsFor session.old s → IsLive s → Steps
-        (asking_of (M.meaning manager.old) (M.meaning manager.new) (M.tells manager.old) (M.exact manager.old) (M.found manager.new) (M.bears manager.old) (M.bears manager.new) now)
+        (asking_of (M.meaning manager.old) (M.meaning manager.new) (M.tells manager.old)
+        (M.exact manager.old) (M.found manager.new) (M.bears manager.old) (M.bears manager.new) now)
         s id now piece.now result session.new journal.old.items journal.new.items }
-    ensures within { (s : SessionValue) → StandsFor session.old s → IfOk result (λ used. used ≤ length piece.now) }
+    ensures within { (s : SessionValue) → StandsFor session.old s
+        → IfOk result (λ used. used ≤ length piece.now) }
     ensures falls { (s : SessionValue) → StandsFor session.old s
-        → IfOk result (λ used. 1 ≤ length piece.now → work_in (Some session.new) (length piece.now - used) < work_in (Some session.old) (length piece.now)) }
+        → IfOk result (λ used. 1 ≤ length piece.now
+        → work_in (Some session.new) (length piece.now - used) < work_in (Some session.old)
+        (length piece.now)) }
     ensures goes { ManagerGoes (M.meaning manager.old) (M.meaning manager.new) }
     ensures tells { TellsOn (M.tells manager.old) (M.tells manager.new) }
-    ensures same { (M.meaning manager.old).plain ≡ true → TellsOn (M.tells manager.new) (M.tells manager.old) }
+    ensures same { (M.meaning manager.old).plain ≡ true
+        → TellsOn (M.tells manager.new) (M.tells manager.old) }
     ensures exact { M.exact manager.old → M.exact manager.new }
-    ensures limits { (lines : List JournalLine) → M.within manager.new lines → M.within manager.old lines }
-    ensures unasked { (s : SessionValue) → StandsFor session.old s → asked_by (Some s) piece.now ≡ None → manager.new ≡ manager.old }
+    ensures limits { (lines : List JournalLine) → M.within manager.new lines
+        → M.within manager.old lines }
+    ensures unasked { (s : SessionValue) → StandsFor session.old s
+        → asked_by (Some s) piece.now ≡ None → manager.new ≡ manager.old }
 {
     match session {
         Session::Sealing(sealer) => match sealer.step(piece) {
@@ -93,7 +108,8 @@ fn step<M: Manager>(
     }
 }
 
-/// A step of a session that opens a message. The room of its journal line is taken before the manager is asked.
+/// A step of a session that opens a message. The room of its journal line is taken before the
+/// manager is asked.
 fn step_opener<M: Manager>(
     alloc: Global,
     opener: &mut Opener,
@@ -105,16 +121,23 @@ fn step_opener<M: Manager>(
 ) -> Result<usize, DeskError>
     requires { ManagerGoes (M.meaning manager.old) (M.meaning manager.old) }
     ensures steps { (v : OpeningValue) → Stands opener.old v → IsLive (Opening v) → Steps
-        (asking_of (M.meaning manager.old) (M.meaning manager.new) (M.tells manager.old) (M.exact manager.old) (M.found manager.new) (M.bears manager.old) (M.bears manager.new) now)
-        (Opening v) id now piece.now result (Session.Opening opener.new) journal.old.items journal.new.items }
-    ensures within { (v : OpeningValue) → Stands opener.old v → IfOk result (λ used. used ≤ length piece.now) }
-    ensures some { (v : OpeningValue) → Stands opener.old v → IfOk result (λ used. 1 ≤ length piece.now → 1 ≤ used) }
+        (asking_of (M.meaning manager.old) (M.meaning manager.new) (M.tells manager.old)
+        (M.exact manager.old) (M.found manager.new) (M.bears manager.old) (M.bears manager.new) now)
+        (Opening v) id now piece.now result (Session.Opening opener.new) journal.old.items
+        journal.new.items }
+    ensures within { (v : OpeningValue) → Stands opener.old v
+        → IfOk result (λ used. used ≤ length piece.now) }
+    ensures some { (v : OpeningValue) → Stands opener.old v
+        → IfOk result (λ used. 1 ≤ length piece.now → 1 ≤ used) }
     ensures goes { ManagerGoes (M.meaning manager.old) (M.meaning manager.new) }
     ensures tells { TellsOn (M.tells manager.old) (M.tells manager.new) }
-    ensures same { (M.meaning manager.old).plain ≡ true → TellsOn (M.tells manager.new) (M.tells manager.old) }
+    ensures same { (M.meaning manager.old).plain ≡ true
+        → TellsOn (M.tells manager.new) (M.tells manager.old) }
     ensures exact { M.exact manager.old → M.exact manager.new }
-    ensures limits { (lines : List JournalLine) → M.within manager.new lines → M.within manager.old lines }
-    ensures unasked { (v : OpeningValue) → Stands opener.old v → asked_of v piece.now ≡ None → manager.new ≡ manager.old }
+    ensures limits { (lines : List JournalLine) → M.within manager.new lines
+        → M.within manager.old lines }
+    ensures unasked { (v : OpeningValue) → Stands opener.old v → asked_of v piece.now ≡ None
+        → manager.new ≡ manager.old }
 {
     match opener.context() {
         Some(_) => step_unrecorded(alloc, opener, manager, now, piece),
@@ -135,16 +158,22 @@ fn step_unrecorded<M: Manager>(
 ) -> Result<usize, DeskError>
     requires { ManagerGoes (M.meaning manager.old) (M.meaning manager.old) }
     ensures steps { (v : OpeningValue) → Stands opener.old v → StepsOpener
-        (asking_of (M.meaning manager.old) (M.meaning manager.new) (M.tells manager.old) (M.exact manager.old) (M.found manager.new) (M.bears manager.old) (M.bears manager.new) now)
+        (asking_of (M.meaning manager.old) (M.meaning manager.new) (M.tells manager.old)
+        (M.exact manager.old) (M.found manager.new) (M.bears manager.old) (M.bears manager.new) now)
         v piece.now result opener.new }
-    ensures within { (v : OpeningValue) → Stands opener.old v → IfOk result (λ used. used ≤ length piece.now) }
-    ensures some { (v : OpeningValue) → Stands opener.old v → IfOk result (λ used. 1 ≤ length piece.now → 1 ≤ used) }
+    ensures within { (v : OpeningValue) → Stands opener.old v
+        → IfOk result (λ used. used ≤ length piece.now) }
+    ensures some { (v : OpeningValue) → Stands opener.old v
+        → IfOk result (λ used. 1 ≤ length piece.now → 1 ≤ used) }
     ensures goes { ManagerGoes (M.meaning manager.old) (M.meaning manager.new) }
     ensures tells { TellsOn (M.tells manager.old) (M.tells manager.new) }
-    ensures same { (M.meaning manager.old).plain ≡ true → TellsOn (M.tells manager.new) (M.tells manager.old) }
+    ensures same { (M.meaning manager.old).plain ≡ true
+        → TellsOn (M.tells manager.new) (M.tells manager.old) }
     ensures exact { M.exact manager.old → M.exact manager.new }
-    ensures limits { (lines : List JournalLine) → M.within manager.new lines → M.within manager.old lines }
-    ensures unasked { (v : OpeningValue) → Stands opener.old v → asked_of v piece.now ≡ None → manager.new ≡ manager.old }
+    ensures limits { (lines : List JournalLine) → M.within manager.new lines
+        → M.within manager.old lines }
+    ensures unasked { (v : OpeningValue) → Stands opener.old v → asked_of v piece.now ≡ None
+        → manager.new ≡ manager.old }
 {
     match opener.step(alloc, manager, now, piece) {
         Ok(used) => Ok(used),
@@ -152,7 +181,8 @@ fn step_unrecorded<M: Manager>(
     }
 }
 
-/// A step while the header isn't unlocked, which is recorded where the manager answers. There is room for the line.
+/// A step while the header isn't unlocked, which is recorded where the manager answers. There is
+/// room for the line.
 fn step_locked<M: Manager>(
     alloc: Global,
     opener: &mut Opener,
@@ -164,27 +194,37 @@ fn step_locked<M: Manager>(
 ) -> Result<usize, DeskError>
     requires manager { ManagerGoes (M.meaning manager.old) (M.meaning manager.old) }
     requires room { vec_len journal.old < vec_capacity journal.old }
-    ensures steps { (v : OpeningValue) → Stands opener.old v → IsLive (Opening v) → v.served ≡ None → Steps
-        (asking_of (M.meaning manager.old) (M.meaning manager.new) (M.tells manager.old) (M.exact manager.old) (M.found manager.new) (M.bears manager.old) (M.bears manager.new) now)
-        (Opening v) id now piece.now result (Session.Opening opener.new) journal.old.items journal.new.items }
-    ensures within { (v : OpeningValue) → Stands opener.old v → IfOk result (λ used. used ≤ length piece.now) }
-    ensures some { (v : OpeningValue) → Stands opener.old v → IfOk result (λ used. 1 ≤ length piece.now → 1 ≤ used) }
+    ensures steps { (v : OpeningValue) → Stands opener.old v → IsLive (Opening v) → v.served ≡ None
+        → Steps
+        (asking_of (M.meaning manager.old) (M.meaning manager.new) (M.tells manager.old)
+        (M.exact manager.old) (M.found manager.new) (M.bears manager.old) (M.bears manager.new) now)
+        (Opening v) id now piece.now result (Session.Opening opener.new) journal.old.items
+        journal.new.items }
+    ensures within { (v : OpeningValue) → Stands opener.old v
+        → IfOk result (λ used. used ≤ length piece.now) }
+    ensures some { (v : OpeningValue) → Stands opener.old v
+        → IfOk result (λ used. 1 ≤ length piece.now → 1 ≤ used) }
     ensures goes { ManagerGoes (M.meaning manager.old) (M.meaning manager.new) }
     ensures tells { TellsOn (M.tells manager.old) (M.tells manager.new) }
-    ensures same { (M.meaning manager.old).plain ≡ true → TellsOn (M.tells manager.new) (M.tells manager.old) }
+    ensures same { (M.meaning manager.old).plain ≡ true
+        → TellsOn (M.tells manager.new) (M.tells manager.old) }
     ensures exact { M.exact manager.old → M.exact manager.new }
-    ensures limits { (lines : List JournalLine) → M.within manager.new lines → M.within manager.old lines }
-    ensures unasked { (v : OpeningValue) → Stands opener.old v → asked_of v piece.now ≡ None → manager.new ≡ manager.old }
+    ensures limits { (lines : List JournalLine) → M.within manager.new lines
+        → M.within manager.old lines }
+    ensures unasked { (v : OpeningValue) → Stands opener.old v → asked_of v piece.now ≡ None
+        → manager.new ≡ manager.old }
 {
     let answer = step_unrecorded(alloc, opener, manager, now, piece);
     record_served(journal, opener, id, now);
     answer
 }
 
-/// Records how the manager's materials were served, where it answered with some. There is room for the line.
+/// Records how the manager's materials were served, where it answered with some. There is room for
+/// the line.
 fn record_served(journal: &mut Vec<JournalLine>, opener: &Opener, id: u64, now: u64)
     requires { vec_len journal.old < vec_capacity journal.old }
-    ensures { (v : OpeningValue) → Stands opener.now v → journal.new.items ≡ journal.old.items ++ lines_of id Unseal now None v.served }
+    ensures { (v : OpeningValue) → Stands opener.now v
+        → journal.new.items ≡ journal.old.items ++ lines_of id Unseal now None v.served }
 {
     if let Some(served) = opener.served() {
         let line = JournalLine {

@@ -4,7 +4,8 @@ use Rattle.std.specs.Prelude.{◌||◌, Some, None}
 use Rattle.std.proofs.lemmas.List.{drop_all, drop_more, take_more}
 use Rattle.context_codec.specs.KeySet.{has}
 use Rattle.job_file.specs.declared.job.Job.{Job}
-use Rattle.job_file.specs.Jobs.{clash_among, is_written}
+use Rattle.job_file.specs.JobFile.{is_written}
+use Rattle.job_file.specs.Jobs.{clash_among}
 
 module _ (names : List (List ℕ)) (jobs : List Job) (i : ℕ) (job : Job) (name : List ℕ) (test : Bool) (lt : i < length jobs) (is : job ≡ get_or jobs i job) (named : name ≡ job.to)
     (tested : test ≡ (has names name || is_written (take i jobs) name)) where

@@ -1,3 +1,4 @@
+pub mod Apart
 pub mod Clashing
 pub mod Counted
 pub mod Held

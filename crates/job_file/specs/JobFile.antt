@@ -1,6 +1,7 @@
 -- What stands in a job file, with the members that it leaves out.
-use Rattle.std.specs.Prelude.{◌≡◌, ◌≤◌, ℕ, ◌-◌, ◌^◌, true, List, length, All, Option, IfSome}
-use Rattle.std.specs.List.{list_all}
+use Rattle.std.specs.Prelude.{◌≡◌, ◌≢◌, ◌≤◌, ℕ, ◌-◌, ◌^◌, Bool, true, false, List, length, All, AllPairs, Option, IfSome}
+use Rattle.std.specs.List.{list_all, list_any}
+use Rattle.std.specs.Str.{bytes_eq}
 use Rattle.cmm_caching.specs.Limits.{LimitsValue, AreLimits}
 use Rattle.context_codec.specs.Parts.{holds}
 use Rattle.job_file.specs.declared.job.Job.{Job}
@@ -20,7 +21,11 @@ abbrev pub IsWork : Work → Type 0
 IsWork (Encrypt length frame context required) = IfSome length (λ n. n ≤ 2 ^ 63 - 1) × (1 ≤ frame) × (list_all (holds context) required ≡ true)
 IsWork (Decrypt given required) = list_all (holds given) required ≡ true
 
--- What every job file keeps.
+-- some job is to write this name
+abbrev pub is_written : List Job → List ℕ → Bool
+is_written jobs name = list_any (λ job. bytes_eq name job.to) jobs
+
+-- What every job file keeps. No job writes what one reads, and no two jobs write one file.
 pub record IsJobFile (file : JobFile) : Type 0 where
   pub wide : 1 ≤ file.width
   pub narrow : file.width ≤ 64
@@ -30,3 +35,5 @@ pub record IsJobFile (file : JobFile) : Type 0 where
   pub jobs : 1 ≤ length file.jobs
   pub few : length file.jobs ≤ 1000
   pub fit : All (λ job. IsWork job.work) file.jobs
+  pub unread : All (λ job. is_written file.jobs job.from ≡ false) file.jobs
+  pub apart : AllPairs (λ one other. one.to ≢ other.to) file.jobs

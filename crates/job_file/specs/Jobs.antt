@@ -1,14 +1,12 @@
 -- What a job file means, or why it is refused.
-use Rattle.std.specs.Prelude.{ℕ, ◌+◌, Bool, ◌||◌, List, [], ◌∷◌, ◌++◌, map, Option, Some, None, Result, Ok, Err, if◌then◌else◌}
-use Rattle.std.specs.List.{list_any}
-use Rattle.std.specs.Str.{bytes_eq}
+use Rattle.std.specs.Prelude.{ℕ, ◌+◌, ◌||◌, List, [], ◌∷◌, ◌++◌, map, Option, Some, None, Result, Ok, Err, if◌then◌else◌}
 use Rattle.esdk_fields.specs.declared.refusals.FileRefusal.{FileRefusal}
 use Rattle.esdk_fields.specs.declared.refusals.FileRefusal.TheVariants.{NotJson, BadShape, NamesClash}
 use Rattle.serde_json.specs.Data.{Items, no_items, item}
 use Rattle.context_codec.specs.KeySet.{has}
 use Rattle.keyring_file.specs.JsonValues.{value_of}
 use Rattle.job_file.specs.declared.job.Job.{Job}
-use Rattle.job_file.specs.JobFile.{JobFile}
+use Rattle.job_file.specs.JobFile.{JobFile, is_written}
 use Rattle.job_file.specs.JobForm.{Head, head_of, job_of}
 
 -- where there is a value, the reading that it chooses goes on
@@ -32,10 +30,6 @@ jobs_from number (item d ds) = do
   job ← or_refuse (BadShape number) (job_of d)
   jobs ← jobs_from (number + 1) ds
   Ok (job ∷ jobs)
-
--- some job is to write this name
-abbrev pub is_written : List Job → List ℕ → Bool
-is_written jobs name = list_any (λ job. bytes_eq name job.to) jobs
 
 -- The first name, in the order of the jobs, that a job is to write although it is one of these names, or an earlier job is to write it.
 unfoldable pub clash_among : (names : List (List ℕ)) (earlier jobs : List Job) → Option (List ℕ)

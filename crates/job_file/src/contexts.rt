@@ -12,8 +12,9 @@ use context_codec::{Context, KeySet, PairError};
 use serde_json::{Map, Value};
 use std::alloc::{AllocError, Global};
 
-/// The context that the member of this name is, the empty one where it is absent. No answer where it is no object of texts, or the context's text would be
-/// longer than 65,535 bytes; fails only where memory runs out.
+/// The context that the member of this name is, the empty one where it is absent. No answer where
+/// it is no object of texts, or the context's text would be longer than 65,535 bytes; fails only
+/// where memory runs out.
 #[tactic(auto, unfolding(crate::specs::JobForm::context_at))]
 pub(crate) fn context_at(
     alloc: Global,
@@ -44,7 +45,8 @@ fn pairs_in(alloc: Global, members: &Map<String, Value>) -> Result<Option<Contex
     Ok(Some(context))
 }
 
-/// Inserts a pair, where the value is a text and the context has room for it, and says whether it did.
+/// Inserts a pair, where the value is a text and the context has room for it, and says whether it
+/// did.
 #[tactic(auto, unfolding(crate::specs::JobForm::with_pair))]
 fn insert_pair(
     alloc: Global,
@@ -52,7 +54,8 @@ fn insert_pair(
     value: &Value,
     context: &mut Context,
 ) -> Result<bool, AllocError>
-    ensures { IfOk result (λ inserted. with_pair context.old key.now (view value.now) ≡ only_if inserted context.new) }
+    ensures { IfOk result (λ inserted. with_pair context.old key.now
+        (view value.now) ≡ only_if inserted context.new) }
 {
     let Some(text) = value.as_str() else {
         return Ok(false);
@@ -64,8 +67,9 @@ fn insert_pair(
     }
 }
 
-/// The keys that the member `required` lists, none where it is absent. No answer where it is no list of distinct texts, or one of them is no key of the
-/// context; fails only where memory runs out.
+/// The keys that the member `required` lists, none where it is absent. No answer where it is no
+/// list of distinct texts, or one of them is no key of the context; fails only where memory runs
+/// out.
 #[tactic(auto, unfolding(crate::specs::JobForm::required_at))]
 pub(crate) fn required_at(
     alloc: Global,
@@ -98,7 +102,8 @@ fn keys_in(alloc: Global, context: &Context, values: &[Value]) -> Result<Option<
     Ok(Some(keys))
 }
 
-/// Inserts a key, where it is a text, a key of the context and none of the keys so far, and says whether it did.
+/// Inserts a key, where it is a text, a key of the context and none of the keys so far, and says
+/// whether it did.
 #[tactic(auto, unfolding(crate::specs::JobForm::with_required))]
 fn insert_key(
     alloc: Global,
@@ -106,8 +111,10 @@ fn insert_key(
     value: &Value,
     keys: &mut KeySet,
 ) -> Result<bool, AllocError>
-    ensures value { IfOk result (λ inserted. with_required context.now keys.old (view value.now) ≡ only_if inserted keys.new) }
-    ensures held { list_all (holds context.now) keys.old ≡ true → IfOk result (λ inserted. list_all (holds context.now) keys.new ≡ true) }
+    ensures value { IfOk result (λ inserted. with_required context.now keys.old
+        (view value.now) ≡ only_if inserted keys.new) }
+    ensures held { list_all (holds context.now) keys.old ≡ true
+        → IfOk result (λ inserted. list_all (holds context.now) keys.new ≡ true) }
 {
     let Some(key) = value.as_str() else {
         return Ok(false);

@@ -24,7 +24,8 @@ pub(crate) struct Head<'a> {
     pub(crate) jobs: &'a [Value],
 }
 
-/// What a file says of itself. None exactly where its own members don't have the form of a job file.
+/// What a file says of itself. None exactly where its own members don't have the form of a job
+/// file.
 #[tactic(auto, unfolding(crate::specs::JobForm::head_of))]
 pub(crate) fn head_of(file: &Value) -> Option<Head<'_>>
     ensures value { option_map head_value result ≡ head_of (view file.now) }
@@ -90,7 +91,8 @@ fn jobs_at(file: &Value) -> Option<&[Value]>
 /// The jobs, where there are 1 to 1,000.
 #[tactic(auto, using(crate::proofs::Counted::items_counted))]
 fn some_jobs(jobs: &[Value]) -> Option<&[Value]>
-    ensures value { option_map (λ jobs. items_view jobs.now) result ≡ some_jobs (items_view jobs.now) }
+    ensures value { option_map (λ jobs. items_view jobs.now) result ≡ some_jobs
+        (items_view jobs.now) }
     ensures some { IfSome result (λ jobs. 1 ≤ length jobs.now) }
     ensures few { IfSome result (λ jobs. length jobs.now ≤ 1000) }
 {

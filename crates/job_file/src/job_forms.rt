@@ -13,7 +13,8 @@ use esdk_fields::Text;
 use serde_json::Value;
 use std::alloc::{AllocError, Global};
 
-/// The job of a JSON value. No answer where the value has none of the two forms; fails only where memory runs out.
+/// The job of a JSON value. No answer where the value has none of the two forms; fails only where
+/// memory runs out.
 #[tactic(auto, unfolding(crate::specs::JobForm::job_of))]
 pub(crate) fn job_of(alloc: Global, value: &Value) -> Result<Option<Job>, AllocError>
     ensures value { IfOk result (λ job. job ≡ job_of (view value.now)) }

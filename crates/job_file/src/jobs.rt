@@ -23,9 +23,23 @@ impl Model for Jobs {
 
     ghost Value = { JobFile };
 
-    ghost view = { λ f. record { keyring = f.keyring; width = f.width; piece = f.piece; cache = f.cache; jobs = f.jobs.items } };
+    ghost view = { λ f. record {
+      keyring = f.keyring;
+      width = f.width;
+      piece = f.piece;
+      cache =
+          f.cache;
+      jobs = f.jobs.items;
+    } };
 
-    ghost invariant = { λ f. IsJobFile (record { keyring = f.keyring; width = f.width; piece = f.piece; cache = f.cache; jobs = f.jobs.items }) };
+    ghost invariant = { λ f. IsJobFile (record {
+      keyring = f.keyring;
+      width = f.width;
+      piece =
+          f.piece;
+      cache = f.cache;
+      jobs = f.jobs.items;
+    }) };
 }
 
 impl Jobs {
@@ -37,8 +51,21 @@ impl Jobs {
         cache: Option<CacheLimits>,
         jobs: Vec<Job>,
     ) -> Jobs
-        requires { IsJobFile (record { keyring = keyring; width = width; piece = piece; cache = cache; jobs = jobs.items }) }
-        ensures { result ≡ record { keyring = keyring; width = width; piece = piece; cache = cache; jobs = jobs.items } }
+        requires { IsJobFile (record {
+          keyring = keyring;
+          width = width;
+          piece = piece;
+          cache =
+              cache;
+          jobs = jobs.items;
+        }) }
+        ensures { result ≡ record {
+          keyring = keyring;
+          width = width;
+          piece = piece;
+          cache = cache;
+          jobs = jobs.items;
+        } }
     {
         Jobs {
             keyring,

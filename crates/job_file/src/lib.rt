@@ -1,7 +1,7 @@
 //! Job files: which jobs a file asks for, and with which members. A job file is a JSON file.
 //!
-//! `specs/Jobs.antt` says what a file is read as and how it is refused, and `specs/JobForm.antt` which forms the file and its jobs have. `specs/JobFile.antt`
-//! says what every job file keeps.
+//! `specs/Jobs.antt` says what a file is read as and how it is refused, and `specs/JobForm.antt`
+//! which forms the file and its jobs have. `specs/JobFile.antt` says what every job file keeps.
 #![tactic(auto)]
 
 mod contexts;

@@ -30,7 +30,8 @@ fn within(number: u64, least: u64, most: u64) -> Option<u64>
     }
 }
 
-/// The number that the member of this name is, from the least to the most; another number where the member is absent.
+/// The number that the member of this name is, from the least to the most; another number where the
+/// member is absent.
 #[tactic(auto, unfolding(crate::specs::JobForm::number_or))]
 pub(crate) fn number_or(
     value: &Value,

@@ -19,16 +19,20 @@ use std::alloc::Global;
 
 /// The jobs of a job file of this name.
 ///
-/// A file is `{"version":1,"keyring":TEXT,"width":N,"piece":N,"cache":LIMITS,"jobs":[JOB, ..]}` with 1 to 1,000 jobs, where the width, 1 to 64, is 4, the piece,
-/// 1 to 65,536 bytes, is the longest, and the cache is off where they are absent. LIMITS is `{"capacity":N,"age":N,"messages":N,"bytes":N}` in the ranges of
-/// `CacheLimits::new`. A job is
-/// `{"do":"encrypt","from":TEXT,"to":TEXT,"length":N,"frame":N,"context":{KEY:VALUE, ..},"required":[KEY, ..]}`, where each but the first three may be absent,
-/// the length is below 2^63, and the frame, 1 to 2^32 - 1 bytes, is 4,096 where it is absent; or `{"do":"decrypt","from":TEXT,"to":TEXT,"given":{..},"required":[..]}`.
-/// The required keys are distinct keys of the context or of the given pairs.
+/// A file is `{"version":1,"keyring":TEXT,"width":N,"piece":N,"cache":LIMITS,"jobs":[JOB, ..]}`
+/// with 1 to 1,000 jobs, where the width, 1 to 64, is 4, the piece, 1 to 65,536 bytes, is the
+/// longest, and the cache is off where they are absent. LIMITS is
+/// `{"capacity":N,"age":N,"messages":N,"bytes":N}` in the ranges of `CacheLimits::new`. A job is
+/// `{"do":"encrypt","from":TEXT,"to":TEXT,"length":N,"frame":N,"context":{KEY:VALUE,
+/// ..},"required":[KEY, ..]}`, where each but the first three may be absent, the length is below
+/// 2^63, and the frame, 1 to 2^32 - 1 bytes, is 4,096 where it is absent; or
+/// `{"do":"decrypt","from":TEXT,"to":TEXT,"given":{..},"required":[..]}`. The required keys are
+/// distinct keys of the context or of the given pairs.
 ///
-/// K1 `NotJson`; K2 `BadShape` with 0, where the file's own members have another form; K2 with the number of the first job that has another form; K9 `NamesClash`
-/// with the first name, in the order of the jobs, that a job is to write although it is the job file's own, the keyring's, one that is read or one that an earlier
-/// job is to write. `Memory` where memory runs out.
+/// K1 `NotJson`; K2 `BadShape` with 0, where the file's own members have another form; K2 with the
+/// number of the first job that has another form; K9 `NamesClash` with the first name, in the order
+/// of the jobs, that a job is to write although it is the job file's own, the keyring's, one that
+/// is read or one that an earlier job is to write. `Memory` where memory runs out.
 #[tactic(auto, unfolding(crate::specs::Jobs::jobs_of))]
 pub fn read_jobs(alloc: Global, bytes: &[u8], own_name: &str) -> Result<Jobs, TreeError>
     ensures { Reads (λ jobs. jobs) result (jobs_of bytes.now own_name.now) }
@@ -49,7 +53,8 @@ pub fn read_jobs(alloc: Global, bytes: &[u8], own_name: &str) -> Result<Jobs, Tr
     Ok(Jobs::new(keyring, head.width, head.piece, head.cache, jobs))
 }
 
-/// The jobs of these values, which have numbers from 1. K2 `BadShape` at the first that has none of the two forms.
+/// The jobs of these values, which have numbers from 1. K2 `BadShape` at the first that has none of
+/// the two forms.
 fn jobs_in(alloc: Global, values: &[Value]) -> Result<Vec<Job>, TreeError>
     requires { length values.now ≤ 1000 }
     ensures value { Reads (λ jobs. jobs.items) result (jobs_from 1 (items_view values.now)) }

@@ -1,6 +1,6 @@
 -- No job before this one is to write the name.
 use Rattle.std.proofs.Common.{◌≡◌, drop}
-use Rattle.job_file.specs.Jobs.{is_written}
+use Rattle.job_file.specs.JobFile.{is_written}
 use Rattle.job_file.proofs.names.is_written.Given as goal
 
 abbrev pub invariant-loop-job : goal.invariant-loop-job

@@ -1,0 +1,24 @@
+-- No name clashes.
+use Rattle.std.proofs.Common.{◌≡◌, List, [], rules, sym, subst}
+use Rattle.std.specs.Prelude.{None}
+use Rattle.job_file.specs.declared.job.Job.{Job}
+use Rattle.job_file.specs.Jobs.{clash_among, read_names}
+use Rattle.job_file.proofs.Apart.{reads_apart, written_apart}
+use Rattle.job_file.proofs.reading.read_jobs.Goals as goal
+
+pub new-requires-3 : goal.new-requires-3
+new-requires-3 c =
+    let head = c.in-Some.ensures.bounded in
+    let clear = subst (λ (jobs : List Job). clash_among (read_names c.args.own_name.now c.in-Some.head.keyring.now jobs) [] jobs ≡ None) c.deref.ensures.value (sym c.in-None.ensures) in
+    record {
+      wide = head.wide;
+      narrow = head.narrow;
+      some = head.some;
+      short = head.short;
+      limits = head.limits;
+      jobs = search rules;
+      few = search rules;
+      fit = c.in_ok-jobs.ensures.fit;
+      unread = reads_apart _ _ _ clear;
+      apart = written_apart _ _ clear;
+    }
