@@ -2,19 +2,21 @@
 use Rattle.std.proofs.Common.{◌≡◌, ◌≢◌, ℕ, List, sym, ap, subst, refl, ◌∙◌, inl, inr}
 use Rattle.std.specs.Prelude.{Option, Result, Ok, Err}
 use Rattle.esdk_args.specs.declared.options.OptionName.{OptionName}
-use Rattle.esdk_args.specs.declared.options.OptionName.TheVariants.{Retire}
+use Rattle.esdk_args.specs.declared.options.OptionName.TheVariants.{Retire, Seed, Size}
 use Rattle.esdk_args.specs.declared.request.Request.TheVariants as requests
 use Rattle.esdk_args.specs.declared.request.WordsFault.{WordsFault}
 use Rattle.esdk_args.specs.declared.request.WordsFault.TheVariants.{NotRead, BadNumber, BadPair, Memory}
 use Rattle.esdk_args.specs.declared.commands.CommandName.TheVariants as commands
 use Rattle.esdk_args.specs.PairWords.{pairs_of}
 use Rattle.esdk_args.specs.Faults.{◌>>=◌}
-use Rattle.esdk_args.specs.Numbers.{number_given}
-use Rattle.esdk_args.specs.Words.{MigrationValue, OptionsValue, migrate_of, words_of}
-use Rattle.esdk_args.specs.Spelling.{AreMigration, AreNotRead, AreTaken, Command, HasBadNumber, HasBadPair, HasBadRetire, HasFirstBadNumber, NameNoCommand, first_of, row_of, second_of}
+use Rattle.esdk_args.specs.Numbers.{number_given, number_of}
+use Rattle.esdk_args.specs.Words.{GenerationValue, MigrationValue, OptionsValue, gen_of, migrate_of, words_of}
+use Rattle.esdk_args.specs.Spelling.{AreGeneration, AreMigration, AreNotRead, AreTaken, Command, HasBadGeneration, HasBadNumber, HasBadPair, HasBadRetire, HasFirstBadNumber, NameNoCommand, first_of, row_of, second_of}
 use Rattle.esdk_args.proofs.Given.{bad_is, bad_read, good_is, good_read}
+use Rattle.esdk_args.proofs.Generations.{IsFaulty, generation_fails, in_seed, in_size, is_faulty}
+use Rattle.esdk_args.proofs.Numerals.{number_bad, number_read, number_refused, number_writes}
 use Rattle.esdk_args.proofs.Pairs.{first_bad_is, first_bad_named}
-use Rattle.esdk_args.proofs.Steps.{HasFault, Kind, command_words, faulty, in_first, in_pairs, in_second, kind, made, migration_words, of_command, of_list, of_migration, of_none, of_refused, reads_refused, request_with, steps_fail}
+use Rattle.esdk_args.proofs.Steps.{HasFault, Kind, command_words, faulty, generation_words, in_first, in_pairs, in_second, kind, made, migration_words, of_batch, of_command, of_generation, of_list, of_migration, of_none, of_refused, reads_refused, request_with, steps_fail}
 
 -- the steps of a command with options
 abbrev StepsFail : Command → OptionsValue → WordsFault → Type 0
@@ -63,7 +65,20 @@ retire_fault words migration fault form e = by_number (number_given Retire migra
     by_number (Ok retire) is e = absurd cc
     by_number (Err other) is e =
         let bad = bad_is Retire migration.retire fault (is ∙ cc e) in
-        bad_number Retire bad.0 (inr (record { migration = migration; taken = form; option = refl; bad = bad.1 }))
+        bad_number Retire bad.0 (inr (inr (record { migration = migration; taken = form; option = refl; bad = bad.1 })))
+
+-- the fault of a generation is that of its first bad number
+generation_fault : (words : List (List ℕ)) (generation : GenerationValue) (fault : WordsFault) → AreGeneration words generation → gen_of generation ≡ Err fault → HaveFault words fault
+generation_fault words generation fault form e = by_number (is_faulty generation fault e)
+  where
+    by_number : IsFaulty generation fault → HaveFault words fault
+    by_number (in_seed is) =
+        let bad = number_refused Seed generation.seed fault is in
+        bad_number Seed bad.is (inr (inl (record { generation = generation; taken = form; first_bad = inl (refl, bad.other) })))
+    by_number (in_size seed one is) =
+        let bad = number_refused Size generation.size fault is in
+        let first = number_writes Seed generation.seed seed one in
+        bad_number Size bad.is (inr (inl (record { generation = generation; taken = form; first_bad = inr (seed, first, refl, bad.other) })))
 
 -- what words with a fault are
 data AreFaulty (words : List (List ℕ)) (fault : WordsFault) : Type 0 where
@@ -76,6 +91,8 @@ are_faulty words fault e = by_kind (kind words)
     by_kind : Kind words → AreFaulty words fault
     by_kind (of_list uncommitted form is) = absurd cc
     by_kind (of_command command options form is) = taken (fault_of_command command words options fault form (sym is ∙ e))
+    by_kind (of_batch jobs form is) = absurd cc
+    by_kind (of_generation generation form is) = taken (generation_fault words generation fault form (sym is ∙ e))
     by_kind (of_migration migration form is) = taken (retire_fault words migration fault form (sym is ∙ e))
     by_kind (of_refused refused is) = not_read (inr refused) (cc (sym is ∙ e))
     by_kind (of_none none is) = not_read (inl none) (cc (sym is ∙ e))
@@ -96,6 +113,8 @@ none_named words none = by_kind (kind words)
     by_kind : Kind words → words_of words ≡ Err NotRead
     by_kind (of_list uncommitted form is) = absurd (none commands.List form.behind form.are)
     by_kind (of_command name options form is) = absurd (none (row_of name) form.behind form.are)
+    by_kind (of_batch jobs form is) = absurd (none commands.Batch form.behind form.are)
+    by_kind (of_generation generation form is) = absurd (none commands.Gen form.behind form.are)
     by_kind (of_migration migration form is) = absurd (none commands.Migrate form.behind form.are)
     by_kind (of_refused refused is) = is
     by_kind (of_none other is) = is
@@ -127,9 +146,18 @@ retire_named words name h =
     subst (λ k. words_of words ≡ Err (BadNumber k)) (sym h.option) (migration_words words h.migration h.taken
     ∙ ap (λ r. r >>= λ retire. Ok (requests.Migrate (record { keyring = h.migration.keyring; retire = retire }))) (bad_read Retire h.migration.retire h.bad))
 
+generation_named : (words : List (List ℕ)) (name : OptionName) → HasBadGeneration words name → words_of words ≡ Err (BadNumber name)
+generation_named words name h = generation_words words h.generation h.taken ∙ generation_fails h.generation (BadNumber name) (elim h.first_bad [
+  | inl bad ↦ in_seed (subst (λ k. number_of Seed h.generation.seed ≡ Err (BadNumber k)) (sym bad.0) (number_bad Seed h.generation.seed bad.1))
+  | inr bad ↦
+      in_size bad.0 (number_read Seed h.generation.seed bad.0 bad.1)
+      (subst (λ k. number_of Size h.generation.size ≡ Err (BadNumber k)) (sym bad.2) (number_bad Size h.generation.size bad.3))
+])
+
 pub bad_number_named : (words : List (List ℕ)) (name : OptionName) → HasBadNumber words name → words_of words ≡ Err (BadNumber name)
 bad_number_named words name (inl first) = first_named words name first
-bad_number_named words name (inr retire) = retire_named words name retire
+bad_number_named words name (inr (inl generation)) = generation_named words name generation
+bad_number_named words name (inr (inr retire)) = retire_named words name retire
 
 -- ---- a bad pair
 

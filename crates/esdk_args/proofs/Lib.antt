@@ -7,6 +7,7 @@ pub mod OnePair
 pub mod Pairs
 pub mod Walks
 pub mod Steps
+pub mod Generations
 pub mod Plains
 pub mod Requests
 pub mod Faults

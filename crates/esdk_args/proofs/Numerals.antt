@@ -13,7 +13,7 @@ use Rattle.std.proofs.lemmas.Fmt.{digits_decimal, digits_value-decimal, decimal_
 use Rattle.esdk_args.specs.declared.options.OptionName.{OptionName}
 use Rattle.esdk_args.specs.declared.request.WordsFault.{WordsFault}
 use Rattle.esdk_args.specs.declared.request.WordsFault.TheVariants.{BadNumber}
-use Rattle.esdk_args.specs.Options.{greatest}
+use Rattle.esdk_args.specs.Options.{greatest, least}
 use Rattle.esdk_args.specs.Numbers.{decimal_value, is_numeral, number_of}
 use Rattle.esdk_args.specs.Spelling.{Writes, WritesFor}
 
@@ -61,21 +61,21 @@ refused true v fault other e = absurd cc
 refused false v fault other e = (refl, cc)
 
 abbrev passes : OptionName → List ℕ → Bool
-passes name word = is_numeral word && nat_le 1 (decimal_value word) && nat_le (decimal_value word) (greatest name)
+passes name word = is_numeral word && nat_le (least name) (decimal_value word) && nat_le (decimal_value word) (greatest name)
 
 passed : (name : OptionName) (word : List ℕ) → passes name word ≡ true → WritesFor name word (decimal_value word)
 passed name word e =
     let v = decimal_value word in
-    let t = and_parts (is_numeral word && nat_le 1 v) (nat_le v (greatest name)) e in
-    let parts = and_parts (is_numeral word) (nat_le 1 v) t.0 in
-    (writes word parts.0, leb-true 1 v parts.1, leb-true v (greatest name) t.1)
+    let t = and_parts (is_numeral word && nat_le (least name) v) (nat_le v (greatest name)) e in
+    let parts = and_parts (is_numeral word) (nat_le (least name) v) t.0 in
+    (writes word parts.0, leb-true (least name) v parts.1, leb-true v (greatest name) t.1)
 
 passes_when : (name : OptionName) (word : List ℕ) (n : ℕ) → WritesFor name word n → passes name word ≡ true
 passes_when name word n w =
     let v = decimal_value word in
     let e : v ≡ n = w.0.value in
-    and_from (is_numeral word && nat_le 1 v) (nat_le v (greatest name))
-    (and_from (is_numeral word) (nat_le 1 v) (is_numeral_when word n w.0) (le-leb 1 v (omega (arith, e, w.1))))
+    and_from (is_numeral word && nat_le (least name) v) (nat_le v (greatest name))
+    (and_from (is_numeral word) (nat_le (least name) v) (is_numeral_when word n w.0) (le-leb (least name) v (omega (arith, e, w.1))))
     (le-leb v (greatest name) (omega (arith, e, w.2)))
 
 pub number_read : (name : OptionName) (word : List ℕ) (n : ℕ) → WritesFor name word n → number_of name word ≡ Ok n

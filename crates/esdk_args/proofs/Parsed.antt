@@ -6,9 +6,9 @@ use Rattle.std.specs.declared.num.ParseIntError.{ParseIntError}
 use Rattle.std.proofs.lemmas.Bool.{cases_lt}
 use Rattle.std.proofs.lemmas.Str.Parse.{parse_digits}
 use Rattle.esdk_args.specs.declared.options.OptionName.{OptionName}
-use Rattle.esdk_args.specs.declared.options.OptionName.TheVariants.{Frame, MaxKeys, MaxUnit, Retire}
+use Rattle.esdk_args.specs.declared.options.OptionName.TheVariants.{Frame, MaxKeys, MaxUnit, Retire, Seed, Size}
 use Rattle.esdk_args.specs.declared.request.WordsFault.TheVariants.{BadNumber}
-use Rattle.esdk_args.specs.Options.{greatest}
+use Rattle.esdk_args.specs.Options.{greatest, least}
 use Rattle.esdk_args.specs.Numbers.{decimal_value, is_numeral, number_of}
 use Rattle.esdk_args.specs.Spelling.{Writes}
 use Rattle.esdk_args.proofs.Numerals.{own, writes, are_digits, number_read, number_bad}
@@ -18,6 +18,8 @@ greatest_fits Frame = omega arith
 greatest_fits MaxKeys = omega arith
 greatest_fits MaxUnit = omega arith
 greatest_fits Retire = omega arith
+greatest_fits Seed = omega arith
+greatest_fits Size = omega arith
 
 -- the number is the numeral's value
 pub parsed_value : (word : List ℕ) (n : ℕ) → is_numeral word ≡ true → ParsesUnsigned {E = ParseIntError} 64 10 word (Ok n) → decimal_value word ≡ n
@@ -35,11 +37,11 @@ unparsed_value word e numeral h =
     ]
 
 -- a value that is in the option's range, and one that isn't
-pub in_range : (name : OptionName) (word : List ℕ) (n : ℕ) → is_numeral word ≡ true → decimal_value word ≡ n → 1 ≤ n → n ≤ greatest name → number_of name word ≡ Ok n
-in_range name word n numeral value least most =
-    number_read name word n (subst (Writes word) value (writes word numeral), least, most)
+pub in_range : (name : OptionName) (word : List ℕ) (n : ℕ) → is_numeral word ≡ true → decimal_value word ≡ n → least name ≤ n → n ≤ greatest name → number_of name word ≡ Ok n
+in_range name word n numeral value from upto =
+    number_read name word n (subst (Writes word) value (writes word numeral), from, upto)
 
-pub out_of_range : (name : OptionName) (word : List ℕ) (n : ℕ) → decimal_value word ≡ n → ((1 ≤ n) × (n ≤ greatest name) → ⊥) → number_of name word ≡ Err (BadNumber name)
+pub out_of_range : (name : OptionName) (word : List ℕ) (n : ℕ) → decimal_value word ≡ n → ((least name ≤ n) × (n ≤ greatest name) → ⊥) → number_of name word ≡ Err (BadNumber name)
 out_of_range name word n value out =
     number_bad name word (λ m w. let same : decimal_value word ≡ m = w.0.value in out (omega (arith, same, value, w.1), omega (arith, same, value, w.2)))
 

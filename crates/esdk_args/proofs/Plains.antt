@@ -11,12 +11,12 @@ use Rattle.clap.proofs.OnLiterals.{clap_on_literals}
 use Rattle.esdk_args.specs.declared.commands.CommandName.{CommandName}
 use Rattle.esdk_args.specs.declared.commands.CommandName.TheVariants as commands
 use Rattle.esdk_args.specs.declared.options.OptionName.{OptionName}
-use Rattle.esdk_args.specs.declared.options.OptionName.TheVariants.{Frame, MaxKeys, MaxUnit, Retire}
+use Rattle.esdk_args.specs.declared.options.OptionName.TheVariants.{Frame, MaxKeys, MaxUnit, Retire, Seed, Size}
 use Rattle.esdk_args.specs.Commands.{app_of_command, command_text}
 use Rattle.esdk_args.specs.Options.{option_name, option_text}
-use Rattle.esdk_args.specs.Plain.{AreForm, AreMigrationForm, IsValue, flag_words, has_flag, option_words}
-use Rattle.esdk_args.specs.Spelling.{AreListing, AreMigration, AreTaken, Command, decryption, encryption, first_of, row_of, second_of}
-use Rattle.esdk_args.specs.Words.{MigrationValue, OptionsValue, migration_in, options_in}
+use Rattle.esdk_args.specs.Plain.{AreBatchForm, AreForm, AreGenerationForm, AreMigrationForm, IsValue, flag_words, has_flag, option_words}
+use Rattle.esdk_args.specs.Spelling.{AreBatch, AreGeneration, AreListing, AreMigration, AreTaken, Command, decryption, encryption, first_of, row_of, second_of}
+use Rattle.esdk_args.specs.Words.{GenerationValue, MigrationValue, OptionsValue, generation_in, migration_in, options_in, value_in}
 use Rattle.esdk_args.proofs.Walks.{HasFlag, HasOption, HasPairs, IsReady, Reaches, ends_fault, ends_rows, flag_row, no_more, option_ready, option_row, over_flag, over_option, over_pairs, pair_rows, rows_ready, standing, stays}
 
 -- the built command of a row
@@ -34,6 +34,8 @@ fault_is : (name : CommandName) (words : List (List ℕ)) (settled : List Row) �
 fault_is commands.List words settled r = leaf_fault (built (app_of_command commands.List)) nothing_held words refl ∙ ends_fault (shape commands.List) words settled r
 fault_is commands.Encrypt words settled r = leaf_fault (built (app_of_command commands.Encrypt)) nothing_held words refl ∙ ends_fault (shape commands.Encrypt) words settled r
 fault_is commands.Decrypt words settled r = leaf_fault (built (app_of_command commands.Decrypt)) nothing_held words refl ∙ ends_fault (shape commands.Decrypt) words settled r
+fault_is commands.Batch words settled r = leaf_fault (built (app_of_command commands.Batch)) nothing_held words refl ∙ ends_fault (shape commands.Batch) words settled r
+fault_is commands.Gen words settled r = leaf_fault (built (app_of_command commands.Gen)) nothing_held words refl ∙ ends_fault (shape commands.Gen) words settled r
 fault_is commands.Migrate words settled r = leaf_fault (built (app_of_command commands.Migrate)) nothing_held words refl ∙ ends_fault (shape commands.Migrate) words settled r
 
 rows_are : (name : CommandName) (words : List (List ℕ)) (settled : List Row) → Ends name words settled
@@ -41,6 +43,8 @@ rows_are : (name : CommandName) (words : List (List ℕ)) (settled : List Row) �
 rows_are commands.List words settled r = ends_rows (shape commands.List) words settled r
 rows_are commands.Encrypt words settled r = ends_rows (shape commands.Encrypt) words settled r
 rows_are commands.Decrypt words settled r = ends_rows (shape commands.Decrypt) words settled r
+rows_are commands.Batch words settled r = ends_rows (shape commands.Batch) words settled r
+rows_are commands.Gen words settled r = ends_rows (shape commands.Gen) words settled r
 rows_are commands.Migrate words settled r = ends_rows (shape commands.Migrate) words settled r
 
 -- ---- the options of each row
@@ -66,6 +70,15 @@ decrypt_flag = record { once = refl; long = refl; not_dashes = refl; by_long = r
 
 list_flag : HasFlag (shape commands.List) (codes "allow-uncommitted")
 list_flag = record { once = refl; long = refl; not_dashes = refl; by_long = refl }
+
+batch_jobs : HasOption (shape commands.Batch) (codes "jobs") true
+batch_jobs = record { once = refl; long = refl; not_dashes = refl; by_long = refl; by_id = refl }
+
+gen_seed : HasOption (shape commands.Gen) (option_name Seed) true
+gen_seed = record { once = refl; long = refl; not_dashes = refl; by_long = refl; by_id = refl }
+
+gen_size : HasOption (shape commands.Gen) (option_name Size) true
+gen_size = record { once = refl; long = refl; not_dashes = refl; by_long = refl; by_id = refl }
 
 migrate_keyring : HasOption (shape commands.Migrate) (codes "keyring") true
 migrate_keyring = record { once = refl; long = refl; not_dashes = refl; by_long = refl; by_id = refl }
@@ -106,18 +119,24 @@ no_pairs Frame = refl
 no_pairs MaxKeys = refl
 no_pairs MaxUnit = refl
 no_pairs Retire = refl
+no_pairs Seed = refl
+no_pairs Size = refl
 
 no_flag : (name : OptionName) → bytes_eq (option_name name) (codes "allow-uncommitted") ≡ false
 no_flag Frame = refl
 no_flag MaxKeys = refl
 no_flag MaxUnit = refl
 no_flag Retire = refl
+no_flag Seed = refl
+no_flag Size = refl
 
 no_keyring : (name : OptionName) (keyring : List ℕ) → has_row (option_name name) (keyring_rows keyring) ≡ false
 no_keyring Frame keyring = refl
 no_keyring MaxKeys keyring = refl
 no_keyring MaxUnit keyring = refl
 no_keyring Retire keyring = refl
+no_keyring Seed keyring = refl
+no_keyring Size keyring = refl
 
 unlike_options : (name : Command) → bytes_eq (option_name (first_of name)) (option_name (second_of name)) ≡ false
 unlike_options encryption = refl
@@ -128,6 +147,8 @@ dashes Frame = refl
 dashes MaxKeys = refl
 dashes MaxUnit = refl
 dashes Retire = refl
+dashes Seed = refl
+dashes Size = refl
 
 -- ---- from piece to piece
 
@@ -267,7 +288,7 @@ command_taken name words options form =
       options_are = ap (options_in (first_of name) (second_of name)) (rows_are (row_of name) behind settled ends) ∙ is.options_are;
     }
 
--- ---- the listing and the migration
+-- ---- the commands without pairs
 
 pub list_taken : (uncommitted : Bool) → AreListing (codes "list" ∷ flag_words uncommitted) uncommitted
 unfolding clap_on_literals
@@ -309,4 +330,82 @@ migration_taken words migration form =
       are = form.are ∙ ap (λ l. codes "migrate" ∷ codes "--keyring" ∷ migration.keyring ∷ l) (sym (append-nil (option_words (option_text Retire) migration.retire)));
       taken = fault_is commands.Migrate behind settled ends ∙ is.fault;
       options_are = ap migration_in (rows_are commands.Migrate behind settled ends) ∙ is.options_are;
+    }
+
+-- ---- the batch and the generation
+
+batch_ends : (jobs : List ℕ) → IsValue jobs → Ends commands.Batch (codes "--jobs" ∷ jobs ∷ []) (option_row (codes "jobs") true jobs ∷ [])
+batch_ends jobs value =
+    let s = shape commands.Batch in
+    let after = standing [] (Some (codes "jobs", jobs ∷ [])) idle in
+    record {
+      rows = [];
+      pending = Some (codes "jobs", jobs ∷ []);
+      waiting = idle;
+      goes = over_option s (codes "jobs") true jobs [] [] None [] after batch_jobs value (rows_ready s []) (stays s after);
+      ready = option_ready s (codes "jobs") true jobs [] batch_jobs refl;
+    }
+
+record IsFoundBatch (settled : List Row) (jobs : List ℕ) : Type 0 where
+  fault : or_else (defaults_fault settled (shape commands.Batch).rules) (check_fault (shape commands.Batch) (fold with_default settled (shape commands.Batch).rules) false) ≡ []
+  jobs_are : value_in (codes "jobs") (fold with_default settled (shape commands.Batch).rules) ≡ jobs
+
+found_batch : (jobs : List ℕ) → IsFoundBatch (option_row (codes "jobs") true jobs ∷ []) jobs
+unfolding clap_on_literals
+found_batch jobs = record { fault = refl; jobs_are = refl }
+
+pub batch_taken : (words : List (List ℕ)) (jobs : List ℕ) → AreBatchForm words jobs → AreBatch words jobs
+batch_taken words jobs form =
+    let behind = codes "--jobs" ∷ jobs ∷ [] in
+    let settled = option_row (codes "jobs") true jobs ∷ [] in
+    let ends = batch_ends jobs form.name in
+    let is = found_batch jobs in
+    record {
+      behind = behind;
+      are = form.are;
+      taken = fault_is commands.Batch behind settled ends ∙ is.fault;
+      jobs_are = ap (value_in (codes "jobs")) (rows_are commands.Batch behind settled ends) ∙ is.jobs_are;
+    }
+
+-- the rows of a generation
+abbrev seed_rows : List ℕ → List Row
+seed_rows seed = option_row (option_name Seed) true seed ∷ []
+
+abbrev generation_rows : List ℕ → List ℕ → List Row
+generation_rows seed size = seed_rows seed ++ option_row (option_name Size) true size ∷ []
+
+generation_ends : (seed size : List ℕ) → IsValue seed → IsValue size
+    → Ends commands.Gen (option_text Seed ∷ seed ∷ option_text Size ∷ size ∷ []) (generation_rows seed size)
+generation_ends seed size first second =
+    let s = shape commands.Gen in
+    let after = standing (seed_rows seed) (Some (option_name Size, size ∷ [])) idle in
+    let rest = over_option s (option_name Size) true size [] (seed_rows seed) (Some (option_name Seed, seed ∷ [])) [] after gen_size second
+    (option_ready s (option_name Seed) true seed [] gen_seed refl) (stays s after) in
+    record {
+      rows = seed_rows seed;
+      pending = Some (option_name Size, size ∷ []);
+      waiting = idle;
+      goes = over_option s (option_name Seed) true seed [] [] None (option_text Size ∷ size ∷ []) after gen_seed first (rows_ready s []) rest;
+      ready = option_ready s (option_name Size) true size (seed_rows seed) gen_size refl;
+    }
+
+record IsFoundGeneration (settled : List Row) (generation : GenerationValue) : Type 0 where
+  fault : or_else (defaults_fault settled (shape commands.Gen).rules) (check_fault (shape commands.Gen) (fold with_default settled (shape commands.Gen).rules) false) ≡ []
+  options_are : generation_in (fold with_default settled (shape commands.Gen).rules) ≡ generation
+
+found_generation : (seed size : List ℕ) → IsFoundGeneration (generation_rows seed size) (record { seed = seed; size = size })
+unfolding clap_on_literals
+found_generation seed size = record { fault = refl; options_are = refl }
+
+pub generation_taken : (words : List (List ℕ)) (generation : GenerationValue) → AreGenerationForm words generation → AreGeneration words generation
+generation_taken words generation form =
+    let behind = option_text Seed ∷ generation.seed ∷ option_text Size ∷ generation.size ∷ [] in
+    let settled = generation_rows generation.seed generation.size in
+    let ends = generation_ends generation.seed generation.size form.seed form.size in
+    let is = found_generation generation.seed generation.size in
+    record {
+      behind = behind;
+      are = form.are;
+      taken = fault_is commands.Gen behind settled ends ∙ is.fault;
+      options_are = ap generation_in (rows_are commands.Gen behind settled ends) ∙ is.options_are;
     }

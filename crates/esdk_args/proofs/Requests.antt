@@ -2,7 +2,7 @@
 use Rattle.std.proofs.Common.{◌≡◌, ℕ, Bool, List, refl, sym, ap, subst, ◌∙◌}
 use Rattle.std.specs.Prelude.{All, map, Option, Result, Ok, Err}
 use Rattle.std.specs.Option.{unwrap_or}
-use Rattle.esdk_args.specs.declared.options.OptionName.TheVariants.{Frame, MaxKeys, MaxUnit, Retire}
+use Rattle.esdk_args.specs.declared.options.OptionName.TheVariants.{Frame, MaxKeys, MaxUnit, Retire, Seed, Size}
 use Rattle.esdk_args.specs.declared.pair_words.PairWord.{PairWord}
 use Rattle.esdk_args.specs.declared.request.Request.{Request}
 use Rattle.esdk_args.specs.declared.request.Request.TheVariants as requests
@@ -14,11 +14,13 @@ use Rattle.esdk_args.specs.declared.request.WordsFault.{WordsFault}
 use Rattle.esdk_args.specs.PairWords.{pairs_of}
 use Rattle.esdk_args.specs.Faults.{◌>>=◌}
 use Rattle.esdk_args.specs.Numbers.{number_given}
-use Rattle.esdk_args.specs.Words.{MigrationValue, OptionsValue, migrate_of, words_of}
-use Rattle.esdk_args.specs.Spelling.{AreMigration, AreTaken, AsksDecrypt, AsksEncrypt, AsksList, AsksMigrate, Command, IsPair, decryption, encryption, first_of, pair_text, second_of}
+use Rattle.esdk_args.specs.Words.{GenerationValue, MigrationValue, OptionsValue, gen_of, migrate_of, words_of}
+use Rattle.esdk_args.specs.Spelling.{AreMigration, AreTaken, AsksBatch, AsksDecrypt, AsksEncrypt, AsksGen, AsksList, AsksMigrate, Command, IsPair, WritesFor, decryption, encryption, first_of, pair_text, second_of}
 use Rattle.esdk_args.proofs.Given.{frame_gives, frame_value, gives_read, number_gives}
+use Rattle.esdk_args.proofs.Generations.{generation_made, is_generation}
+use Rattle.esdk_args.proofs.Numerals.{number_read, number_writes}
 use Rattle.esdk_args.proofs.Pairs.{pairs_named, pairs_read}
-use Rattle.esdk_args.proofs.Steps.{AreDone, Kind, command_words, done, kind, listing_words, made, migration_words, of_command, of_list, of_migration, of_none, of_refused, request_with, steps_done}
+use Rattle.esdk_args.proofs.Steps.{AreDone, Kind, batch_words, command_words, done, generation_words, kind, listing_words, made, migration_words, of_batch, of_command, of_generation, of_list, of_migration, of_none, of_refused, request_with, steps_done}
 
 -- the parts of a command's request
 abbrev IsMade : Command → OptionsValue → Request → Type 0
@@ -44,18 +46,32 @@ is_migration migration request e = by_number (number_given Retire migration.reti
     by_number (Err fault) given e = absurd cc
 
 -- no migration is another request
-abbrev IsOtherRequest : Request → Type 0
-IsOtherRequest (requests.Migrate asked) = ⊥
-IsOtherRequest request = Unit {0}
+abbrev IsNoMigration : Request → Type 0
+IsNoMigration (requests.Migrate asked) = ⊥
+IsNoMigration request = Unit {0}
 
-no_other : (migration : MigrationValue) (request : Request) → IsOtherRequest request → migrate_of migration ≡ Ok request → ⊥
-no_other migration request other e = let m = is_migration migration request e in subst IsOtherRequest (sym m.is) other
+no_migration : (migration : MigrationValue) (request : Request) → IsNoMigration request → migrate_of migration ≡ Ok request → ⊥
+no_migration migration request other e = let m = is_migration migration request e in subst IsNoMigration (sym m.is) other
+
+-- no generation is another request
+abbrev IsNoGeneration : Request → Type 0
+IsNoGeneration (requests.Gen seed size) = ⊥
+IsNoGeneration request = Unit {0}
+
+no_generation : (generation : GenerationValue) (request : Request) → IsNoGeneration request → gen_of generation ≡ Ok request → ⊥
+no_generation generation request other e = let m = is_generation generation request e in subst IsNoGeneration (sym m.is) other
+
+-- no command with pairs makes a request without them
+abbrev HasNoPairs : Request → Type 0
+HasNoPairs (requests.Encrypt asked) = ⊥
+HasNoPairs (requests.Decrypt asked) = ⊥
+HasNoPairs request = Unit {0}
+
+no_command : (name : Command) (options : OptionsValue) (request : Request) → HasNoPairs request → request_with name options ≡ Ok request → ⊥
+no_command encryption options request other e = let d = is_made encryption options request e in subst HasNoPairs (sym d.is) other
+no_command decryption options request other e = let d = is_made decryption options request e in subst HasNoPairs (sym d.is) other
 
 -- ---- the listing
-
-no_listing : (name : Command) (options : OptionsValue) (asked : ListWords) → IsMade name options (requests.List asked) → ⊥
-no_listing encryption options asked d = let other = d.is in cc
-no_listing decryption options asked d = let other = d.is in cc
 
 -- words that are read as a listing ask for it
 pub list_asks : (words : List (List ℕ)) (asked : ListWords) → words_of words ≡ Ok (requests.List asked) → AsksList words asked
@@ -65,8 +81,10 @@ list_asks words asked e = by_kind (kind words)
     by_kind (of_list uncommitted form is) =
         let same : ◌≡◌ {A = ListWords} (record { uncommitted = uncommitted }) asked = cc in
         subst (AsksList words) same form
-    by_kind (of_command name options form is) = absurd (no_listing name options asked (is_made name options (requests.List asked) (sym is ∙ e)))
-    by_kind (of_migration migration form is) = absurd (no_other migration (requests.List asked) tt (sym is ∙ e))
+    by_kind (of_command name options form is) = absurd (no_command name options (requests.List asked) tt (sym is ∙ e))
+    by_kind (of_batch jobs form is) = absurd cc
+    by_kind (of_generation generation form is) = absurd (no_generation generation (requests.List asked) tt (sym is ∙ e))
+    by_kind (of_migration migration form is) = absurd (no_migration migration (requests.List asked) tt (sym is ∙ e))
     by_kind (of_refused refused is) = absurd cc
     by_kind (of_none none is) = absurd cc
 
@@ -104,7 +122,9 @@ encrypt_asks words asked e = by_kind (kind words)
       where
         unlike : IsMade decryption options (requests.Encrypt asked) → ⊥
         unlike d = let other = d.is in cc
-    by_kind (of_migration migration form is) = absurd (no_other migration (requests.Encrypt asked) tt (sym is ∙ e))
+    by_kind (of_batch jobs form is) = absurd cc
+    by_kind (of_generation generation form is) = absurd (no_generation generation (requests.Encrypt asked) tt (sym is ∙ e))
+    by_kind (of_migration migration form is) = absurd (no_migration migration (requests.Encrypt asked) tt (sym is ∙ e))
     by_kind (of_refused refused is) = absurd cc
     by_kind (of_none none is) = absurd cc
 
@@ -156,7 +176,9 @@ decrypt_asks words asked e = by_kind (kind words)
       where
         unlike : IsMade encryption options (requests.Decrypt asked) → ⊥
         unlike d = let other = d.is in cc
-    by_kind (of_migration migration form is) = absurd (no_other migration (requests.Decrypt asked) tt (sym is ∙ e))
+    by_kind (of_batch jobs form is) = absurd cc
+    by_kind (of_generation generation form is) = absurd (no_generation generation (requests.Decrypt asked) tt (sym is ∙ e))
+    by_kind (of_migration migration form is) = absurd (no_migration migration (requests.Decrypt asked) tt (sym is ∙ e))
     by_kind (of_refused refused is) = absurd cc
     by_kind (of_none none is) = absurd cc
 
@@ -168,6 +190,56 @@ decrypt_is_read words asked s =
     given_words decryption words s.options asked.max_keys asked.max_unit asked.pairs s.taken (gives_read MaxKeys s.options.first asked.max_keys s.max_keys)
     (gives_read MaxUnit s.options.second asked.max_unit s.max_unit) s.pairs_are s.pairs
     ∙ ap (λ k. request k s.options.uncommitted) s.keyring ∙ ap (request asked.keyring) s.flag
+
+-- ---- a batch
+
+-- words that are read as a batch ask for it
+pub batch_asks : (words : List (List ℕ)) (jobs : List ℕ) → words_of words ≡ Ok (requests.Batch jobs) → AsksBatch words jobs
+batch_asks words jobs e = by_kind (kind words)
+  where
+    by_kind : Kind words → AsksBatch words jobs
+    by_kind (of_list uncommitted form is) = absurd cc
+    by_kind (of_command name options form is) = absurd (no_command name options (requests.Batch jobs) tt (sym is ∙ e))
+    by_kind (of_batch other form is) = let same : other ≡ jobs = cc in subst (AsksBatch words) same form
+    by_kind (of_generation generation form is) = absurd (no_generation generation (requests.Batch jobs) tt (sym is ∙ e))
+    by_kind (of_migration migration form is) = absurd (no_migration migration (requests.Batch jobs) tt (sym is ∙ e))
+    by_kind (of_refused refused is) = absurd cc
+    by_kind (of_none none is) = absurd cc
+
+-- words that ask for a batch are read as it
+pub batch_is_read : (words : List (List ℕ)) (jobs : List ℕ) → AsksBatch words jobs → words_of words ≡ Ok (requests.Batch jobs)
+batch_is_read = batch_words
+
+-- ---- a generation
+
+-- words that are read as a generation ask for it
+pub gen_asks : (words : List (List ℕ)) (seed size : ℕ) → words_of words ≡ Ok (requests.Gen seed size) → AsksGen words seed size
+gen_asks words seed size e = by_kind (kind words)
+  where
+    by_kind : Kind words → AsksGen words seed size
+    by_kind (of_list uncommitted form is) = absurd cc
+    by_kind (of_command name options form is) = absurd (no_command name options (requests.Gen seed size) tt (sym is ∙ e))
+    by_kind (of_batch jobs form is) = absurd cc
+    by_kind (of_generation generation form is) =
+        let m = is_generation generation (requests.Gen seed size) (sym is ∙ e) in
+        let made = m.is in
+        let seeds : m.seed ≡ seed = cc in
+        let sizes : m.size ≡ size = cc in
+        record {
+          generation = generation;
+          taken = form;
+          seed_is = subst (WritesFor Seed generation.seed) seeds (number_writes Seed generation.seed m.seed m.seed_is);
+          size_is = subst (WritesFor Size generation.size) sizes (number_writes Size generation.size m.size m.size_is);
+        }
+    by_kind (of_migration migration form is) = absurd (no_migration migration (requests.Gen seed size) tt (sym is ∙ e))
+    by_kind (of_refused refused is) = absurd cc
+    by_kind (of_none none is) = absurd cc
+
+-- words that ask for a generation are read as it
+pub gen_is_read : (words : List (List ℕ)) (seed size : ℕ) → AsksGen words seed size → words_of words ≡ Ok (requests.Gen seed size)
+gen_is_read words seed size s =
+    generation_words words s.generation s.taken
+    ∙ generation_made s.generation seed size (number_read Seed s.generation.seed seed s.seed_is) (number_read Size s.generation.size size s.size_is)
 
 -- ---- a migration
 
@@ -189,14 +261,9 @@ migrate_asks words asked e = by_kind (kind words)
   where
     by_kind : Kind words → AsksMigrate words asked
     by_kind (of_list uncommitted form is) = absurd cc
-    by_kind (of_command encryption options form is) = absurd (unlike (is_made encryption options (requests.Migrate asked) (sym is ∙ e)))
-      where
-        unlike : IsMade encryption options (requests.Migrate asked) → ⊥
-        unlike d = let other = d.is in cc
-    by_kind (of_command decryption options form is) = absurd (unlike (is_made decryption options (requests.Migrate asked) (sym is ∙ e)))
-      where
-        unlike : IsMade decryption options (requests.Migrate asked) → ⊥
-        unlike d = let other = d.is in cc
+    by_kind (of_command name options form is) = absurd (no_command name options (requests.Migrate asked) tt (sym is ∙ e))
+    by_kind (of_batch jobs form is) = absurd cc
+    by_kind (of_generation generation form is) = absurd (no_generation generation (requests.Migrate asked) tt (sym is ∙ e))
     by_kind (of_migration migration form is) = migration_made words migration asked form (is_migration migration (requests.Migrate asked) (sym is ∙ e))
     by_kind (of_refused refused is) = absurd cc
     by_kind (of_none none is) = absurd cc

@@ -1,9 +1,10 @@
--- Where `clap` takes the words behind a command that has `--keyring`, a value of it was found.
+-- Where `clap` takes the words behind a command, a value of each of its required options was found.
 use Rattle.std.proofs.Common.{◌≡◌, ◌∙◌, ◌&&◌, ◌||◌, ℕ, Bool, true, false, zero, suc, List, [], ◌∷◌, ◌++◌, drop, length, refl, sym, ap, subst}
-use Rattle.std.specs.Prelude.{◌≢◌, IsSome, Option, Some, None, codes, encode_utf8, find, fold, is_some, nat_lt, not, option_and_then, slice_get, if◌then◌else◌}
+use Rattle.std.specs.Prelude.{All, IsSome, Option, Some, None, codes, encode_utf8, find, fold, is_some, nat_lt, not, option_and_then, slice_get, if◌then◌else◌}
 use Rattle.std.specs.List.{list_all}
 use Rattle.std.specs.Option.{option_map_or}
 use Rattle.std.specs.Str.{bytes_eq, chars}
+use Rattle.std.proofs.lemmas.List.Elements.{All-cons, All-nil, All-weaker}
 use Rattle.clap.specs.Facts.{unwrap_or_range}
 use Rattle.clap.specs.declared.error.kind.ErrorKind.TheVariants as kind
 use Rattle.clap.specs.Takes.{is_given}
@@ -15,7 +16,7 @@ use Rattle.clap.specs.Simple.{Shape, built, matches_of}
 use Rattle.clap.proofs.FaultLemmas.{leaf_fault}
 use Rattle.esdk_args.specs.declared.commands.CommandName.{CommandName}
 use Rattle.esdk_args.specs.declared.commands.CommandName.TheVariants as commands
-use Rattle.esdk_args.specs.Commands.{app_of_command}
+use Rattle.esdk_args.specs.Commands.{app_of_command, required_options}
 use Rattle.clap.specs.Walk.{Held, Outcome, Row, Rule, Step, Text, Waiting, Walk, action_of, after_flag, after_step, arg_by_id, arg_by_index, arg_by_long, arg_by_short, at_row, bundle, finished, first_of, flag_met, has_long, has_row, nothing_held, rows_after, subcommand_met, to_positional, walk, walk_from, walked_from, bundle_met, bundle_step, default_rows, done, idle, is_pending, long_met, long_or_other, more_values, next, option, option_met, option_word, plain, plain_word, positional, reading_by, refused, settled, settled_rows, short_or_plain, subcommand, takes_several, takes_values, trailing, used, used_as, used_by_id, value, waits, walked, with_default, with_values, without, word_met}
 use Rattle.clap.specs.declared.builder.action.ArgAction.{ArgAction}
 use Rattle.clap.specs.declared.builder.action.ArgAction.TheVariants as action
@@ -279,6 +280,10 @@ asked_given : (given rest : Bool) → (not given || rest) ≡ false → given �
 asked_given true rest e = refl
 asked_given false rest e = absurd cc
 
+none_asked : (given rest : Bool) → (not given || rest) ≡ false → rest ≡ false
+none_asked true rest e = e
+none_asked false rest e = absurd cc
+
 -- what the parse of a command asks at its end
 pub level_given : (s : Shape) (words : List Text) → list_all fills s.rules ≡ true → ((x : ℕ) → arg_by_short s.rules x ≡ None) → level_fault s [] nothing_held words false [] ≡ []
     → (list_all is_filled (rows_after s.rules [] words) ≡ true) × (check_fault s (rows_after s.rules [] words) false ≡ [])
@@ -291,24 +296,48 @@ level_given s words all_fill no_shorts none =
     let settled_all = settled_filled s.rules s.args_override_self all_fill no_shorts end.rows end.pending end.skip two.0 walked_rows in
     (finished_filled s.rules (settled_rows s.rules end.pending end.rows) settled_all, three.1)
 
--- ---- the keyring
+-- ---- required options
 
-keyring_found : (s : Shape) (words : List Text) → list_all fills s.rules ≡ true → ((x : ℕ) → arg_by_short s.rules x ≡ None) → level_fault s [] nothing_held words false [] ≡ []
-    → ((rows : List Row) → check_fault s rows false ≡ [] → is_given (codes "keyring") rows ≡ true) → IsSome (first_of (codes "keyring") (rows_after s.rules [] words))
-keyring_found s words all_fill no_shorts none asked =
+-- the values of a command's options, where no check is left that fails
+values_given : (s : Shape) (words : List Text) (ids : List Text) → list_all fills s.rules ≡ true → ((x : ℕ) → arg_by_short s.rules x ≡ None)
+    → level_fault s [] nothing_held words false [] ≡ [] → ((rows : List Row) → check_fault s rows false ≡ [] → All (λ id. is_given id rows ≡ true) ids)
+    → All (λ id. IsSome (first_of id (rows_after s.rules [] words))) ids
+values_given s words ids all_fill no_shorts none asked =
     let t = level_given s words all_fill no_shorts none in
-    given_value (codes "keyring") (rows_after s.rules [] words) t.0 (asked (rows_after s.rules [] words) t.1)
+    let rows = rows_after s.rules [] words in
+    All-weaker (λ id. is_given id rows ≡ true) (λ id. IsSome (first_of id rows)) (λ id given. given_value id rows t.0 given) ids (asked rows t.1)
 
--- the words that a command with `--keyring` takes give it a value
-pub keyring_given : (name : CommandName) (words : List Text) → name ≢ commands.List → fault_of (app_of_command name) words ≡ []
-    → IsSome (first_of (codes "keyring") (matches_of (app_of_command name) words))
-keyring_given commands.List words other none = absurd (other refl)
-keyring_given commands.Encrypt words other none =
-    keyring_found (built (app_of_command commands.Encrypt)).top words refl (λ x. refl) (sym (leaf_fault (built (app_of_command commands.Encrypt)) nothing_held words refl) ∙ none)
-    (λ rows e. asked_given (is_given (codes "keyring") rows) false (check_given false false (not (is_given (codes "keyring") rows) || false) e))
-keyring_given commands.Decrypt words other none =
-    keyring_found (built (app_of_command commands.Decrypt)).top words refl (λ x. refl) (sym (leaf_fault (built (app_of_command commands.Decrypt)) nothing_held words refl) ∙ none)
-    (λ rows e. asked_given (is_given (codes "keyring") rows) false (check_given false false (not (is_given (codes "keyring") rows) || false) e))
-keyring_given commands.Migrate words other none =
-    keyring_found (built (app_of_command commands.Migrate)).top words refl (λ x. refl) (sym (leaf_fault (built (app_of_command commands.Migrate)) nothing_held words refl) ∙ none)
-    (λ rows e. asked_given (is_given (codes "keyring") rows) false (check_given false false (not (is_given (codes "keyring") rows) || false) e))
+-- the one option that is required, and the two
+one_asked : (id : Text) (rows : List Row) → check_kinds false false (not (is_given id rows) || false) ≡ [] → All (λ id. is_given id rows ≡ true) (id ∷ [])
+one_asked id rows e =
+    All-cons (λ id. is_given id rows ≡ true) id [] (asked_given (is_given id rows) false (check_given false false (not (is_given id rows) || false) e))
+    (All-nil (λ id. is_given id rows ≡ true))
+
+two_asked : (one two : Text) (rows : List Row) → check_kinds false false (not (is_given one rows) || (not (is_given two rows) || false)) ≡ []
+    → All (λ id. is_given id rows ≡ true) (one ∷ two ∷ [])
+two_asked one two rows e =
+    let rest = not (is_given two rows) || false in
+    let asked = check_given false false (not (is_given one rows) || rest) e in
+    let none = none_asked (is_given one rows) rest asked in
+    All-cons (λ id. is_given id rows ≡ true) one (two ∷ []) (asked_given (is_given one rows) rest asked)
+    (All-cons (λ id. is_given id rows ≡ true) two [] (asked_given (is_given two rows) false none) (All-nil (λ id. is_given id rows ≡ true)))
+
+-- the words that a command takes give its required options values
+pub required_given : (name : CommandName) (words : List Text) → fault_of (app_of_command name) words ≡ []
+    → All (λ option. IsSome (first_of option (matches_of (app_of_command name) words))) (required_options name)
+required_given commands.List words none = All-nil (λ option. IsSome (first_of option (matches_of (app_of_command commands.List) words)))
+required_given commands.Encrypt words none =
+    values_given (built (app_of_command commands.Encrypt)).top words (codes "keyring" ∷ []) refl (λ x. refl)
+    (sym (leaf_fault (built (app_of_command commands.Encrypt)) nothing_held words refl) ∙ none) (one_asked (codes "keyring"))
+required_given commands.Decrypt words none =
+    values_given (built (app_of_command commands.Decrypt)).top words (codes "keyring" ∷ []) refl (λ x. refl)
+    (sym (leaf_fault (built (app_of_command commands.Decrypt)) nothing_held words refl) ∙ none) (one_asked (codes "keyring"))
+required_given commands.Batch words none =
+    values_given (built (app_of_command commands.Batch)).top words (codes "jobs" ∷ []) refl (λ x. refl)
+    (sym (leaf_fault (built (app_of_command commands.Batch)) nothing_held words refl) ∙ none) (one_asked (codes "jobs"))
+required_given commands.Gen words none =
+    values_given (built (app_of_command commands.Gen)).top words (codes "seed" ∷ codes "size" ∷ []) refl (λ x. refl)
+    (sym (leaf_fault (built (app_of_command commands.Gen)) nothing_held words refl) ∙ none) (two_asked (codes "seed") (codes "size"))
+required_given commands.Migrate words none =
+    values_given (built (app_of_command commands.Migrate)).top words (codes "keyring" ∷ []) refl (λ x. refl)
+    (sym (leaf_fault (built (app_of_command commands.Migrate)) nothing_held words refl) ∙ none) (one_asked (codes "keyring"))

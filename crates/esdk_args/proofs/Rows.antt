@@ -32,12 +32,16 @@ pub simple_and_free : (name : CommandName) → is_simple_and_free (app_of_comman
 simple_and_free commands.List = refl
 simple_and_free commands.Encrypt = refl
 simple_and_free commands.Decrypt = refl
+simple_and_free commands.Batch = refl
+simple_and_free commands.Gen = refl
 simple_and_free commands.Migrate = refl
 
 pub simple : (name : CommandName) → is_simple (app_of_command name) ≡ true
 simple commands.List = refl
 simple commands.Encrypt = refl
 simple commands.Decrypt = refl
+simple commands.Batch = refl
+simple commands.Gen = refl
 simple commands.Migrate = refl
 
 -- an error that isn't want of memory is a refusal

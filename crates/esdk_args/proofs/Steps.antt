@@ -17,8 +17,8 @@ use Rattle.esdk_args.specs.Commands.{app_of_command, command_named, command_text
 use Rattle.esdk_args.specs.PairWords.{pairs_of}
 use Rattle.esdk_args.specs.Faults.{◌>>=◌}
 use Rattle.esdk_args.specs.Numbers.{frame_given, number_given}
-use Rattle.esdk_args.specs.Words.{MigrationValue, OptionsValue, decrypt_of, encrypt_of, migrate_of, migration_in, options_in, read_behind, request_of, uncommitted_in, unless_refused, words_of}
-use Rattle.esdk_args.specs.Spelling.{AreListing, AreMigration, AreRefused, AreTaken, Command, NameNoCommand, decryption, encryption, first_of, row_of, second_of}
+use Rattle.esdk_args.specs.Words.{GenerationValue, MigrationValue, OptionsValue, decrypt_of, encrypt_of, gen_of, generation_in, migrate_of, migration_in, options_in, read_behind, request_of, uncommitted_in, unless_refused, value_in, words_of}
+use Rattle.esdk_args.specs.Spelling.{AreBatch, AreGeneration, AreListing, AreMigration, AreRefused, AreTaken, Command, NameNoCommand, decryption, encryption, first_of, row_of, second_of}
 use Rattle.esdk_args.proofs.Given.{frame_number}
 
 -- ---- two numbers and the pairs, in this order
@@ -114,6 +114,8 @@ pub named_back : (name : CommandName) → command_named (command_text name) ≡ 
 named_back commands.List = refl
 named_back commands.Encrypt = refl
 named_back commands.Decrypt = refl
+named_back commands.Batch = refl
+named_back commands.Gen = refl
 named_back commands.Migrate = refl
 
 same : (one other : CommandName) → Some one ≡ Some other → command_text one ≡ command_text other
@@ -122,17 +124,28 @@ same one other e = let is : one ≡ other = cc in ap command_text is
 -- a word that names a command is its word
 pub named_is : (word : List ℕ) (name : CommandName) → command_named word ≡ Some name → word ≡ command_text name
 named_is word name e =
-    by_word (bytes_eq word (codes "list")) (bytes_eq word (codes "encrypt")) (bytes_eq word (codes "decrypt")) (bytes_eq word (codes "migrate")) refl refl refl refl e
+    by_first (bytes_eq word (codes "list")) (bytes_eq word (codes "encrypt")) (bytes_eq word (codes "decrypt")) refl refl refl e
   where
-    by_word : (a b c d : Bool) → bytes_eq word (codes "list") ≡ a → bytes_eq word (codes "encrypt") ≡ b → bytes_eq word (codes "decrypt") ≡ c
-        → bytes_eq word (codes "migrate") ≡ d
-        → (if a then Some commands.List else if b then Some commands.Encrypt else if c then Some commands.Decrypt else if d then Some commands.Migrate else None) ≡ Some name
+    others : (d e f : Bool) → Option CommandName
+    others d e f = if d then Some commands.Batch else if e then Some commands.Gen else if f then Some commands.Migrate else None
+
+    by_last : (d e f : Bool) → bytes_eq word (codes "batch") ≡ d → bytes_eq word (codes "gen") ≡ e → bytes_eq word (codes "migrate") ≡ f → others d e f ≡ Some name
         → word ≡ command_text name
-    by_word true b c d is-a is-b is-c is-d e = (bytes_eq-Decides word (codes "list")).0 is-a ∙ same commands.List name e
-    by_word false true c d is-a is-b is-c is-d e = (bytes_eq-Decides word (codes "encrypt")).0 is-b ∙ same commands.Encrypt name e
-    by_word false false true d is-a is-b is-c is-d e = (bytes_eq-Decides word (codes "decrypt")).0 is-c ∙ same commands.Decrypt name e
-    by_word false false false true is-a is-b is-c is-d e = (bytes_eq-Decides word (codes "migrate")).0 is-d ∙ same commands.Migrate name e
-    by_word false false false false is-a is-b is-c is-d e = absurd cc
+    by_last true e f is-d is-e is-f at = (bytes_eq-Decides word (codes "batch")).0 is-d ∙ same commands.Batch name at
+    by_last false true f is-d is-e is-f at = (bytes_eq-Decides word (codes "gen")).0 is-e ∙ same commands.Gen name at
+    by_last false false true is-d is-e is-f at = (bytes_eq-Decides word (codes "migrate")).0 is-f ∙ same commands.Migrate name at
+    by_last false false false is-d is-e is-f at = absurd cc
+
+    last : Option CommandName
+    last = others (bytes_eq word (codes "batch")) (bytes_eq word (codes "gen")) (bytes_eq word (codes "migrate"))
+
+    by_first : (a b c : Bool) → bytes_eq word (codes "list") ≡ a → bytes_eq word (codes "encrypt") ≡ b → bytes_eq word (codes "decrypt") ≡ c
+        → (if a then Some commands.List else if b then Some commands.Encrypt else if c then Some commands.Decrypt else last) ≡ Some name → word ≡ command_text name
+    by_first true b c is-a is-b is-c at = (bytes_eq-Decides word (codes "list")).0 is-a ∙ same commands.List name at
+    by_first false true c is-a is-b is-c at = (bytes_eq-Decides word (codes "encrypt")).0 is-b ∙ same commands.Encrypt name at
+    by_first false false true is-a is-b is-c at = (bytes_eq-Decides word (codes "decrypt")).0 is-c ∙ same commands.Decrypt name at
+    by_first false false false is-a is-b is-c at =
+        by_last (bytes_eq word (codes "batch")) (bytes_eq word (codes "gen")) (bytes_eq word (codes "migrate")) refl refl refl at
 
 -- ---- what words are
 
@@ -173,6 +186,13 @@ taken_words name words options form =
 pub command_words : (name : Command) (words : List (List ℕ)) (options : OptionsValue) → AreTaken name words options → words_of words ≡ request_with name options
 command_words name words options form = taken_words name words options form ∙ command_request name options
 
+-- the words of a batch ask for it, and those of a generation for its request
+pub batch_words : (words : List (List ℕ)) (jobs : List ℕ) → AreBatch words jobs → words_of words ≡ Ok (requests.Batch jobs)
+batch_words words jobs form = reads_taken words form.behind commands.Batch form.are form.taken ∙ ap (λ j. Ok (requests.Batch j)) form.jobs_are
+
+pub generation_words : (words : List (List ℕ)) (generation : GenerationValue) → AreGeneration words generation → words_of words ≡ gen_of generation
+generation_words words generation form = reads_taken words form.behind commands.Gen form.are form.taken ∙ ap gen_of form.options_are
+
 -- the words of a migration ask for its request
 pub migration_words : (words : List (List ℕ)) (migration : MigrationValue) → AreMigration words migration → words_of words ≡ migrate_of migration
 migration_words words migration form = reads_taken words form.behind commands.Migrate form.are form.taken ∙ ap migrate_of form.options_are
@@ -181,6 +201,8 @@ migration_words words migration form = reads_taken words form.behind commands.Mi
 pub data Kind (words : List (List ℕ)) : Type 0 where
   of_list : (uncommitted : Bool) → AreListing words uncommitted → words_of words ≡ Ok (requests.List (record { uncommitted = uncommitted })) → Kind words
   of_command : (name : Command) (options : OptionsValue) → AreTaken name words options → words_of words ≡ request_with name options → Kind words
+  of_batch : (jobs : List ℕ) → AreBatch words jobs → words_of words ≡ Ok (requests.Batch jobs) → Kind words
+  of_generation : (generation : GenerationValue) → AreGeneration words generation → words_of words ≡ gen_of generation → Kind words
   of_migration : (migration : MigrationValue) → AreMigration words migration → words_of words ≡ migrate_of migration → Kind words
   of_refused : AreRefused words → words_of words ≡ Err NotRead → Kind words
   of_none : NameNoCommand words → words_of words ≡ Err NotRead → Kind words
@@ -198,6 +220,14 @@ taken_kind words behind commands.Decrypt are taken =
     let options = options_in (first_of decryption) (second_of decryption) (matches_of (app_of_command commands.Decrypt) behind) in
     let form : AreTaken decryption words options = record { behind = behind; are = are; taken = taken; options_are = refl } in
     of_command decryption options form (command_words decryption words options form)
+taken_kind words behind commands.Batch are taken =
+    let jobs = value_in (codes "jobs") (matches_of (app_of_command commands.Batch) behind) in
+    let form : AreBatch words jobs = record { behind = behind; are = are; taken = taken; jobs_are = refl } in
+    of_batch jobs form (batch_words words jobs form)
+taken_kind words behind commands.Gen are taken =
+    let generation = generation_in (matches_of (app_of_command commands.Gen) behind) in
+    let form : AreGeneration words generation = record { behind = behind; are = are; taken = taken; options_are = refl } in
+    of_generation generation form (generation_words words generation form)
 taken_kind words behind commands.Migrate are taken =
     let migration = migration_in (matches_of (app_of_command commands.Migrate) behind) in
     let form : AreMigration words migration = record { behind = behind; are = are; taken = taken; options_are = refl } in

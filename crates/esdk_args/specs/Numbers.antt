@@ -7,7 +7,7 @@ use Rattle.esdk_args.specs.declared.options.OptionName.TheVariants.{Frame}
 use Rattle.esdk_args.specs.declared.request.WordsFault.{WordsFault}
 use Rattle.esdk_args.specs.declared.request.WordsFault.TheVariants.{BadNumber}
 use Rattle.esdk_args.specs.Faults.{◌>>=◌}
-use Rattle.esdk_args.specs.Options.{greatest}
+use Rattle.esdk_args.specs.Options.{greatest, least}
 
 -- the decimal value of ASCII digits: `0` is 48, and each digit is worth ten times one at the next place
 unfoldable pub decimal_value : List ℕ → ℕ
@@ -21,7 +21,8 @@ is_numeral word = nat_le 1 (length word) && nat_le (length word) 20 && list_all 
 -- the number that the option's word writes, in the option's range
 unfoldable pub number_of : OptionName → List ℕ → Result ℕ WordsFault
 number_of name word =
-    if is_numeral word && nat_le 1 (decimal_value word) && nat_le (decimal_value word) (greatest name) then Ok (decimal_value word) else Err (BadNumber name)
+    if is_numeral word && nat_le (least name) (decimal_value word) && nat_le (decimal_value word) (greatest name) then Ok (decimal_value word)
+    else Err (BadNumber name)
 
 -- the number, where its option is given
 abbrev pub number_given : OptionName → Option (List ℕ) → Result (Option ℕ) WordsFault

@@ -3,13 +3,15 @@
 --     list [--allow-uncommitted]
 --     encrypt --keyring NAME [--frame N] [--max-keys N] PAIR..
 --     decrypt --keyring NAME [--max-keys N] [--max-unit N] [--allow-uncommitted] PAIR..
+--     batch --jobs NAME
+--     gen --seed N --size N
 --     migrate --keyring NAME [--retire N]
 use Rattle.std.specs.Prelude.{◌≡◌, ◌≢◌, ℕ, Bool, true, false, List, [], ◌∷◌, ◌++◌, All, Option, Some, None, IfSome, codes}
-use Rattle.esdk_args.specs.declared.options.OptionName.TheVariants.{Retire}
+use Rattle.esdk_args.specs.declared.options.OptionName.TheVariants.{Retire, Seed, Size}
 use Rattle.esdk_args.specs.Commands.{command_text}
 use Rattle.esdk_args.specs.Options.{option_text}
 use Rattle.esdk_args.specs.Spelling.{Command, decryption, encryption, first_of, row_of, second_of}
-use Rattle.esdk_args.specs.Words.{MigrationValue, OptionsValue}
+use Rattle.esdk_args.specs.Words.{GenerationValue, MigrationValue, OptionsValue}
 
 -- an option's value or a pair word: a word that doesn't begin with `-` (45)
 abbrev pub IsValue : List ℕ → Type 0
@@ -39,6 +41,17 @@ pub record AreForm (name : Command) (words : List (List ℕ)) (options : Options
   pub second : IfSome options.second IsValue
   pub flag : options.uncommitted ≡ true → has_flag name ≡ true
   pub pairs : All IsValue options.pairs
+
+-- The words are `batch` with this value of `--jobs`.
+pub record AreBatchForm (words : List (List ℕ)) (jobs : List ℕ) : Type 0 where
+  pub are : words ≡ codes "batch" ∷ codes "--jobs" ∷ jobs ∷ []
+  pub name : IsValue jobs
+
+-- The words are `gen` with these values of its options.
+pub record AreGenerationForm (words : List (List ℕ)) (generation : GenerationValue) : Type 0 where
+  pub are : words ≡ codes "gen" ∷ option_text Seed ∷ generation.seed ∷ option_text Size ∷ generation.size ∷ []
+  pub seed : IsValue generation.seed
+  pub size : IsValue generation.size
 
 -- The words are `migrate` with these values of its options.
 pub record AreMigrationForm (words : List (List ℕ)) (migration : MigrationValue) : Type 0 where

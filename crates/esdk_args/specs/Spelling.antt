@@ -2,7 +2,7 @@
 use Rattle.std.specs.Prelude.{◌≡◌, ◌≢◌, ◌≤◌, ◌⊎◌, ℕ, ◌+◌, ◌-◌, ◌^◌, min, Bool, true, false, List, [], ◌∷◌, ◌++◌, length, map, All, Option, Some, None, IsSome, IsSomeAnd, IfSome, codes}
 use Rattle.std.specs.Int.{IsInRange}
 use Rattle.esdk_args.specs.declared.options.OptionName.{OptionName}
-use Rattle.esdk_args.specs.declared.options.OptionName.TheVariants.{Frame, MaxKeys, MaxUnit, Retire}
+use Rattle.esdk_args.specs.declared.options.OptionName.TheVariants.{Frame, MaxKeys, MaxUnit, Retire, Seed, Size}
 use Rattle.esdk_args.specs.declared.pair_words.PairWord.{PairWord}
 use Rattle.esdk_args.specs.declared.request.ListWords.{ListWords}
 use Rattle.esdk_args.specs.declared.request.EncryptWords.{EncryptWords}
@@ -12,8 +12,8 @@ use Rattle.clap.specs.Words.{fault_of, matches_of}
 use Rattle.esdk_args.specs.declared.commands.CommandName.{CommandName}
 use Rattle.esdk_args.specs.declared.commands.CommandName.TheVariants as commands
 use Rattle.esdk_args.specs.Commands.{app_of_command, command_text}
-use Rattle.esdk_args.specs.Options.{greatest}
-use Rattle.esdk_args.specs.Words.{MigrationValue, OptionsValue, migration_in, options_in, uncommitted_in}
+use Rattle.esdk_args.specs.Options.{greatest, least}
+use Rattle.esdk_args.specs.Words.{GenerationValue, MigrationValue, OptionsValue, generation_in, migration_in, options_in, uncommitted_in, value_in}
 use Rattle.esdk_args.specs.Numbers.{decimal_value}
 
 -- ---- one word
@@ -27,7 +27,7 @@ pub record Writes (word : List ℕ) (n : ℕ) : Type 0 where
 
 -- the word writes this number, which the option takes
 abbrev pub WritesFor : OptionName → List ℕ → ℕ → Type 0
-WritesFor name word n = Writes word n × (1 ≤ n) × (n ≤ greatest name)
+WritesFor name word n = Writes word n × (least name ≤ n) × (n ≤ greatest name)
 
 -- a colon (58), where the key is required
 abbrev pub colon_text : Bool → List ℕ
@@ -84,6 +84,20 @@ pub record AreTaken (name : Command) (words : List (List ℕ)) (options : Option
   pub taken : fault_of (app_of_command (row_of name)) behind ≡ []
   pub options_are : options_in (first_of name) (second_of name) (matches_of (app_of_command (row_of name)) behind) ≡ options
 
+-- The words are `batch`, and `clap` takes those behind it, with this value of `--jobs`.
+pub record AreBatch (words : List (List ℕ)) (jobs : List ℕ) : Type 0 where
+  pub behind : List (List ℕ)
+  pub are : words ≡ codes "batch" ∷ behind
+  pub taken : fault_of (app_of_command commands.Batch) behind ≡ []
+  pub jobs_are : value_in (codes "jobs") (matches_of (app_of_command commands.Batch) behind) ≡ jobs
+
+-- The words are `gen`, and `clap` takes those behind it, with these values of its options.
+pub record AreGeneration (words : List (List ℕ)) (generation : GenerationValue) : Type 0 where
+  pub behind : List (List ℕ)
+  pub are : words ≡ codes "gen" ∷ behind
+  pub taken : fault_of (app_of_command commands.Gen) behind ≡ []
+  pub options_are : generation_in (matches_of (app_of_command commands.Gen) behind) ≡ generation
+
 -- The words are `migrate`, and `clap` takes those behind it, with these values of its options.
 pub record AreMigration (words : List (List ℕ)) (migration : MigrationValue) : Type 0 where
   pub behind : List (List ℕ)
@@ -138,6 +152,17 @@ pub record AsksDecrypt (words : List (List ℕ)) (asked : DecryptWords) : Type 0
   pub pairs_are : options.pairs ≡ map pair_text asked.pairs
   pub pairs : All IsPair asked.pairs
 
+-- the words ask for this batch
+abbrev pub AsksBatch : List (List ℕ) → List ℕ → Type 0
+AsksBatch words jobs = AreBatch words jobs
+
+-- The words ask for this generation.
+pub record AsksGen (words : List (List ℕ)) (seed size : ℕ) : Type 0 where
+  pub generation : GenerationValue
+  pub taken : AreGeneration words generation
+  pub seed_is : WritesFor Seed generation.seed seed
+  pub size_is : WritesFor Size generation.size size
+
 -- The words ask for this migration.
 pub record AsksMigrate (words : List (List ℕ)) (asked : MigrateWords) : Type 0 where
   pub migration : MigrationValue
@@ -174,9 +199,20 @@ pub record HasBadRetire (words : List (List ℕ)) (name : OptionName) : Type 0 w
   pub option : name ≡ Retire
   pub bad : IsBadNumber Retire migration.retire
 
+-- the word writes no number that the option takes
+abbrev pub IsBadWord : OptionName → List ℕ → Type 0
+IsBadWord name word = (n : ℕ) → ¬ (WritesFor name word n)
+
+-- The words are `gen`, and this option is the first with a bad number.
+pub record HasBadGeneration (words : List (List ℕ)) (name : OptionName) : Type 0 where
+  pub generation : GenerationValue
+  pub taken : AreGeneration words generation
+  pub first_bad : ((name ≡ Seed) × IsBadWord Seed generation.seed)
+      ⊎ ((seed : ℕ) × WritesFor Seed generation.seed seed × (name ≡ Size) × IsBadWord Size generation.size)
+
 -- `clap` takes the words, and this option is the first with a bad number
 abbrev pub HasBadNumber : List (List ℕ) → OptionName → Type 0
-HasBadNumber words name = HasFirstBadNumber words name ⊎ HasBadRetire words name
+HasBadNumber words name = HasFirstBadNumber words name ⊎ (HasBadGeneration words name ⊎ HasBadRetire words name)
 
 -- The n-th of these words is the first that names no pair. They are counted from 1, and n stands still at 2^32 - 1.
 pub record IsFirstBadPair (words : List (List ℕ)) (n : ℕ) : Type 0 where

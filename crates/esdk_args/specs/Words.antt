@@ -7,15 +7,15 @@ use Rattle.clap.specs.declared.parser.matches.ValueSource.TheVariants.{CommandLi
 use Rattle.esdk_args.specs.declared.commands.CommandName.{CommandName}
 use Rattle.esdk_args.specs.declared.commands.CommandName.TheVariants as commands
 use Rattle.esdk_args.specs.declared.options.OptionName.{OptionName}
-use Rattle.esdk_args.specs.declared.options.OptionName.TheVariants.{Frame, MaxKeys, MaxUnit, Retire}
+use Rattle.esdk_args.specs.declared.options.OptionName.TheVariants.{Frame, MaxKeys, MaxUnit, Retire, Seed, Size}
 use Rattle.esdk_args.specs.declared.request.Request.{Request}
 use Rattle.esdk_args.specs.declared.request.Request.TheVariants as requests
 use Rattle.esdk_args.specs.declared.request.WordsFault.{WordsFault}
 use Rattle.esdk_args.specs.declared.request.WordsFault.TheVariants.{NotRead}
 use Rattle.esdk_args.specs.Commands.{app_of_command, command_named}
 use Rattle.esdk_args.specs.Faults.{◌>>=◌}
-use Rattle.esdk_args.specs.Numbers.{frame_given, number_given}
-use Rattle.esdk_args.specs.Options.{option_name}
+use Rattle.esdk_args.specs.Numbers.{frame_given, number_given, number_of}
+use Rattle.esdk_args.specs.Options.{greatest, option_name}
 use Rattle.esdk_args.specs.PairWords.{pairs_of}
 
 -- What a command with pairs is given: the value of `--keyring`, the words of its two numbers where their options are given, whether the flag is given, and
@@ -27,6 +27,11 @@ pub record OptionsValue : Type 0 where
   pub uncommitted : Bool
   pub pairs : List (List ℕ)
 
+-- What `gen` is given: the words of its two numbers.
+pub record GenerationValue : Type 0 where
+  pub seed : List ℕ
+  pub size : List ℕ
+
 -- What `migrate` is given: the value of `--keyring`, and the word of its number where its option is given.
 pub record MigrationValue : Type 0 where
   pub keyring : List ℕ
@@ -34,9 +39,9 @@ pub record MigrationValue : Type 0 where
 
 -- ---- what `clap` found
 
--- the value of `--keyring`; where a command has it, `clap` takes no words without one (law `keyrings_are_given`)
-abbrev pub keyring_in : List Row → List ℕ
-keyring_in rows = unwrap_or (first_of (codes "keyring") rows) []
+-- the value of the option of this name; where a command requires it, `clap` takes no words without one (law `required_options_are_given`)
+abbrev pub value_in : List ℕ → List Row → List ℕ
+value_in name rows = unwrap_or (first_of name rows) []
 
 -- the word of the option's number, where the option is given
 abbrev pub number_in : OptionName → List Row → Option (List ℕ)
@@ -62,16 +67,20 @@ pairs_in rows = unwrap_or (all_of (codes "pairs") rows) []
 -- what a command with these two numbers is given
 abbrev pub options_in : OptionName → OptionName → List Row → OptionsValue
 options_in first second rows = record {
-  keyring = keyring_in rows;
+  keyring = value_in (codes "keyring") rows;
   first = number_in first rows;
   second = number_in second rows;
   uncommitted = uncommitted_in rows;
   pairs = pairs_in rows;
 }
 
+-- what `gen` is given
+abbrev pub generation_in : List Row → GenerationValue
+generation_in rows = record { seed = value_in (option_name Seed) rows; size = value_in (option_name Size) rows }
+
 -- what `migrate` is given
 abbrev pub migration_in : List Row → MigrationValue
-migration_in rows = record { keyring = keyring_in rows; retire = number_in Retire rows }
+migration_in rows = record { keyring = value_in (codes "keyring") rows; retire = number_in Retire rows }
 
 -- ---- the request
 
@@ -95,6 +104,15 @@ decrypt_of options = do
     pairs = pairs;
   }))
 
+abbrev pub batch_of : List Row → Result Request WordsFault
+batch_of rows = Ok (requests.Batch (value_in (codes "jobs") rows))
+
+abbrev pub gen_of : GenerationValue → Result Request WordsFault
+gen_of generation = do
+  seed ← number_of Seed generation.seed
+  size ← number_of Size generation.size
+  Ok (requests.Gen seed size)
+
 abbrev pub migrate_of : MigrationValue → Result Request WordsFault
 migrate_of migration = do
   retire ← number_given Retire migration.retire
@@ -105,6 +123,8 @@ abbrev pub request_of : CommandName → List Row → Result Request WordsFault
 request_of commands.List rows = Ok (requests.List (record { uncommitted = uncommitted_in rows }))
 request_of commands.Encrypt rows = encrypt_of (options_in Frame MaxKeys rows)
 request_of commands.Decrypt rows = decrypt_of (options_in MaxKeys MaxUnit rows)
+request_of commands.Batch rows = batch_of rows
+request_of commands.Gen rows = gen_of (generation_in rows)
 request_of commands.Migrate rows = migrate_of (migration_in rows)
 
 -- where `clap` refuses the words, they ask for nothing
@@ -128,4 +148,11 @@ abbrev pub HasFrame : Request → Type 0
 HasFrame (requests.List asked) = Unit {0}
 HasFrame (requests.Encrypt asked) = 1 ≤ asked.frame
 HasFrame (requests.Decrypt asked) = Unit {0}
+HasFrame (requests.Batch jobs) = Unit {0}
+HasFrame (requests.Gen seed size) = Unit {0}
 HasFrame (requests.Migrate asked) = Unit {0}
+
+-- The size of a generated text is one that its option takes.
+abbrev pub HasSize : Request → Type 0
+HasSize (requests.Gen seed size) = size ≤ greatest Size
+HasSize request = Unit {0}

@@ -2,8 +2,8 @@
 
 ghost use Rattle.std.specs.Prelude.{◌≡◌, false, IfOk};
 ghost use Rattle.clap.specs.Words.{app_of, rule_of, with_rule};
-ghost use Rattle.esdk_args.specs.declared.commands.Argument.TheVariants.{Keyring, AllowUncommitted, Pairs};
-ghost use Rattle.esdk_args.specs.Commands.{app_of_command, argument_rule, arguments, bare_app, command_named, command_text, option_rule};
+ghost use Rattle.esdk_args.specs.declared.commands.Argument.TheVariants.{AllowUncommitted, Pairs};
+ghost use Rattle.esdk_args.specs.Commands.{app_of_command, argument_rule, arguments, bare_app, command_named, command_text, option_rule, required_rule};
 
 use crate::options::{OptionName, option_name};
 use clap::{Arg, ArgAction, Command};
@@ -11,6 +11,9 @@ use std::alloc::{AllocError, Global};
 
 /// The name of the keyring's option.
 pub(crate) const KEYRING: &str = "keyring";
+
+/// The name of the job file's option.
+pub(crate) const JOBS: &str = "jobs";
 
 /// The name of the flag of `list` and `decrypt`: messages without a commitment may be read.
 pub(crate) const ALLOW_UNCOMMITTED: &str = "allow-uncommitted";
@@ -24,6 +27,8 @@ pub(crate) enum CommandName {
     List,
     Encrypt,
     Decrypt,
+    Batch,
+    Gen,
     Migrate,
 }
 
@@ -32,6 +37,10 @@ pub(crate) enum CommandName {
 pub(crate) enum Argument {
     /// `--keyring NAME`, which has to stand there.
     Keyring,
+    /// `--jobs NAME`, which has to stand there.
+    Jobs,
+    /// An option with a number, which has to stand there.
+    RequiredNumber(OptionName),
     /// An option with a number.
     Number(OptionName),
     /// The flag `--allow-uncommitted`.
@@ -57,6 +66,13 @@ static DECRYPT: [Argument; 5] = [
     Argument::Pairs,
 ];
 
+static BATCH: [Argument; 1] = [Argument::Jobs];
+
+static GEN: [Argument; 2] = [
+    Argument::RequiredNumber(OptionName::Seed),
+    Argument::RequiredNumber(OptionName::Size),
+];
+
 static MIGRATE: [Argument; 2] = [Argument::Keyring, Argument::Number(OptionName::Retire)];
 
 /// What may stand behind the command.
@@ -67,6 +83,8 @@ fn arguments(name: CommandName) -> &'static [Argument]
         CommandName::List => LIST.as_slice(),
         CommandName::Encrypt => ENCRYPT.as_slice(),
         CommandName::Decrypt => DECRYPT.as_slice(),
+        CommandName::Batch => BATCH.as_slice(),
+        CommandName::Gen => GEN.as_slice(),
         CommandName::Migrate => MIGRATE.as_slice(),
     }
 }
@@ -79,6 +97,8 @@ fn command_text<'a>(name: CommandName) -> &'a str
         CommandName::List => "list",
         CommandName::Encrypt => "encrypt",
         CommandName::Decrypt => "decrypt",
+        CommandName::Batch => "batch",
+        CommandName::Gen => "gen",
         CommandName::Migrate => "migrate",
     }
 }
@@ -91,12 +111,15 @@ pub(crate) fn command_named(word: &str) -> Option<CommandName>
         "list" => Some(CommandName::List),
         "encrypt" => Some(CommandName::Encrypt),
         "decrypt" => Some(CommandName::Decrypt),
+        "batch" => Some(CommandName::Batch),
+        "gen" => Some(CommandName::Gen),
         "migrate" => Some(CommandName::Migrate),
         _ => None,
     }
 }
 
-/// The command of `clap` that reads the words behind this command. `AllocError` where memory runs out.
+/// The command of `clap` that reads the words behind this command. `AllocError` where memory runs
+/// out.
 pub(crate) fn clap_command<'a>(alloc: Global, name: CommandName) -> Result<Command<'a>, AllocError>
     ensures { IfOk result (λ made. app_of made ≡ app_of_command name) }
 {
@@ -107,7 +130,8 @@ pub(crate) fn clap_command<'a>(alloc: Global, name: CommandName) -> Result<Comma
     Ok(made)
 }
 
-/// A command of `clap` with no argument, no help flag and no version flag, whose words don't begin with the program's name.
+/// A command of `clap` with no argument, no help flag and no version flag, whose words don't begin
+/// with the program's name.
 fn bare<'a>(alloc: Global, name: &'a str) -> Command<'a>
     ensures { app_of result ≡ bare_app name.entry.now }
 {
@@ -131,19 +155,21 @@ fn rule<'a>(alloc: Global, argument: Argument) -> Arg<'a>
     ensures local { result.global ≡ false }
 {
     match argument {
-        Argument::Keyring => keyring(alloc),
+        Argument::Keyring => required(alloc, KEYRING),
+        Argument::Jobs => required(alloc, JOBS),
+        Argument::RequiredNumber(name) => required(alloc, option_name(name)),
         Argument::Number(name) => option(alloc, option_name(name)),
         Argument::AllowUncommitted => allow_uncommitted(alloc),
         Argument::Pairs => pairs(alloc),
     }
 }
 
-/// `--keyring`, which is required.
-fn keyring<'a>(alloc: Global) -> Arg<'a>
-    ensures rule { rule_of result ≡ argument_rule Keyring }
+/// An option of one text value, which is required.
+fn required<'a>(alloc: Global, name: &'a str) -> Arg<'a>
+    ensures rule { rule_of result ≡ required_rule name.entry.now }
     ensures local { result.global ≡ false }
 {
-    option(alloc, KEYRING).required(true)
+    option(alloc, name).required(true)
 }
 
 /// The flag `--allow-uncommitted`.

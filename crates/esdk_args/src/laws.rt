@@ -1,25 +1,29 @@
 //! Laws about words. A law is a function that does nothing: its contract is what is proved.
 
-ghost use Rattle.esdk_args.specs.Laws.{ReadsList, ReadsEncrypt, ReadsDecrypt, ReadsMigrate, ReadsNoOthers, NamesBadNumbers, NamesBadPairs, NeverMemory, GivesKeyrings, ReadsPlainLists, ReadsPlainEncryptions, ReadsPlainDecryptions, ReadsPlainMigrations, ReadsWrittenNumbers};
+ghost use Rattle.esdk_args.specs.Laws.{ReadsList, ReadsEncrypt, ReadsDecrypt, ReadsBatch, ReadsGen, ReadsMigrate, ReadsNoOthers, NamesBadNumbers, NamesBadPairs, NeverMemory, GivesRequired, ReadsPlainLists, ReadsPlainEncryptions, ReadsPlainDecryptions, ReadsPlainBatches, ReadsPlainGenerations, ReadsPlainMigrations, ReadsWrittenNumbers};
 
 /// Which words ask for which request.
 pub fn requests_are_read()
     ensures list { ReadsList }
     ensures encrypt { ReadsEncrypt }
     ensures decrypt { ReadsDecrypt }
+    ensures batch { ReadsBatch }
+    ensures generation { ReadsGen }
     ensures migrate { ReadsMigrate }
 {}
 
-/// Which words aren't read: those that begin with no command, and those that `clap` refuses. Others ask for a request, have a bad number, or have a bad pair
-/// word.
+/// Which words aren't read: those that begin with no command, and those that `clap` refuses. Others
+/// ask for a request, have a bad number, or have a bad pair word.
 pub fn other_words_are_not_read()
     ensures others { ReadsNoOthers }
     ensures memory { NeverMemory }
 {}
 
-/// `--keyring` is required: words that `clap` takes behind `encrypt`, `decrypt` and `migrate` give it a value.
-pub fn keyrings_are_given()
-    ensures { GivesKeyrings }
+/// Words that `clap` takes behind a command give a value to each option that it requires:
+/// `--keyring` of `encrypt`, `decrypt` and `migrate`, `--jobs` of `batch`, `--seed` and `--size` of
+/// `gen`.
+pub fn required_options_are_given()
+    ensures { GivesRequired }
 {}
 
 /// Which words have a bad number, and of which option: the first.
@@ -32,12 +36,15 @@ pub fn bad_pairs_are_named()
     ensures { NamesBadPairs }
 {}
 
-/// What words in the plain form ask for: a command, `--keyring` with a value and each option with a value as two words in the order of the table, then the flag,
-/// then the pair words, where no value and no pair word begins with `-`.
+/// What words in the plain form ask for: a command, each option that it requires and each other
+/// that is given as two words in the order of the table, then the flag, then the pair words, where
+/// no value and no pair word begins with `-`.
 pub fn plain_words_are_read()
     ensures list { ReadsPlainLists }
     ensures encrypt { ReadsPlainEncryptions }
     ensures decrypt { ReadsPlainDecryptions }
+    ensures batch { ReadsPlainBatches }
+    ensures generation { ReadsPlainGenerations }
     ensures migrate { ReadsPlainMigrations }
 {}
 

@@ -1,16 +1,22 @@
-//! The words of the command line: what they ask for. The first word names a command, and `clap` reads the words behind it.
+//! The words of the command line: what they ask for. The first word names a command, and `clap`
+//! reads the words behind it.
 //!
 //! ```text
 //! list [--allow-uncommitted]
 //! encrypt --keyring NAME [--frame N] [--max-keys N] PAIR..
 //! decrypt --keyring NAME [--max-keys N] [--max-unit N] [--allow-uncommitted] PAIR..
+//! batch --jobs NAME
+//! gen --seed N --size N
 //! migrate --keyring NAME [--retire N]
 //! ```
 //!
-//! A pair word is `KEY=VALUE`, `KEY:=VALUE` where the key is required, or `KEY:` where it is required and no pair is given.
+//! A pair word is `KEY=VALUE`, `KEY:=VALUE` where the key is required, or `KEY:` where it is
+//! required and no pair is given.
 //!
-//! `specs/Commands.antt` has the table of commands, `specs/Words.antt` says what words ask for, `specs/PairWords.antt` what a pair word says. `specs/Spelling.antt`
-//! says the same without reading the numbers and the pairs, `specs/Plain.antt` has a plain form of the words, which is read without a word of `clap`.
+//! `specs/Commands.antt` has the table of commands, `specs/Words.antt` says what words ask for,
+//! `specs/PairWords.antt` what a pair word says. `specs/Spelling.antt` says the same without
+//! reading the numbers and the pairs, `specs/Plain.antt` has a plain form of the words, which is
+//! read without a word of `clap`.
 #![tactic(auto)]
 
 mod commands;
@@ -23,8 +29,8 @@ mod request;
 mod words;
 
 pub use laws::{
-    bad_numbers_are_named, bad_pairs_are_named, keyrings_are_given, other_words_are_not_read,
-    plain_words_are_read, requests_are_read, written_numbers_are_read,
+    bad_numbers_are_named, bad_pairs_are_named, other_words_are_not_read, plain_words_are_read,
+    requests_are_read, required_options_are_given, written_numbers_are_read,
 };
 pub use options::{OptionName, option_text};
 pub use pair_words::{PairWord, PairWords};

@@ -5,10 +5,10 @@ ghost use Rattle.std.specs.Char.{is_ascii_digit};
 ghost use Rattle.std.specs.List.{list_all};
 ghost use Rattle.std.specs.Option.{option_copied};
 ghost use Rattle.esdk_args.specs.declared.options.OptionName.TheVariants.{MaxKeys, MaxUnit, Retire};
-ghost use Rattle.esdk_args.specs.Options.{greatest};
+ghost use Rattle.esdk_args.specs.Options.{greatest, least};
 ghost use Rattle.esdk_args.specs.Numbers.{is_numeral, number_of, number_given, frame_given};
 
-use crate::options::{OptionName, greatest};
+use crate::options::{OptionName, greatest, least};
 use crate::request::WordsFault;
 
 /// The most digits that a number may have.
@@ -58,18 +58,19 @@ pub(crate) fn retire_given(word: Option<&str>) -> Result<Option<u32>, WordsFault
     }
 }
 
-/// The number that the option's word writes. `BadNumber` with the option where the word isn't 1 to 20 digits, or the number isn't in the option's range.
+/// The number that the option's word writes. `BadNumber` with the option where the word isn't 1 to
+/// 20 digits, or the number isn't in the option's range.
 #[tactic(auto, unfolding(crate::specs::Numbers::number_of))]
-fn number_of(name: OptionName, word: &str) -> Result<u64, WordsFault>
+pub(crate) fn number_of(name: OptionName, word: &str) -> Result<u64, WordsFault>
     ensures read { result ≡ number_of name word.now }
-    ensures positive { IfOk result (λ n. 1 ≤ n) }
+    ensures start { IfOk result (λ n. least name ≤ n) }
     ensures bound { IfOk result (λ n. n ≤ greatest name) }
 {
     if !is_numeral(word) {
         return Err(WordsFault::BadNumber(name));
     }
     match word.parse::<u64>() {
-        Ok(number) if 1 <= number && number <= greatest(name) => Ok(number),
+        Ok(number) if least(name) <= number && number <= greatest(name) => Ok(number),
         _ => Err(WordsFault::BadNumber(name)),
     }
 }

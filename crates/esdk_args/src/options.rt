@@ -1,19 +1,25 @@
 //! The options that take a number.
 
 ghost use Rattle.std.specs.Prelude.{◌≡◌};
-ghost use Rattle.esdk_args.specs.Options.{option_name, option_text, greatest};
+ghost use Rattle.esdk_args.specs.Options.{option_name, option_text, least, greatest};
 
 /// An option that takes a number.
 #[derive(Debug, Clone, Copy, PartialEq, Eq)]
 pub enum OptionName {
     /// `--frame` of `encrypt`: the frame length in bytes, 1 to 4,294,967,295.
     Frame,
-    /// `--max-keys` of `encrypt` and `decrypt`: the greatest number of encrypted data keys, 1 to 65,535.
+    /// `--max-keys` of `encrypt` and `decrypt`: the greatest number of encrypted data keys, 1 to
+    /// 65,535.
     MaxKeys,
-    /// `--max-unit` of `decrypt`: the greatest length in bytes of a frame or a single block, 1 to 68,719,476,704.
+    /// `--max-unit` of `decrypt`: the greatest length in bytes of a frame or a single block, 1 to
+    /// 68,719,476,704.
     MaxUnit,
     /// `--retire` of `migrate`: the number of a node of the keyring file, 1 to 1,048,576.
     Retire,
+    /// `--seed` of `gen`: the seed of the bytes, 0 to 18,446,744,073,709,551,615.
+    Seed,
+    /// `--size` of `gen`: how many bytes the text has, 0 to 67,108,864.
+    Size,
 }
 
 /// The option as it is written among the words.
@@ -25,6 +31,8 @@ pub fn option_text(name: OptionName) -> &'static str
         OptionName::MaxKeys => "--max-keys",
         OptionName::MaxUnit => "--max-unit",
         OptionName::Retire => "--retire",
+        OptionName::Seed => "--seed",
+        OptionName::Size => "--size",
     }
 }
 
@@ -37,6 +45,18 @@ pub(crate) fn option_name<'a>(name: OptionName) -> &'a str
         OptionName::MaxKeys => "max-keys",
         OptionName::MaxUnit => "max-unit",
         OptionName::Retire => "retire",
+        OptionName::Seed => "seed",
+        OptionName::Size => "size",
+    }
+}
+
+/// The least number that the option takes.
+pub(crate) fn least(name: OptionName) -> u64
+    ensures { result ≡ least name }
+{
+    match name {
+        OptionName::Seed | OptionName::Size => 0,
+        _ => 1,
     }
 }
 
@@ -49,5 +69,7 @@ pub(crate) fn greatest(name: OptionName) -> u64
         OptionName::MaxKeys => 65_535,
         OptionName::MaxUnit => 68_719_476_704,
         OptionName::Retire => 1_048_576,
+        OptionName::Seed => 18_446_744_073_709_551_615,
+        OptionName::Size => 67_108_864,
     }
 }

@@ -12,7 +12,8 @@ use esdk_fields::Text;
 use std::alloc::{AllocError, Global};
 use std::marker::Model;
 
-/// What one pair word says: `KEY=VALUE`, `KEY:=VALUE` where the key is required, or `KEY:` where it is required and no pair is given.
+/// What one pair word says: `KEY=VALUE`, `KEY:=VALUE` where the key is required, or `KEY:` where it
+/// is required and no pair is given.
 #[derive(Drop)]
 pub struct PairWord {
     /// The key, without the colon that requires it. A word that is read has one.
@@ -55,8 +56,9 @@ struct PairParts<'a> {
     required: bool,
 }
 
-/// What these pair words say. `BadPair` with the number of the first word that has neither form or whose key is empty: they are counted from 1, and the count
-/// stands still at 4,294,967,295. `Memory` where memory runs out.
+/// What these pair words say. `BadPair` with the number of the first word that has neither form or
+/// whose key is empty: they are counted from 1, and the count stands still at 4,294,967,295.
+/// `Memory` where memory runs out.
 pub(crate) fn pairs_of(alloc: Global, words: &[&str]) -> Result<PairWords, WordsFault>
     ensures { Answers result (pairs_of (map (λ w. w.now) words.now)) }
 {
@@ -94,7 +96,8 @@ fn pair_of(word: &str) -> Option<PairParts<'_>>
     })
 }
 
-/// What stands before the first `=`, and what stands behind it; the whole word where there is no `=`.
+/// What stands before the first `=`, and what stands behind it; the whole word where there is no
+/// `=`.
 fn split_at_equals(word: &str) -> (&str, Option<&str>)
     ensures key { result.0.now ≡ key_part word.now }
     ensures value { option_map (λ v. v.now) result.1 ≡ value_part word.now }

@@ -3,9 +3,9 @@
 ghost use Rattle.std.specs.Prelude.{◌≡◌, IfOk, map, option_map};
 ghost use Rattle.clap.specs.Words.{found_of, rows_of};
 ghost use Rattle.esdk_args.specs.Found.{Parses, refusal_of};
-ghost use Rattle.esdk_args.specs.Words.{is_from_words, keyring_in, number_in, uncommitted_in};
+ghost use Rattle.esdk_args.specs.Words.{is_from_words, number_in, uncommitted_in, value_in};
 
-use crate::commands::{ALLOW_UNCOMMITTED, CommandName, KEYRING, clap_command};
+use crate::commands::{ALLOW_UNCOMMITTED, CommandName, clap_command};
 use crate::options::{OptionName, option_name};
 use crate::request::WordsFault;
 use clap::ArgMatches;
@@ -25,7 +25,8 @@ pub(crate) fn borrowed(alloc: Global, words: &[Text]) -> Result<Vec<&str>, Alloc
     Ok(borrowed)
 }
 
-/// What `clap` finds among the words behind the command. `NotRead` where it refuses them, `Memory` where memory runs out.
+/// What `clap` finds among the words behind the command. `NotRead` where it refuses them, `Memory`
+/// where memory runs out.
 pub(crate) fn parse<'a>(
     alloc: Global,
     name: CommandName,
@@ -50,12 +51,12 @@ fn refusal(kind: ErrorKind) -> WordsFault
     }
 }
 
-/// The value of `--keyring`; the empty text where there is none.
-pub(crate) fn keyring_of<'a>(matches: &ArgMatches<'a>) -> &'a str
-    ensures { result.now ≡ keyring_in (rows_of (found_of matches.now)) }
+/// The value of the option of this name, which is required; the empty text where there is none.
+pub(crate) fn value_of<'a>(matches: &ArgMatches<'a>, name: &str) -> &'a str
+    ensures { result.now ≡ value_in name.now (rows_of (found_of matches.now)) }
 {
-    match matches.get_str(KEYRING) {
-        Some(name) => name,
+    match matches.get_str(name) {
+        Some(value) => value,
         None => "",
     }
 }

@@ -16,6 +16,15 @@ pub enum Request {
     Encrypt(EncryptWords),
     /// A decryption.
     Decrypt(DecryptWords),
+    /// A batch: the name of its job file.
+    Batch(Text),
+    /// A generation: a message of bytes that follow from a seed.
+    Gen {
+        /// The seed of the bytes.
+        seed: u64,
+        /// How many bytes the text has, at most 67,108,864.
+        size: u64,
+    },
     /// A migration of a keyring file to version 2.
     Migrate(MigrateWords),
 }
@@ -47,7 +56,8 @@ pub struct DecryptWords {
     pub keyring: Text,
     /// The greatest number of encrypted data keys, 1 to 65,535; None where the words give none.
     pub max_keys: Option<u16>,
-    /// The greatest length in bytes of a frame or a single block, 1 to 68,719,476,704; None where the words give none.
+    /// The greatest length in bytes of a frame or a single block, 1 to 68,719,476,704; None where
+    /// the words give none.
     pub max_unit: Option<u64>,
     /// Whether a message without a commitment may be read.
     pub uncommitted: bool,
@@ -60,7 +70,8 @@ pub struct DecryptWords {
 pub struct MigrateWords {
     /// The name of the keyring file.
     pub keyring: Text,
-    /// The number of the node that is to be retired, 1 to 1,048,576; None where the words give none.
+    /// The number of the node that is to be retired, 1 to 1,048,576; None where the words give
+    /// none.
     pub retire: Option<u32>,
 }
 
@@ -69,10 +80,12 @@ pub struct MigrateWords {
 pub enum WordsFault {
     /// There is no word, the first word names no command, or `clap` refuses the words behind it.
     NotRead,
-    /// `clap` takes the words, and this option is the first whose word isn't 1 to 20 digits that write a number of its range.
+    /// `clap` takes the words, and this option is the first whose word isn't 1 to 20 digits that
+    /// write a number of its range.
     BadNumber(OptionName),
-    /// `clap` takes the words, the numbers are good, and the pair word of this number is the first that has neither form or whose key is empty. Pair words are
-    /// counted from 1, and the count stands still at 4,294,967,295.
+    /// `clap` takes the words, the numbers are good, and the pair word of this number is the first
+    /// that has neither form or whose key is empty. Pair words are counted from 1, and the count
+    /// stands still at 4,294,967,295.
     BadPair(u32),
     /// Memory ran out.
     Memory,

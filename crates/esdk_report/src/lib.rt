@@ -1,6 +1,8 @@
-//! What a run says: why it ends without its result, its exit status, the line of each failure, and the line of a whole context.
+//! What a run says: why it ends without its result, its exit status, the line of each failure, and
+//! the line of a whole context.
 //!
-//! `specs/Lines.antt` has the line of each fault and each refusal, to the byte; `specs/Report.antt` has what a failure leaves on the report, and its status.
+//! `specs/Lines.antt` has the line of each fault and each refusal, to the byte; `specs/Report.antt`
+//! has what a failure leaves on the report, and its status.
 #![tactic(auto)]
 
 mod context_line;

@@ -1,4 +1,5 @@
-//! The lines that name what was refused. A line is a number, a name, then each value after a space; it has no line feed.
+//! The lines that name what was refused. A line is a number, a name, then each value after a space;
+//! it has no line feed.
 
 ghost use Rattle.std.specs.Prelude.{◌≡◌, ◌++◌, ◌<◌, IfOk, OnOk, OnErr};
 ghost use Rattle.std.specs.Char.{digit_char};
@@ -77,7 +78,8 @@ pub fn refusal_text(alloc: Global, refusal: &Refusal) -> Result<Blob, AllocError
     }
 }
 
-/// The line that names why a keyring file or a job file was refused. Fails only where memory runs out.
+/// The line that names why a keyring file or a job file was refused. Fails only where memory runs
+/// out.
 #[tactic(auto, unfolding(crate::specs::Lines::file_line))]
 pub fn file_text(alloc: Global, refusal: &FileRefusal) -> Result<Blob, AllocError>
     ensures { IfOk result (λ line. line ≡ file_line refusal.now) }
@@ -117,7 +119,8 @@ pub fn outside_text(alloc: Global, outside: &Outside) -> Result<Blob, AllocError
     }
 }
 
-/// The line as it is printed: after `esdk: `, and with a line feed. Fails only where memory runs out.
+/// The line as it is printed: after `esdk: `, and with a line feed. Fails only where memory runs
+/// out.
 #[tactic(auto, unfolding(crate::specs::Lines::printed_line))]
 pub fn printed(alloc: Global, line: &Blob) -> Result<Blob, AllocError>
     ensures { IfOk result (λ whole. whole ≡ printed_line line.now) }

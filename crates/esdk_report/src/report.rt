@@ -45,7 +45,8 @@ fn report_not_read<R: Sink>(report: &mut R) -> Status
 
 /// Puts the line of an option whose number is refused.
 fn report_number<R: Sink>(name: OptionName, report: &mut R) -> Status
-    ensures { Answers (failures.BadNumber name) result.code (R.state report.old) (R.state report.new) }
+    ensures { Answers (failures.BadNumber name) result.code (R.state report.old)
+        (R.state report.new) }
 {
     put_line(line_of_number(name), report);
     Status::WORDS
@@ -53,7 +54,8 @@ fn report_number<R: Sink>(name: OptionName, report: &mut R) -> Status
 
 /// Puts the line of a pair word that is none.
 fn report_pair<R: Sink>(alloc: Global, number: u32, report: &mut R) -> Status
-    ensures { Reports (failures.BadPair number) result.code (R.state report.old) (R.state report.new) }
+    ensures { Reports (failures.BadPair number) result.code (R.state report.old)
+        (R.state report.new) }
 {
     let Ok(line) = line_of_pair(alloc, number) else {
         return report_memory(report);
@@ -64,7 +66,8 @@ fn report_pair<R: Sink>(alloc: Global, number: u32, report: &mut R) -> Status
 
 /// Puts the line of a fault.
 fn report_fault<R: Sink>(alloc: Global, fault: &Fault, report: &mut R) -> Status
-    ensures { Reports (failures.Fault fault.now) result.code (R.state report.old) (R.state report.new) }
+    ensures { Reports (failures.Fault fault.now) result.code (R.state report.old)
+        (R.state report.new) }
 {
     let Ok(line) = line_of_fault(alloc, fault) else {
         return report_memory(report);
@@ -75,7 +78,8 @@ fn report_fault<R: Sink>(alloc: Global, fault: &Fault, report: &mut R) -> Status
 
 /// Puts the line of a keyring file's refusal.
 fn report_file<R: Sink>(alloc: Global, refusal: &FileRefusal, report: &mut R) -> Status
-    ensures { Reports (failures.File refusal.now) result.code (R.state report.old) (R.state report.new) }
+    ensures { Reports (failures.File refusal.now) result.code (R.state report.old)
+        (R.state report.new) }
 {
     let Ok(line) = line_of_file(alloc, refusal) else {
         return report_memory(report);
@@ -86,7 +90,8 @@ fn report_file<R: Sink>(alloc: Global, refusal: &FileRefusal, report: &mut R) ->
 
 /// Puts the line of a failure outside.
 fn report_outside<R: Sink>(outside: Outside, report: &mut R) -> Status
-    ensures { Answers (failures.Outside outside) result.code (R.state report.old) (R.state report.new) }
+    ensures { Answers (failures.Outside outside) result.code (R.state report.old)
+        (R.state report.new) }
 {
     put_line(line_of_outside(outside), report);
     Status::OUTSIDE
@@ -94,7 +99,8 @@ fn report_outside<R: Sink>(outside: Outside, report: &mut R) -> Status
 
 /// Puts the line of a refused request.
 fn report_refusal<R: Sink>(alloc: Global, refusal: &Refusal, report: &mut R) -> Status
-    ensures { Reports (failures.Refusal refusal.now) result.code (R.state report.old) (R.state report.new) }
+    ensures { Reports (failures.Refusal refusal.now) result.code (R.state report.old)
+        (R.state report.new) }
 {
     let Ok(line) = line_of_refusal(alloc, refusal) else {
         return report_memory(report);
@@ -143,13 +149,16 @@ fn line_of_number(name: OptionName) -> &'static [u8]
         OptionName::MaxKeys => b"esdk: words BadNumber --max-keys\n",
         OptionName::MaxUnit => b"esdk: words BadNumber --max-unit\n",
         OptionName::Retire => b"esdk: words BadNumber --retire\n",
+        OptionName::Seed => b"esdk: words BadNumber --seed\n",
+        OptionName::Size => b"esdk: words BadNumber --size\n",
     }
 }
 
 /// The whole line of a pair word that is none.
 #[tactic(auto, unfolding(crate::specs::Lines::printed_line))]
 fn line_of_pair(alloc: Global, number: u32) -> Result<String, AllocError>
-    ensures { IfOk result (λ line. string_bytes line ≡ printed_line (line_of (failures.BadPair number))) }
+    ensures { IfOk result (λ line. string_bytes line ≡ printed_line
+        (line_of (failures.BadPair number))) }
 {
     format!(in alloc; "esdk: words BadPair {number}\n")
 }
@@ -176,9 +185,11 @@ fn put_line<R: Sink>(line: &[u8], report: &mut R)
     let _ = report.put(line);
 }
 
-/// Puts the line of a whole context, and answers the status of the run: a report that fails is a failure outside.
+/// Puts the line of a whole context, and answers the status of the run: a report that fails is a
+/// failure outside.
 pub fn report_context<R: Sink>(line: &Blob, report: &mut R) -> Status
-    ensures { (pairs : List KeyValue) → line.now ≡ context_line pairs → TellsContext pairs result.code (R.state report.old) (R.state report.new) }
+    ensures { (pairs : List KeyValue) → line.now ≡ context_line pairs
+        → TellsContext pairs result.code (R.state report.old) (R.state report.new) }
 {
     match report.put(line.bytes()) {
         Ok(()) => Status::DONE,
