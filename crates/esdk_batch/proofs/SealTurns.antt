@@ -1,0 +1,242 @@
+-- The first turn of an encrypt job.
+use Rattle.std.proofs.Common.{◌≡◌, ◌+◌, ℕ, Bool, true, false, List, length, refl, sym, ap, subst, ◌∙◌}
+use Rattle.std.specs.Prelude.{⊤, Option, Some, None, Result, Ok, Err, alloc_error, nat_eq, option_map, slice_get, nat_lt, if◌then◌else◌}
+use Rattle.std.specs.Map.{update}
+use Rattle.std.proofs.lemmas.Map.{update_here}
+use Rattle.esdk_fields.specs.declared.refusals.Outside.TheVariants as outsides
+use Rattle.esdk_fields.specs.declared.refusals.Refusal.{Refusal}
+use Rattle.esdk_fields.specs.declared.refusals.Refusal.TheVariants as refusals
+use Rattle.context_codec.specs.Context.{KeyValue}
+use Rattle.context_codec.specs.Parts.{stored_of}
+use Rattle.header_codec.specs.Header.{latest_end}
+use Rattle.header_codec.specs.Table.{is_over}
+use Rattle.header_codec.specs.Written.{committing, keys_end}
+use Rattle.keyring_trait.specs.declared.journal.JournalLine.{JournalLine}
+use Rattle.keyring_trait.specs.declared.journal.Kind.TheVariants.{Seal}
+use Rattle.keyring_trait.specs.declared.manager_errors.ManagerError.{ManagerError}
+use Rattle.keyring_trait.specs.declared.manager_errors.ManagerError.TheVariants as managers
+use Rattle.keyring_trait.specs.declared.served.Served.{Served}
+use Rattle.keyring_trait.specs.Manager.{ManagerMeaning, RefusalStands}
+use Rattle.keyring_trait.specs.Materials.{EncMaterialsValue}
+use Rattle.keyring_trait.specs.Requests.{EncRequestValue}
+use Rattle.stream_seal.specs.Session as seal
+use Rattle.stream_seal.specs.Session.{SealingValue, beginning, under_of}
+use Rattle.stream_seal.specs.Start.{start_refusal}
+use Rattle.esdk_encrypt.specs.Encrypt.{draws, drawn_id, drawn_rest}
+use Rattle.desk_core.specs.declared.errors.DeskError.{DeskError}
+use Rattle.desk_core.specs.declared.errors.DeskError.TheVariants as errors
+use Rattle.desk_core.specs.SealRequest.{SealRequestValue}
+use Rattle.desk_core.specs.Session.{Fails, Gives, NoReply, Refuses, Reply, Sealing, SessionValue, begun, id_in, rest_in, seal_opened}
+use Rattle.desk_core.specs.Desk.{DeskValue, after_turn, drawn, lines_of, served_by}
+use Rattle.desk_core.specs.Stands.{Stands, journal_of, manager_of}
+use Rattle.desk_core.specs.Calls.{Giving, IsReply, OpensSeal, giving_of}
+use Rattle.desk_core.specs.declared.live_sessions.Desk.{Desk}
+use Rattle.batch_report.specs.declared.job_lines.JobEnd.{JobEnd}
+use Rattle.batch_report.specs.declared.job_lines.JobEnd.TheVariants as ends
+use Rattle.esdk_batch.specs.Ending.{EndsFor}
+use Rattle.esdk_batch.specs.Managing.{Admits, ManagerNow, Managing}
+use Rattle.esdk_batch.specs.Opening.{request_of}
+use Rattle.esdk_batch.specs.SealStory.{IsGiven, IsGivenNone, SealAsked, SealsSo, Seen, wish_of}
+use Rattle.esdk_batch.proofs.Moments.{Views, desk_moment}
+use Rattle.esdk_batch.proofs.FirstTurns.{served_behind}
+
+-- ---- what the manager said
+
+-- the refusals that a manager has
+abbrev IsOfManager : Refusal → Type 0
+IsOfManager (refusals.ReservedPrefix key) = ⊤
+IsOfManager (refusals.RequiredAbsent key) = ⊤
+IsOfManager refusals.NoGenerator = ⊤
+IsOfManager refusals.GeneratorHasKey = ⊤
+IsOfManager refusal = ⊥
+
+-- it was said to the job's request, with these bytes
+abbrev pub Says : Managing → SealAsked → List ℕ → Reply → Type 0
+Says manager asked random NoReply = ⊤
+Says manager asked random (Gives m) = manager.gives (wish_of asked) (drawn_rest random) m
+Says manager asked random (Refuses refusal) = IsOfManager refusal × manager.gives_none (wish_of asked) (managers.Refusal refusal)
+Says manager asked random Fails = manager.gives_none (wish_of asked) managers.KeyringFault
+
+of_manager : (meaning : ManagerMeaning) (context : List KeyValue) (refusal : Refusal) → RefusalStands meaning context refusal → IsOfManager refusal
+of_manager meaning context (refusals.ReservedPrefix key) stands = tt
+of_manager meaning context (refusals.RequiredAbsent key) stands = tt
+of_manager meaning context refusals.NoGenerator stands = tt
+of_manager meaning context refusals.GeneratorHasKey stands = tt
+of_manager meaning context refusal stands = absurd stands
+
+pub says : (manager : Managing) (old new : ManagerNow) (gave : EncRequestValue → ℕ → List ℕ → EncMaterialsValue → Type 0) (asked : SealAsked) (now : ℕ) (random : List ℕ) (short : Bool) (reply : Reply)
+    → Admits manager old new → IsReply (giving_of old.meaning new.meaning old.tells old.exact gave (wish_of asked) now (rest_in random)) short reply → Says manager asked random reply
+says manager old new gave asked now random short NoReply admits replies = tt
+says manager old new gave asked now random short (Gives m) admits replies = admits.gives (wish_of asked) (drawn_rest random) m replies.0
+says manager old new gave asked now random short (Refuses refusal) admits replies =
+    (of_manager old.meaning asked.context refusal replies.0.0, admits.gives_none (wish_of asked) (managers.Refusal refusal) replies.0)
+says manager old new gave asked now random short Fails admits replies = admits.gives_none (wish_of asked) managers.KeyringFault replies.0
+
+-- ---- no session began
+
+-- the refusals that come of a header's parts
+abbrev IsOfHeader : Refusal → Type 0
+IsOfHeader (refusals.TooManyDataKeys n) = ⊤
+IsOfHeader (refusals.HeaderTooLong n) = ⊤
+IsOfHeader refusal = ⊥
+
+of_header : (over long : Bool) (count end : ℕ) (r : Refusal)
+    → (if over then Some (refusals.TooManyDataKeys count) else if long then Some (refusals.HeaderTooLong end) else None) ≡ Some r → IsOfHeader r
+of_header true long count end r is = let same : refusals.TooManyDataKeys count ≡ r = cc in subst IsOfHeader same tt
+of_header false true count end r is = let same : refusals.HeaderTooLong end ≡ r = cc in subst IsOfHeader same tt
+of_header false false count end r is = absurd cc
+
+-- Bytes were drawn and the manager said this; the file is as before the batch.
+pub record IsAnswered (manager : Managing) (asked : SealAsked) (seen : Seen) (random : List ℕ) (reply : Reply) : Type 0 where
+  pub drawn : seen.drawn ≡ random
+  pub count : length random ≡ draws manager.wraps
+  pub says : Says manager asked random reply
+  pub served : seen.served ≡ served_by reply
+  pub same : seen.to ≡ seen.before
+
+pub is_given : (manager : Managing) (asked : SealAsked) (seen : Seen) (random : List ℕ) (m : EncMaterialsValue) → seen.drawn ≡ random → length random ≡ draws manager.wraps
+    → manager.gives (wish_of asked) (drawn_rest random) m → seen.served ≡ Some m.served → IsGiven manager asked seen m
+is_given manager asked seen random m drawn count gives served = record {
+  count = ap (λ (d : List ℕ). length d) drawn ∙ count;
+  given = subst (λ (d : List ℕ). manager.gives (wish_of asked) (drawn_rest d) m) (sym drawn) gives;
+  served = served;
+}
+
+given_none : (manager : Managing) (asked : SealAsked) (seen : Seen) (refusal : Refusal) → IsOfManager refusal → IsGivenNone manager asked seen (managers.Refusal refusal)
+    → SealsSo manager asked seen (ends.Refusal refusal)
+given_none manager asked seen (refusals.ReservedPrefix key) of none = none
+given_none manager asked seen (refusals.RequiredAbsent key) of none = none
+given_none manager asked seen refusals.NoGenerator of none = none
+given_none manager asked seen refusals.GeneratorHasKey of none = none
+given_none manager asked seen refusal of none = absurd of
+
+begins_not : (manager : Managing) (asked : SealAsked) (seen : Seen) (m : EncMaterialsValue) (refusal : Refusal) → IsOfHeader refusal → IsGiven manager asked seen m
+    → start_refusal m None (drawn_id seen.drawn) ≡ Some refusal → seen.to ≡ seen.before → SealsSo manager asked seen (ends.Refusal refusal)
+begins_not manager asked seen m (refusals.TooManyDataKeys n) of given cause same = record { materials = m; given = given; cause = cause; same = same }
+begins_not manager asked seen m (refusals.HeaderTooLong n) of given cause same = record { materials = m; given = given; cause = cause; same = same }
+begins_not manager asked seen m refusal of given cause same = absurd of
+
+-- the error names how the job ends
+named : (error other : DeskError) (end : JobEnd) → error ≡ other → EndsFor error (Ok end) → EndsFor other (Ok end)
+named error other end same ends_for = subst (λ (e : DeskError). EndsFor e (Ok end)) same ends_for
+
+no_memory : (error : DeskError) (end : JobEnd) → error ≡ errors.Memory → EndsFor error (Ok end) → ⊥
+no_memory error end same ends_for = let no : Ok end ≡ Err alloc_error = named error errors.Memory end same ends_for in absurd cc
+
+none_began : (manager : Managing) (asked : SealAsked) (seen : Seen) (random : List ℕ) (m : EncMaterialsValue) (id : ℕ) (error : DeskError) (end : JobEnd) (refusal : Option Refusal)
+    → IsAnswered manager asked seen random (Gives m) → start_refusal m None (id_in random) ≡ refusal → Err error ≡ (begun (request_of asked) random m id refusal).answer → EndsFor error (Ok end)
+    → SealsSo manager asked seen end
+none_began manager asked seen random m id error end None answered starts is ends_for = absurd cc
+none_began manager asked seen random m id error end (Some refusal) answered starts is ends_for =
+    let same : error ≡ errors.Refusal refusal = cc in
+    let ended : Ok end ≡ Ok (ends.Refusal refusal) = named error (errors.Refusal refusal) end same ends_for in
+    let last : end ≡ ends.Refusal refusal = cc in
+    let of : IsOfHeader refusal = of_header (is_over None (length m.entries)) (nat_lt latest_end (keys_end (committing (id_in random)) (stored_of m.required m.context) m.entries))
+    (length m.entries) (keys_end (committing (id_in random)) (stored_of m.required m.context) m.entries) refusal starts in
+    subst (λ (e : JobEnd). SealsSo manager asked seen e) (sym last)
+    (begins_not manager asked seen m refusal of (is_given manager asked seen random m answered.drawn answered.count answered.says answered.served)
+    (ap (λ (d : List ℕ). start_refusal m None (drawn_id d)) answered.drawn ∙ starts) answered.same)
+
+none_given : (manager : Managing) (asked : SealAsked) (seen : Seen) (random : List ℕ) (reply : Reply) (error : ManagerError) → IsAnswered manager asked seen random reply → served_by reply ≡ None
+    → manager.gives_none (wish_of asked) error → IsGivenNone manager asked seen error
+none_given manager asked seen random reply error answered none gives_none = record {
+  count = ap (λ (d : List ℕ). length d) answered.drawn ∙ answered.count;
+  cause = gives_none;
+  unserved = answered.served ∙ none;
+  same = answered.same;
+}
+
+-- whatever error the desk answered
+pub seals_none : (manager : Managing) (asked : SealAsked) (seen : Seen) (random : List ℕ) (reply : Reply) (short : Bool) (id : ℕ) (error : DeskError) (end : JobEnd)
+    → IsAnswered manager asked seen random reply → Err error ≡ (seal_opened (request_of asked) random reply short id).answer → EndsFor error (Ok end) → SealsSo manager asked seen end
+seals_none manager asked seen random NoReply short id error end answered is ends_for = absurd (no_memory error end (cc) ends_for)
+seals_none manager asked seen random (Gives m) true id error end answered is ends_for = absurd (no_memory error end (cc) ends_for)
+seals_none manager asked seen random (Gives m) false id error end answered is ends_for =
+    none_began manager asked seen random m id error end (start_refusal m None (id_in random)) answered refl is ends_for
+seals_none manager asked seen random (Refuses refusal) short id error end answered is ends_for =
+    let same : error ≡ errors.Refusal refusal = cc in
+    let ended : Ok end ≡ Ok (ends.Refusal refusal) = named error (errors.Refusal refusal) end same ends_for in
+    let last : end ≡ ends.Refusal refusal = cc in
+    subst (λ (e : JobEnd). SealsSo manager asked seen e) (sym last)
+    (given_none manager asked seen refusal answered.says.0 (none_given manager asked seen random (Refuses refusal) (managers.Refusal refusal) answered refl answered.says.1))
+seals_none manager asked seen random Fails short id error end answered is ends_for =
+    let same : error ≡ errors.KeyringFault = cc in
+    let ended : Ok end ≡ Ok (ends.Outside outsides.KeyringFault) = named error errors.KeyringFault end same ends_for in
+    let last : end ≡ ends.Outside outsides.KeyringFault = cc in
+    subst (λ (e : JobEnd). SealsSo manager asked seen e) (sym last) (none_given manager asked seen random Fails managers.KeyringFault answered refl answered.says)
+
+-- ---- a session began
+
+-- The manager gave these materials, and a message of them begins.
+pub record HasBegun (asked : SealAsked) (random : List ℕ) (reply : Reply) (short : Bool) (id session : ℕ) : Type 0 where
+  pub materials : EncMaterialsValue
+  pub gives : reply ≡ Gives materials
+  pub begins : start_refusal materials None (id_in random) ≡ None
+  pub same : session ≡ id
+  pub left : (seal_opened (request_of asked) random reply short id).left ≡ Some (Sealing (seal.opened materials asked.declared asked.frame (id_in random)))
+
+begun_with : (asked : SealAsked) (random : List ℕ) (m : EncMaterialsValue) (id session : ℕ) (refusal : Option Refusal) → start_refusal m None (id_in random) ≡ refusal
+    → Ok session ≡ (begun (request_of asked) random m id refusal).answer → HasBegun asked random (Gives m) false id session
+begun_with asked random m id session None starts is = record {
+  materials = m;
+  gives = refl;
+  begins = starts;
+  same = cc;
+  left = ap (λ (r : Option Refusal). (begun (request_of asked) random m id r).left) starts;
+}
+begun_with asked random m id session (Some refusal) starts is = absurd cc
+
+pub has_begun : (asked : SealAsked) (random : List ℕ) (reply : Reply) (short : Bool) (id session : ℕ) → Ok session ≡ (seal_opened (request_of asked) random reply short id).answer
+    → HasBegun asked random reply short id session
+has_begun asked random NoReply short id session is = absurd cc
+has_begun asked random (Gives m) true id session is = absurd cc
+has_begun asked random (Gives m) false id session is = begun_with asked random m id session (start_refusal m None (id_in random)) refl is
+has_begun asked random (Refuses refusal) short id session is = absurd cc
+has_begun asked random Fails short id session is = absurd cc
+
+-- it is live
+pub sealing_live : (v : DeskValue) (asked : SealAsked) (random : List ℕ) (reply : Reply) (short : Bool) (session : ℕ) (b : HasBegun asked random reply short (v.last + 1) session)
+    → update nat_eq v.live (v.last + 1) (seal_opened (request_of asked) random reply short (v.last + 1)).left session
+    ≡ Some (Sealing (seal.opened b.materials asked.declared asked.frame (id_in random)))
+sealing_live v asked random reply short session b =
+    let left : Option SessionValue = (seal_opened (request_of asked) random reply short (v.last + 1)).left in
+    ap (update nat_eq v.live (v.last + 1) left) b.same ∙ update_here v.live (v.last + 1) left ∙ b.left
+
+-- ---- what the desk did
+
+-- The next number was drawn, and the manager said this to the request; the journal has its line, and so the materials were served.
+pub record Opened {M : Type 0} (manager : Giving) (asked : SealAsked) (now : ℕ) (random : List ℕ) (v : DeskValue) (result : Result ℕ DeskError) (served : Option Served) (desk : Desk M) : Type 0 where
+  pub reply : Reply
+  pub short : Bool
+  pub replies : IsReply manager short reply
+  pub answer : result ≡ (seal_opened (request_of asked) random reply short (v.last + 1)).answer
+  pub serves : served ≡ served_by reply
+  pub stands : Stands desk
+      (after_turn (drawn v) (v.last + 1) (lines_of (v.last + 1) Seal now asked.declared (served_by reply)) (seal_opened (request_of asked) random reply short (v.last + 1)))
+
+-- what the manager may say to the job's request in a call between these desks
+abbrev pub giving_at : {M : Type 0} → Views M → Desk M → Desk M → EncRequestValue → ℕ → List ℕ → Giving
+giving_at views old new wish now random =
+    giving_of (views.meaning (manager_of old)) (views.meaning (manager_of new)) (views.tells (manager_of old)) (views.exact (manager_of old)) (views.gave (manager_of new)) wish now (rest_in random)
+
+pub opened_so : {M : Type 0} (views : Views M) (old new : Desk M) (asked : SealAsked) (request : SealRequestValue) (now : ℕ) (random : List ℕ) (v : DeskValue) (result : Result ℕ DeskError)
+    (served : Option Served) (lines : List JournalLine) → request ≡ request_of asked → OpensSeal (giving_at views old new request.wish now random) v request now random result new → lines ≡ v.journal
+    → served ≡ option_map (λ (line : JournalLine). line.served) (slice_get (journal_of new) (length lines))
+    → Opened (giving_at views old new (wish_of asked) now random) asked now random v result served new
+opened_so views old new asked request now random v result served lines same opens were is =
+    let o : OpensSeal (giving_at views old new (wish_of asked) now random) v (request_of asked) now random result new =
+    subst (λ (r : SealRequestValue). OpensSeal (giving_at views old new r.wish now random) v r now random result new) same opens in
+    record {
+      reply = o.reply;
+      short = o.short;
+      replies = o.replies;
+      answer = o.answer;
+      serves = is
+          ∙ served_behind (v.last + 1) Seal now asked.declared (served_by o.reply) v.journal (journal_of new) (length lines) (ap (λ (l : List JournalLine). length l) were) o.stands.journal;
+      stands = o.stands;
+    }
+
+pub says_at : {M : Type 0} (views : Views M) (manager : Managing) (old new : Desk M) (asked : SealAsked) (now : ℕ) (random : List ℕ) (short : Bool) (reply : Reply)
+    → Admits manager (desk_moment views old) (desk_moment views new) → IsReply (giving_at views old new (wish_of asked) now random) short reply → Says manager asked random reply
+says_at views manager old new asked now random short reply admits replies =
+    says manager (desk_moment views old) (desk_moment views new) (views.gave (manager_of new)) asked now random short reply admits replies

@@ -1,0 +1,67 @@
+-- The session that was opened is live, and no error says that it isn't.
+use Rattle.std.proofs.Common.{◌+◌, ℕ, [], None, Ok, refl, arith}
+use Rattle.keyring_trait.specs.declared.journal.Kind.TheVariants.{Unseal}
+use Rattle.desk_core.specs.Session.{Opening, Turn, open_opened}
+use Rattle.desk_core.specs.Desk.{DeskValue, after_turn, drawn}
+use Rattle.esdk_batch.proofs.Counting.{rose_zero}
+use Rattle.esdk_batch.proofs.Faulting.{open_soundly, sound_end}
+use Rattle.esdk_batch.proofs.FirstLines.{number_drawn, open_begun_adds}
+use Rattle.esdk_batch.proofs.FirstTurns.{draws_next, draws_on}
+use Rattle.esdk_batch.proofs.OpenBegins.{has_begun, open_begins_at, opening_live, opening_of}
+use Rattle.esdk_batch.proofs.Openings.{live_after, open_error_lives, open_lives}
+use Rattle.esdk_batch.proofs.TurnCounting.{ended_counts}
+use Rattle.esdk_batch.proofs.opening.open_opening.Goals as goal
+
+pub end_of-requires : goal.end_of-requires
+end_of-requires g c = let opens = c.in-Err.ensures.opens c.requires.worth.0 c.requires.worth.1 in open_error_lives _ _ opens.short _ c.in-Err.error opens.answer
+
+pub begin-requires : goal.begin-requires
+begin-requires g c =
+    let opens = c.in-Ok.ensures.opens c.requires.worth.0 c.requires.worth.1 in
+    let lives = open_lives _ _ opens.short _ c.in-Ok.session opens.answer in (
+      _,
+      opens.stands,
+      (lives.left, live_after c.requires.worth.0.live _ _ c.in-Ok.session lives),
+    )
+
+pub returns-in-Ok-clause-turn : goal.returns-in-Ok-clause-turn
+returns-in-Ok-clause-turn g c = λ first last job required v entropy work to stands.
+    let opens = c.in-Ok.ensures.opens v stands in
+    let begun = has_begun c.none.result c.in_ok-copy.field-0 c.args.given.now opens.short (v.last + 1) c.in-Ok.session c.none.ensures c.in_ok-copy.ensures opens.answer in
+    let turn : Turn ℕ = open_opened c.none.result c.in_ok-copy.field-0 opens.short (v.last + 1) in
+    let u : DeskValue = after_turn (drawn v) (v.last + 1) [] turn in
+    let file = c.begin.ensures.begins u (Opening (opening_of c.args.given.now)) opens.stands (opening_live v c.args.given.now turn c.in-Ok.session begun) in
+    (file.0, file.1, open_begins_at _ job c.args.given.now required v u file.0 [] _ _ entropy c.in-Ok.session c.args.to.now c.begin.result work to (draws_next v [] turn) begun.same file.2)
+
+pub returns-in-Ok-clause-numbers : goal.returns-in-Ok-clause-numbers
+returns-in-Ok-clause-numbers g c =
+    let v : DeskValue = c.requires.worth.0 in
+    let stands = c.requires.worth.1 in
+    let opens = c.in-Ok.ensures.opens v stands in
+    let begun = has_begun c.none.result c.in_ok-copy.field-0 c.args.given.now opens.short (v.last + 1) c.in-Ok.session c.none.ensures c.in_ok-copy.ensures opens.answer in
+    let turn : Turn ℕ = open_opened c.none.result c.in_ok-copy.field-0 opens.short (v.last + 1) in
+    let u : DeskValue = after_turn (drawn v) (v.last + 1) [] turn in
+    let file = c.begin.ensures.begins u (Opening (opening_of c.args.given.now)) opens.stands (opening_live v c.args.given.now turn c.in-Ok.session begun) in
+    number_drawn c.args.desk.now c.open_open.new.self c.begin.new.desk c.in-Ok.session Unseal None (Opening (opening_of c.args.given.now)) v u file.0 _ _ c.args.to.now c.begin.result stands file.2
+    begun.same c.in-Ok.ensures.last c.begin.ensures.last
+
+pub returns-in-Ok-clause-lines : goal.returns-in-Ok-clause-lines
+returns-in-Ok-clause-lines g c = λ job required v work stands.
+    let opens = c.in-Ok.ensures.opens v stands in
+    let begun = has_begun c.none.result c.in_ok-copy.field-0 c.args.given.now opens.short (v.last + 1) c.in-Ok.session c.none.ensures c.in_ok-copy.ensures opens.answer in
+    let turn : Turn ℕ = open_opened c.none.result c.in_ok-copy.field-0 opens.short (v.last + 1) in
+    let u : DeskValue = after_turn (drawn v) (v.last + 1) [] turn in
+    let file = c.begin.ensures.begins u (Opening (opening_of c.args.given.now)) opens.stands (opening_live v c.args.given.now turn c.in-Ok.session begun) in
+    let draws = draws_on v u file.0 c.in-Ok.session [] (draws_next v [] turn) begun.same file.2.desk in
+    (file.0, file.1, open_begun_adds job c.args.given.now required c.in-Ok.session (opening_of c.args.given.now) v u file.0 _ _ c.args.to.now c.begin.result work refl draws.journal file.2)
+
+pub returns-in-Ok-clause-counts : goal.returns-in-Ok-clause-counts
+returns-in-Ok-clause-counts g c = λ job entropy keyring to. c.begin.ensures.counts job entropy keyring to
+
+pub returns-in_ok-end_of-in-Err-clause-counts : goal.returns-in_ok-end_of-in-Err-clause-counts
+returns-in_ok-end_of-in-Err-clause-counts g c = λ job entropy keyring to.
+    let opens = c.in-Err.ensures.opens c.requires.worth.0 c.requires.worth.1 in
+    let end = c.in_ok-end_of-in-Err.field-0 in
+    let sound = sound_end c.in-Err.error (Ok end) c.in_ok-end_of-in-Err.ensures (open_soundly _ _ opens.short _ c.in-Err.error opens.answer) in
+    ended_counts job c.ended.result _ _ (record { kind = Unseal; end = end; served = None }) c.ended.ensures
+    (rose_zero _ entropy entropy sound.entropy (omega arith)) (rose_zero _ keyring keyring sound.keyring (omega arith)) (rose_zero _ _ _ sound.shelf (omega arith))

@@ -1,0 +1,22 @@
+-- The rounds so far.
+use Rattle.desk_core.specs.Stands.{journal_of, manager_of}
+use Rattle.esdk_batch.specs.Failures.{AllCounted, Tally, tally_of}
+use Rattle.esdk_batch.specs.Managing.{manager_now, managing_of}
+use Rattle.esdk_batch.specs.Progress.{all_turns_left}
+use Rattle.esdk_batch.proofs.Windows.{RoundsOn}
+use Rattle.esdk_batch.proofs.rounds.run_rounds.Given as goal
+
+abbrev pub invariant-loop-first : goal.invariant-loop-first
+invariant-loop-first g l = record {
+  on : RoundsOn
+      (λ desk. manager_now (g.M.Manager.meaning (manager_of desk)) (g.M.Manager.tells (manager_of desk)) (g.M.Manager.exact (manager_of desk))
+      (g.M.Manager.bears (manager_of desk) (journal_of desk)) (g.M.Manager.within (manager_of desk)))
+      (λ first last. managing_of (g.M.Manager.meaning first) (g.M.Manager.meaning last) (g.M.Manager.tells first) (g.M.Manager.exact first))
+      l.jobs l.width l.fn.desk l.desk l.fn.progress l.progress (g.F.Shelf.state l.fn.shelf).files (g.F.Shelf.state l.shelf).files
+      (g.W.Entropy.state l.fn.entropy) (g.W.Entropy.state l.entropy);
+  counts : (began : Tally) → AllCounted l.jobs began (tally_of (g.F.Shelf.state l.fn.shelf) (g.W.Entropy.state l.fn.entropy).faults (g.M.Manager.meaning (manager_of l.fn.desk)).faults) l.fn.progress
+      → AllCounted l.jobs began (tally_of (g.F.Shelf.state l.shelf) (g.W.Entropy.state l.entropy).faults (g.M.Manager.meaning (manager_of l.desk)).faults) l.progress;
+}
+
+abbrev pub decreases-loop-first : goal.decreases-loop-first
+decreases-loop-first g l = all_turns_left l.progress

@@ -1,0 +1,12 @@
+pub mod Batch
+pub mod Ending
+pub mod Failures
+pub mod Files
+pub mod Managing
+pub mod OpenStory
+pub mod Opening
+pub mod Progress
+pub mod Rounds
+pub mod SealStory
+pub mod Turns
+pub mod Underway

@@ -1,0 +1,104 @@
+//! The whole batch.
+
+ghost use Rattle.std.specs.Prelude.{◌≡◌, ◌≤◌, ◌++◌, ◌-◌, ◌^◌, true, All, is_some, List, IfOk};
+ghost use Rattle.keyring_trait.specs.declared.journal.JournalLine.{JournalLine};
+ghost use Rattle.keyring_trait.specs.Manager.{ManagerGoes, TellsOn};
+ghost use Rattle.desk_core.specs.Desk.{DeskValue};
+ghost use Rattle.desk_core.specs.Stands.{Stands, manager_of, journal_of, last_of};
+ghost use Rattle.esdk_batch.specs.Managing.{managing_of};
+ghost use Rattle.esdk_batch.specs.Batch.{OnlyWritten, RunsBatch};
+ghost use Rattle.esdk_batch.specs.Failures.{CountsFailures, tally_of};
+ghost use Rattle.esdk_batch.specs.Progress.{AreEnded, is_ended};
+ghost use Rattle.esdk_batch.specs.Underway.{IsWorth};
+
+use crate::progress::{Progress, all_waiting};
+use crate::rounds::run_rounds;
+use batch_report::{BatchReport, JobLine};
+use desk_core::Desk;
+use esdk_base::{Clock, Entropy, Shelf};
+use job_file::Jobs;
+use keyring_trait::Manager;
+use std::alloc::{AllocError, Global};
+
+/// Runs the jobs in turns over the desk, and reports of each. Fails where memory runs out, and the
+/// batch ends there.
+///
+/// The window is the first jobs that haven't ended, as many as it is wide. In each round every job
+/// in it has one turn, in the order of the jobs. A turn reads the clock once, first. A job's first
+/// turn opens it: an encrypt job draws the bytes that its message is made with by one fill (X4),
+/// its session is opened, the file that it writes is made to hold nothing, and the header is
+/// appended (X3); a decrypt job's session is opened with no limits, and its file is made (X3). Each
+/// further turn reads at most a piece of the job's file at the job's offset (X3), feeds all of it,
+/// and appends what the session gives (X3), each by one call, and nothing by none. Where the file's
+/// end was seen, the session is ended instead, and what that gives is appended in the same way. X6
+/// comes where 2^62 bytes were taken and the end wasn't seen. A refusal ends the job, and its
+/// session is dropped; what was appended stays, and the other jobs go on.
+///
+/// Each job that ends with X3, X4 or X5 is a failure that the shelf, the entropy or the manager
+/// counted; X3 comes without one where the file that a job reads isn't there. Whatever comes, no
+/// file changes but those that jobs write.
+pub fn run_batch<M: Manager, F: Shelf, W: Entropy, C: Clock>(
+    alloc: Global,
+    jobs: &Jobs,
+    desk: &mut Desk<M>,
+    shelf: &mut F,
+    entropy: &mut W,
+    clock: &mut C,
+) -> Result<BatchReport, AllocError>
+    requires room { last_of desk.old ≤ 2 ^ 64 - 1001 }
+    requires worth { IsWorth desk.old }
+    ensures runs { (v : DeskValue) → Stands desk.old v → IfOk result (RunsBatch
+        (managing_of (M.meaning (manager_of desk.old)) (M.meaning (manager_of desk.new))
+        (M.tells (manager_of desk.old)) (M.exact (manager_of desk.old)))
+        jobs.now v.last (F.state shelf.old) (F.state shelf.new) (W.state entropy.old)
+        (W.state entropy.new) (journal_of desk.old) (journal_of desk.new)) }
+    ensures others { OnlyWritten jobs.now.jobs (F.state shelf.old).files (F.state shelf.new).files }
+    ensures told { is_some (F.state shelf.new).files ≡ is_some (F.state shelf.old).files }
+    ensures failures { IfOk result (CountsFailures jobs.now.jobs
+        (tally_of (F.state shelf.old) (W.state entropy.old).faults
+        (M.meaning (manager_of desk.old)).faults)
+        (tally_of (F.state shelf.new) (W.state entropy.new).faults
+        (M.meaning (manager_of desk.new)).faults)) }
+    ensures worth { IsWorth desk.new }
+    ensures goes { ManagerGoes (M.meaning (manager_of desk.old)) (M.meaning (manager_of desk.new)) }
+    ensures tells { TellsOn (M.tells (manager_of desk.old)) (M.tells (manager_of desk.new)) }
+    ensures same { (M.meaning (manager_of desk.old)).plain ≡ true
+        → TellsOn (M.tells (manager_of desk.new)) (M.tells (manager_of desk.old)) }
+    ensures exact { M.exact (manager_of desk.old) → M.exact (manager_of desk.new) }
+    ensures bears { M.bears (manager_of desk.old) (journal_of desk.old)
+        → M.bears (manager_of desk.new) (journal_of desk.new) }
+    ensures limits { (lines : List JournalLine) → M.within (manager_of desk.new) lines
+        → M.within (manager_of desk.old) lines }
+{
+    // A manager goes on from where it is: `draws` says so.
+    let _draws = desk.draws();
+    let mut buffer = vec![in alloc; 0u8; jobs.piece() as usize]?;
+    let mut progress = all_waiting(alloc, jobs.jobs().len())?;
+    run_rounds(
+        alloc,
+        jobs.jobs(),
+        jobs.width(),
+        &mut progress,
+        &mut buffer,
+        desk,
+        shelf,
+        entropy,
+        clock,
+    )?;
+    report_of(alloc, progress)
+}
+
+/// The report of jobs that all ended.
+fn report_of(alloc: Global, progress: Vec<Progress>) -> Result<BatchReport, AllocError>
+    requires { All (λ one. is_ended one ≡ true) progress.items }
+    ensures { IfOk result (AreEnded progress.items) }
+{
+    let mut lines: Vec<JobLine> = Vec::new(alloc);
+    for one in progress {
+        match one {
+            Progress::Ended(line) => lines.push(line)?,
+            Progress::Waiting | Progress::Live(_) => unreachable!(),
+        }
+    }
+    Ok(BatchReport::new(lines))
+}

@@ -1,0 +1,105 @@
+//! A piece of a job's file that is fed to its session, and the session's end.
+
+ghost use Rattle.std.specs.Prelude.{◌≡◌, ◌≤◌, ℕ, true, false, List, Some, IfOk};
+ghost use Rattle.desk_core.specs.Session.{SessionValue};
+ghost use Rattle.desk_core.specs.Desk.{DeskValue};
+ghost use Rattle.desk_core.specs.Stands.{Stands, manager_of, journal_of};
+ghost use Rattle.keyring_trait.specs.Manager.{ManagerGoes};
+ghost use Rattle.esdk_batch.specs.Managing.{Admits, Went, manager_now, managing_of};
+ghost use Rattle.esdk_batch.specs.Ending.{EndsSession, FeedsPiece};
+ghost use Rattle.esdk_base.specs.Shelf.{is_missing};
+ghost use Rattle.esdk_batch.specs.Failures.{PieceCounts};
+ghost use Rattle.esdk_batch.specs.Files.{KeepsOthers};
+ghost use Rattle.esdk_batch.specs.Underway.{IsLiveAt, IsWorth};
+
+use crate::files::put;
+use crate::opening::end_of;
+use batch_report::JobEnd;
+use desk_core::Desk;
+use esdk_base::Shelf;
+use esdk_fields::Outside;
+use keyring_trait::Manager;
+use std::alloc::{AllocError, Global};
+
+/// Feeds a piece to a live session, to the piece's end, and appends what the session gives to the
+/// file. Answers how the job ended, if it did, and then the session isn't live any more.
+pub(crate) fn feed_piece<M: Manager, F: Shelf>(
+    alloc: Global,
+    session: u64,
+    now: u64,
+    piece: &[u8],
+    to: &str,
+    desk: &mut Desk<M>,
+    shelf: &mut F,
+) -> Result<Option<JobEnd>, AllocError>
+    requires live { IsLiveAt desk.old session }
+    requires still { ManagerGoes (M.meaning (manager_of desk.old))
+        (M.meaning (manager_of desk.old)) }
+    ensures feeds { (first last : M) (v : DeskValue) (s : SessionValue)
+        → Admits (managing_of (M.meaning first) (M.meaning last) (M.tells first) (M.exact first))
+        (manager_now (M.meaning (manager_of desk.old)) (M.tells (manager_of desk.old))
+        (M.exact (manager_of desk.old))
+        (M.bears (manager_of desk.old) (journal_of desk.old)) (M.within (manager_of desk.old)))
+        (manager_now (M.meaning (manager_of desk.new)) (M.tells (manager_of desk.new))
+        (M.exact (manager_of desk.new))
+        (M.bears (manager_of desk.new) (journal_of desk.new)) (M.within (manager_of desk.new)))
+        → Stands desk.old v → v.live session ≡ Some s
+        → IfOk result (λ end. (w : DeskValue) × Stands desk.new w × FeedsPiece
+        (managing_of (M.meaning first) (M.meaning last) (M.tells first) (M.exact first))
+        session s piece.now v w to.now (F.state shelf.old).files (F.state shelf.new).files end) }
+    ensures kept { KeepsOthers (F.state shelf.old).files (F.state shelf.new).files to.now }
+    ensures counts { is_missing (F.state shelf.old).files to.now ≡ false
+        → IfOk result (λ end. PieceCounts to.now end (F.state shelf.old) (F.state shelf.new)
+        (M.meaning (manager_of desk.old)).faults (M.meaning (manager_of desk.new)).faults) }
+    ensures worth { IsWorth desk.new }
+    ensures went { Went
+        (manager_now (M.meaning (manager_of desk.old)) (M.tells (manager_of desk.old))
+        (M.exact (manager_of desk.old))
+        (M.bears (manager_of desk.old) (journal_of desk.old)) (M.within (manager_of desk.old)))
+        (manager_now (M.meaning (manager_of desk.new)) (M.tells (manager_of desk.new))
+        (M.exact (manager_of desk.new))
+        (M.bears (manager_of desk.new) (journal_of desk.new)) (M.within (manager_of desk.new))) }
+{
+    let mut left = piece;
+    while !left.is_empty() {
+        let used = match desk.feed(alloc, session, now, left) {
+            Ok(used) => used,
+            Err(error) => return Ok(Some(end_of(error)?)),
+        };
+        let Ok(()) = put(shelf, to, desk.out()) else {
+            let _dropped = desk.drop_session(session);
+            return Ok(Some(JobEnd::Outside(Outside::ShelfFault)));
+        };
+        let (_used, rest) = left.split_at(used);
+        left = rest;
+    }
+    Ok(None)
+}
+
+/// Ends a live session, and appends what it gives to the file. Answers how the job ended.
+pub(crate) fn end_session<M: Manager, F: Shelf>(
+    session: u64,
+    to: &str,
+    desk: &mut Desk<M>,
+    shelf: &mut F,
+) -> Result<JobEnd, AllocError>
+    requires { IsLiveAt desk.old session }
+    ensures ends { (v : DeskValue) (s : SessionValue) → Stands desk.old v → v.live session ≡ Some s
+        → IfOk result (λ end. (w : DeskValue) × Stands desk.new w
+        × EndsSession session s v w to.now (F.state shelf.old).files (F.state shelf.new).files end) }
+    ensures kept { KeepsOthers (F.state shelf.old).files (F.state shelf.new).files to.now }
+    ensures counts { (keyring : ℕ) → is_missing (F.state shelf.old).files to.now ≡ false
+        → IfOk result (λ end. PieceCounts to.now (Some end)
+        (F.state shelf.old) (F.state shelf.new) keyring keyring) }
+    ensures worth { IsWorth desk.new }
+    ensures manager { manager_of desk.new ≡ manager_of desk.old }
+    ensures journal { journal_of desk.new ≡ journal_of desk.old }
+{
+    match desk.end(session) {
+        Ok(()) => match put(shelf, to, desk.out()) {
+            Ok(()) => Ok(JobEnd::Done),
+            Err(_) => Ok(JobEnd::Outside(Outside::ShelfFault)),
+        },
+        Err(error) => end_of(error),
+    }
+}

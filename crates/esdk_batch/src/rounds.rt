@@ -1,0 +1,167 @@
+//! The rounds of a batch.
+
+ghost use Rattle.std.specs.Prelude.{◌≡◌, ◌≤◌, ◌<◌, ◌+◌, ◌-◌, ◌^◌, true, All, length, is_some, List, Some, OnOk};
+ghost use Rattle.job_file.specs.JobFile.{IsWork};
+ghost use Rattle.desk_core.specs.Desk.{DeskValue};
+ghost use Rattle.desk_core.specs.Stands.{Stands, manager_of, journal_of, last_of};
+ghost use Rattle.keyring_trait.specs.Manager.{ManagerGoes};
+ghost use Rattle.esdk_batch.specs.Batch.{OnlyWritten};
+ghost use Rattle.esdk_batch.specs.Failures.{AllCounted, Tally, tally_of};
+ghost use Rattle.esdk_batch.specs.Managing.{Admits, Went, manager_now, managing_of};
+ghost use Rattle.esdk_batch.specs.Progress.{IsFirstRunning, all_turns_left, is_ended};
+ghost use Rattle.esdk_batch.specs.Underway.{IsWorth};
+ghost use Rattle.esdk_batch.specs.Rounds.{AreApart, AreReady, Beginning, HaveBegun, IsOpened, Stand, all_waits};
+
+use crate::progress::{Progress, first_running};
+use crate::turns::take_turn;
+use desk_core::Desk;
+use esdk_base::{Clock, Entropy, Shelf};
+use job_file::Job;
+use keyring_trait::Manager;
+use std::alloc::{AllocError, Global};
+
+/// Has rounds until every job ended.
+pub(crate) fn run_rounds<M: Manager, F: Shelf, W: Entropy, C: Clock>(
+    alloc: Global,
+    jobs: &[Job],
+    width: u32,
+    progress: &mut [Progress],
+    buffer: &mut [u8],
+    desk: &mut Desk<M>,
+    shelf: &mut F,
+    entropy: &mut W,
+    clock: &mut C,
+) -> Result<(), AllocError>
+    requires works { All (λ job. IsWork job.work) jobs.now }
+    requires apart { AreApart jobs.now }
+    requires each { length progress.old ≡ length jobs.now }
+    requires wide { 1 ≤ width }
+    requires buffer { 0 < length buffer.old }
+    requires room { last_of desk.old + all_waits progress.old ≤ 2 ^ 64 - 1 }
+    requires ready { AreReady desk.old jobs.now progress.old }
+    requires opened { IsOpened width progress.old }
+    requires still { ManagerGoes (M.meaning (manager_of desk.old))
+        (M.meaning (manager_of desk.old)) }
+    ensures ended { OnOk result (All (λ one. is_ended one ≡ true) progress.new) }
+    ensures stand { (start last : M) (began : Beginning) (v : DeskValue)
+        → Admits (managing_of (M.meaning start) (M.meaning last) (M.tells start) (M.exact start))
+        (manager_now (M.meaning (manager_of desk.old)) (M.tells (manager_of desk.old))
+        (M.exact (manager_of desk.old))
+        (M.bears (manager_of desk.old) (journal_of desk.old)) (M.within (manager_of desk.old)))
+        (manager_now (M.meaning (manager_of desk.new)) (M.tells (manager_of desk.new))
+        (M.exact (manager_of desk.new))
+        (M.bears (manager_of desk.new) (journal_of desk.new)) (M.within (manager_of desk.new)))
+        → Stands desk.old v
+        → Stand (managing_of (M.meaning start) (M.meaning last) (M.tells start) (M.exact start))
+        jobs.now width began (F.state shelf.old).files (W.state entropy.old) v progress.old
+        → OnOk result ((w : DeskValue) × Stands desk.new w
+        × Stand (managing_of (M.meaning start) (M.meaning last) (M.tells start) (M.exact start))
+        jobs.now width began (F.state shelf.new).files (W.state entropy.new) w progress.new) }
+    ensures went { Went
+        (manager_now (M.meaning (manager_of desk.old)) (M.tells (manager_of desk.old))
+        (M.exact (manager_of desk.old))
+        (M.bears (manager_of desk.old) (journal_of desk.old)) (M.within (manager_of desk.old)))
+        (manager_now (M.meaning (manager_of desk.new)) (M.tells (manager_of desk.new))
+        (M.exact (manager_of desk.new))
+        (M.bears (manager_of desk.new) (journal_of desk.new)) (M.within (manager_of desk.new))) }
+    ensures others { OnlyWritten jobs.now (F.state shelf.old).files (F.state shelf.new).files }
+    ensures told { is_some (F.state shelf.new).files ≡ is_some (F.state shelf.old).files }
+    ensures counts { (began : Tally)
+        → AllCounted jobs.now began (tally_of (F.state shelf.old) (W.state entropy.old).faults
+        (M.meaning (manager_of desk.old)).faults) progress.old
+        → OnOk result (AllCounted jobs.now began
+        (tally_of (F.state shelf.new) (W.state entropy.new).faults
+        (M.meaning (manager_of desk.new)).faults) progress.new) }
+    ensures worth { IsWorth desk.new }
+{
+    while let Some(first) = first_running(progress) {
+        run_round(
+            alloc, jobs, first, width, progress, buffer, desk, shelf, entropy, clock,
+        )?;
+    }
+    Ok(())
+}
+
+/// One round: a turn of each job in the window, which is the first jobs that haven't ended, as many
+/// as it is wide, in the order of the jobs. The first of them is the job of this index.
+fn run_round<M: Manager, F: Shelf, W: Entropy, C: Clock>(
+    alloc: Global,
+    jobs: &[Job],
+    first: usize,
+    width: u32,
+    progress: &mut [Progress],
+    buffer: &mut [u8],
+    desk: &mut Desk<M>,
+    shelf: &mut F,
+    entropy: &mut W,
+    clock: &mut C,
+) -> Result<(), AllocError>
+    requires works { All (λ job. IsWork job.work) jobs.now }
+    requires apart { AreApart jobs.now }
+    requires each { length progress.old ≡ length jobs.now }
+    requires wide { 1 ≤ width }
+    requires first { IsFirstRunning progress.old (Some first) }
+    requires buffer { 0 < length buffer.old }
+    requires room { last_of desk.old + all_waits progress.old ≤ 2 ^ 64 - 1 }
+    requires ready { AreReady desk.old jobs.now progress.old }
+    requires opened { IsOpened width progress.old }
+    requires still { ManagerGoes (M.meaning (manager_of desk.old))
+        (M.meaning (manager_of desk.old)) }
+    ensures stand { (start last : M) (began : Beginning) (v : DeskValue)
+        → Admits (managing_of (M.meaning start) (M.meaning last) (M.tells start) (M.exact start))
+        (manager_now (M.meaning (manager_of desk.old)) (M.tells (manager_of desk.old))
+        (M.exact (manager_of desk.old))
+        (M.bears (manager_of desk.old) (journal_of desk.old)) (M.within (manager_of desk.old)))
+        (manager_now (M.meaning (manager_of desk.new)) (M.tells (manager_of desk.new))
+        (M.exact (manager_of desk.new))
+        (M.bears (manager_of desk.new) (journal_of desk.new)) (M.within (manager_of desk.new)))
+        → Stands desk.old v
+        → Stand (managing_of (M.meaning start) (M.meaning last) (M.tells start) (M.exact start))
+        jobs.now width began (F.state shelf.old).files (W.state entropy.old) v progress.old
+        → OnOk result ((w : DeskValue) × Stands desk.new w
+        × Stand (managing_of (M.meaning start) (M.meaning last) (M.tells start) (M.exact start))
+        jobs.now width began (F.state shelf.new).files (W.state entropy.new) w progress.new) }
+    ensures others { OnlyWritten jobs.now (F.state shelf.old).files (F.state shelf.new).files }
+    ensures told { is_some (F.state shelf.new).files ≡ is_some (F.state shelf.old).files }
+    ensures counts { (began : Tally)
+        → AllCounted jobs.now began (tally_of (F.state shelf.old) (W.state entropy.old).faults
+        (M.meaning (manager_of desk.old)).faults) progress.old
+        → OnOk result (AllCounted jobs.now began
+        (tally_of (F.state shelf.new) (W.state entropy.new).faults
+        (M.meaning (manager_of desk.new)).faults) progress.new) }
+    ensures worth { IsWorth desk.new }
+    ensures ready { OnOk result (AreReady desk.new jobs.now progress.new) }
+    ensures opened { OnOk result (HaveBegun width progress.new) }
+    ensures room { OnOk result
+        (last_of desk.new + all_waits progress.new ≤ last_of desk.old + all_waits progress.old) }
+    ensures falls { OnOk result (all_turns_left progress.new < all_turns_left progress.old) }
+    ensures went { Went
+        (manager_now (M.meaning (manager_of desk.old)) (M.tells (manager_of desk.old))
+        (M.exact (manager_of desk.old))
+        (M.bears (manager_of desk.old) (journal_of desk.old)) (M.within (manager_of desk.old)))
+        (manager_now (M.meaning (manager_of desk.new)) (M.tells (manager_of desk.new))
+        (M.exact (manager_of desk.new))
+        (M.bears (manager_of desk.new) (journal_of desk.new)) (M.within (manager_of desk.new))) }
+{
+    let mut turns = 0;
+    for at in first..jobs.len() {
+        if turns == width {
+            return Ok(());
+        }
+        if progress[at].is_ended() {
+            continue;
+        }
+        take_turn(
+            alloc,
+            &jobs[at],
+            &mut progress[at],
+            buffer,
+            desk,
+            shelf,
+            entropy,
+            clock,
+        )?;
+        turns += 1;
+    }
+    Ok(())
+}

@@ -1,0 +1,184 @@
+//! One turn of a job.
+
+ghost use Rattle.std.specs.Prelude.{◌≡◌, ◌≤◌, ◌<◌, ◌+◌, ◌-◌, ◌^◌, ℕ, true, false, length, List, IfOk, OnOk};
+ghost use Rattle.job_file.specs.JobFile.{IsWork};
+ghost use Rattle.desk_core.specs.Desk.{DeskValue};
+ghost use Rattle.desk_core.specs.Stands.{Stands, manager_of, journal_of, last_of};
+ghost use Rattle.keyring_trait.specs.Manager.{ManagerGoes};
+ghost use Rattle.esdk_batch.specs.Managing.{Admits, Went, manager_now, managing_of};
+ghost use Rattle.esdk_batch.specs.Progress.{is_ended, turns_left};
+ghost use Rattle.esdk_batch.specs.Turns.{AddsLines, DrawsBytes, DrawsNumber, HasKind, Knows, either, waits};
+ghost use Rattle.esdk_batch.specs.Underway.{FurtherTurn, HasSession, IsLiveAt, IsReady, IsWorth, TakesTurn};
+ghost use Rattle.esdk_batch.specs.Failures.{HasFile, TurnCounts, tally_of};
+ghost use Rattle.esdk_batch.specs.Files.{KeepsOthers, most_input};
+ghost use Rattle.esdk_batch.specs.declared.progress.Progress.TheVariants as stages;
+
+use crate::feeding::{end_session, feed_piece};
+use crate::files::read_piece;
+use crate::opening::{open_job, served_since};
+use crate::progress::{Live, Progress, ended, kind_of};
+use batch_report::JobEnd;
+use desk_core::Desk;
+use esdk_base::{Clock, Entropy, Shelf};
+use job_file::Job;
+use keyring_trait::{Manager, Served};
+use std::alloc::{AllocError, Global};
+
+/// A turn of a job, which reads the clock once, first. The first turn opens the job's session. Each
+/// further turn reads one piece of its file, feeds all of it and appends what the session gives; at
+/// the file's end it ends the session. A job that ended has no turn.
+pub(crate) fn take_turn<M: Manager, F: Shelf, W: Entropy, C: Clock>(
+    alloc: Global,
+    job: &Job,
+    progress: &mut Progress,
+    buffer: &mut [u8],
+    desk: &mut Desk<M>,
+    shelf: &mut F,
+    entropy: &mut W,
+    clock: &mut C,
+) -> Result<(), AllocError>
+    requires work { IsWork job.now.work }
+    requires buffer { 0 < length buffer.old }
+    requires room { last_of desk.old + waits progress.old ≤ 2 ^ 64 - 1 }
+    requires ready { IsReady desk.old progress.old }
+    requires still { ManagerGoes (M.meaning (manager_of desk.old))
+        (M.meaning (manager_of desk.old)) }
+    ensures turn { (first last : M) (v : DeskValue)
+        → Admits (managing_of (M.meaning first) (M.meaning last) (M.tells first) (M.exact first))
+        (manager_now (M.meaning (manager_of desk.old)) (M.tells (manager_of desk.old))
+        (M.exact (manager_of desk.old))
+        (M.bears (manager_of desk.old) (journal_of desk.old)) (M.within (manager_of desk.old)))
+        (manager_now (M.meaning (manager_of desk.new)) (M.tells (manager_of desk.new))
+        (M.exact (manager_of desk.new))
+        (M.bears (manager_of desk.new) (journal_of desk.new)) (M.within (manager_of desk.new)))
+        → Stands desk.old v → HasSession v.live progress.old
+        → OnOk result ((w : DeskValue) × Stands desk.new w × TakesTurn
+        (managing_of (M.meaning first) (M.meaning last) (M.tells first) (M.exact first))
+        job.now progress.old progress.new v w (F.state shelf.old).files (F.state shelf.new).files
+        (W.state entropy.old) (W.state entropy.new)) }
+    ensures numbers { OnOk result
+        (DrawsNumber progress.old progress.new (last_of desk.old) (last_of desk.new)) }
+    ensures draws { OnOk result (DrawsBytes progress.old (last_of desk.old) (last_of desk.new)
+        (W.state entropy.old) (W.state entropy.new)) }
+    ensures lines { (v : DeskValue) → Stands desk.old v → Knows job.now.work progress.old v.live
+        → OnOk result ((w : DeskValue) × Stands desk.new w
+        × AddsLines job.now progress.old progress.new v w) }
+    ensures kind { OnOk result
+        (HasKind job.now.work progress.old → HasKind job.now.work progress.new) }
+    ensures kept { KeepsOthers (F.state shelf.old).files (F.state shelf.new).files job.now.to }
+    ensures counts { is_ended progress.old ≡ false
+        → HasFile (F.state shelf.old).files job.now progress.old
+        → OnOk result (TurnCounts job.now progress.new
+        (tally_of (F.state shelf.old) (W.state entropy.old).faults
+        (M.meaning (manager_of desk.old)).faults)
+        (tally_of (F.state shelf.new) (W.state entropy.new).faults
+        (M.meaning (manager_of desk.new)).faults)) }
+    ensures worth { IsWorth desk.new }
+    ensures falls { OnOk result (0 < turns_left progress.old
+        → turns_left progress.new < turns_left progress.old) }
+    ensures went { Went
+        (manager_now (M.meaning (manager_of desk.old)) (M.tells (manager_of desk.old))
+        (M.exact (manager_of desk.old))
+        (M.bears (manager_of desk.old) (journal_of desk.old)) (M.within (manager_of desk.old)))
+        (manager_now (M.meaning (manager_of desk.new)) (M.tells (manager_of desk.new))
+        (M.exact (manager_of desk.new))
+        (M.bears (manager_of desk.new) (journal_of desk.new)) (M.within (manager_of desk.new))) }
+{
+    match progress {
+        Progress::Waiting => {
+            *progress = open_job(alloc, job, clock.now(), desk, shelf, entropy)?;
+            Ok(())
+        }
+        Progress::Live(live) => {
+            *progress = go_on(alloc, job, *live, clock.now(), buffer, desk, shelf)?;
+            Ok(())
+        }
+        Progress::Ended(_) => Ok(()),
+    }
+}
+
+/// A further turn of a job.
+fn go_on<M: Manager, F: Shelf>(
+    alloc: Global,
+    job: &Job,
+    live: Live,
+    now: u64,
+    buffer: &mut [u8],
+    desk: &mut Desk<M>,
+    shelf: &mut F,
+) -> Result<Progress, AllocError>
+    requires buffer { 0 < length buffer.old }
+    requires ready { IsLiveAt desk.old live.session }
+    requires low { live.at ≤ most_input }
+    requires still { ManagerGoes (M.meaning (manager_of desk.old))
+        (M.meaning (manager_of desk.old)) }
+    ensures turn { (first last : M) (v : DeskValue)
+        → Admits (managing_of (M.meaning first) (M.meaning last) (M.tells first) (M.exact first))
+        (manager_now (M.meaning (manager_of desk.old)) (M.tells (manager_of desk.old))
+        (M.exact (manager_of desk.old))
+        (M.bears (manager_of desk.old) (journal_of desk.old)) (M.within (manager_of desk.old)))
+        (manager_now (M.meaning (manager_of desk.new)) (M.tells (manager_of desk.new))
+        (M.exact (manager_of desk.new))
+        (M.bears (manager_of desk.new) (journal_of desk.new)) (M.within (manager_of desk.new)))
+        → Stands desk.old v → HasSession v.live (stages.Live live)
+        → IfOk result (λ next. (w : DeskValue) × Stands desk.new w × FurtherTurn
+        (managing_of (M.meaning first) (M.meaning last) (M.tells first) (M.exact first))
+        job.now live next v w (F.state shelf.old).files (F.state shelf.new).files) }
+    ensures numbers { IfOk result
+        (λ next. DrawsNumber (stages.Live live) next (last_of desk.old) (last_of desk.new)) }
+    ensures lines { (v : DeskValue) → Stands desk.old v
+        → Knows job.now.work (stages.Live live) v.live
+        → IfOk result (λ next. (w : DeskValue) × Stands desk.new w
+        × AddsLines job.now (stages.Live live) next v w) }
+    ensures kind { IfOk result (λ next. HasKind job.now.work next) }
+    ensures kept { KeepsOthers (F.state shelf.old).files (F.state shelf.new).files job.now.to }
+    ensures counts { (entropy : ℕ) → HasFile (F.state shelf.old).files job.now (stages.Live live)
+        → IfOk result (λ next. TurnCounts job.now next
+        (tally_of (F.state shelf.old) entropy (M.meaning (manager_of desk.old)).faults)
+        (tally_of (F.state shelf.new) entropy (M.meaning (manager_of desk.new)).faults)) }
+    ensures worth { IsWorth desk.new }
+    ensures falls { IfOk result (λ next. turns_left next < turns_left (stages.Live live)) }
+    ensures went { Went
+        (manager_now (M.meaning (manager_of desk.old)) (M.tells (manager_of desk.old))
+        (M.exact (manager_of desk.old))
+        (M.bears (manager_of desk.old) (journal_of desk.old)) (M.within (manager_of desk.old)))
+        (manager_now (M.meaning (manager_of desk.new)) (M.tells (manager_of desk.new))
+        (M.exact (manager_of desk.new))
+        (M.bears (manager_of desk.new) (journal_of desk.new)) (M.within (manager_of desk.new))) }
+{
+    let kind = kind_of(&job.work);
+    let session = live.session;
+    let to = job.to.as_str();
+    let count = match read_piece(shelf, job.from.as_str(), live.at, buffer) {
+        Ok(count) => count,
+        Err(outside) => {
+            let _dropped = desk.drop_session(session);
+            return Ok(ended(kind, JobEnd::Outside(outside), live.served));
+        }
+    };
+    if count == 0 {
+        let end = end_session(session, to, desk, shelf)?;
+        return Ok(ended(kind, end, live.served));
+    }
+    let lines = desk.journal().len();
+    let end = feed_piece(alloc, session, now, &buffer[..count], to, desk, shelf)?;
+    let served = either(live.served, served_since(desk, lines));
+    match end {
+        Some(end) => Ok(ended(kind, end, served)),
+        None => Ok(Progress::Live(Live {
+            session,
+            at: live.at + count as u64,
+            served,
+        })),
+    }
+}
+
+/// The first of the two that is there.
+fn either(first: Option<Served>, second: Option<Served>) -> Option<Served>
+    ensures { result ≡ either first second }
+{
+    match first {
+        Some(served) => Some(served),
+        None => second,
+    }
+}
