@@ -1,0 +1,6 @@
+pub mod Sequence
+mod Materials
+mod Whole
+mod Sealings
+mod Openings
+mod Told

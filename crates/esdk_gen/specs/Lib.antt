@@ -1,0 +1,4 @@
+pub mod Bytes
+pub mod Generator
+pub mod Sealing
+pub mod Opening
