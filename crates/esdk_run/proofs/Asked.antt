@@ -1,5 +1,5 @@
 -- What a run comes to whose words ask for this.
-use Rattle.std.proofs.Common.{◌≡◌, ℕ, Ok, Err, subst}
+use Rattle.std.proofs.Common.{◌≡◌, ℕ, List, Ok, Err, sym, subst}
 use Rattle.std.specs.Prelude.{IfSome}
 use Rattle.std.specs.declared.result.Result.{Result}
 use Rattle.esdk_args.specs.declared.request.DecryptWords.{DecryptWords}
@@ -8,40 +8,122 @@ use Rattle.esdk_args.specs.declared.request.MigrateWords.{MigrateWords}
 use Rattle.esdk_args.specs.declared.request.Request.{Request}
 use Rattle.esdk_args.specs.declared.request.Request.TheVariants as requests
 use Rattle.esdk_args.specs.declared.request.WordsFault.{WordsFault}
-use Rattle.esdk_base.specs.Streams.{EntropyState, SinkState}
-use Rattle.esdk_run.specs.Objects.{Objects}
-use Rattle.esdk_run.specs.Run.{DecryptRuns, EncryptRuns, MigrateRuns, RunsAs}
-use Rattle.esdk_run.specs.Told.{ComesBack, keyring_asked}
+use Rattle.esdk_run.specs.Objects.{Objects, Unchanged, without_entropy}
+use Rattle.esdk_run.specs.Run.{BatchRuns, DecryptRuns, EncryptRuns, GenRuns, MigrateRuns, RunsAs}
+use Rattle.esdk_run.specs.Served.{Generates, KeepsLimits, KeepsOtherFiles, RunsWhatIsHeld}
+use Rattle.esdk_run.specs.Told.{ComesBack, DecryptsWholeMessages, MigratesWhatIsHeld, ReadsBack, SaysTheJudgement, SaysWhatItReads, keyring_asked}
 use Rattle.esdk_run.specs.Trees.{Trees}
+use Rattle.esdk_run.proofs.Batches.{generates, keeps_limits, keeps_other_files, runs_what_is_held}
+use Rattle.esdk_run.proofs.Decryption.{decrypts_whole_messages, reads_back, says_the_judgement, says_what_it_reads}
+use Rattle.esdk_run.proofs.Migration.{migrates_what_is_held}
 use Rattle.esdk_run.proofs.Encryption.{encrypt_comes_back}
 use Rattle.esdk_run.proofs.TreesBack.{decrypt_comes_back}
 
-pub encrypt_asked : (trees : Trees) (words : Result Request WordsFault) (asked : EncryptWords) (before after : Objects) (entropy spent : EntropyState) (untouched unwritten unread undrawn : Type 0) (code : ℕ)
-    (report reported : SinkState) → words ≡ Ok (requests.Encrypt asked) → RunsAs trees words before after entropy spent untouched unwritten unread undrawn code report reported
-    → EncryptRuns trees asked before after entropy spent untouched unread undrawn code report reported
-encrypt_asked trees words asked before after entropy spent untouched unwritten unread undrawn code report reported is runs =
-    subst (λ (w : Result Request WordsFault). RunsAs trees w before after entropy spent untouched unwritten unread undrawn code report reported) is runs
+pub encrypt_asked : (trees : Trees) (words : Result Request WordsFault) (asked : EncryptWords) (before after : Objects) (unchanged : Unchanged) (code : ℕ)
+    → words ≡ Ok (requests.Encrypt asked) → RunsAs trees words before after unchanged code
+    → EncryptRuns trees asked before after unchanged code
+encrypt_asked trees words asked before after unchanged code is runs =
+    subst (λ (w : Result Request WordsFault). RunsAs trees w before after unchanged code) is runs
 
-pub decrypt_asked : (trees : Trees) (words : Result Request WordsFault) (asked : DecryptWords) (before after : Objects) (entropy spent : EntropyState) (untouched unwritten unread undrawn : Type 0) (code : ℕ)
-    (report reported : SinkState) → words ≡ Ok (requests.Decrypt asked) → RunsAs trees words before after entropy spent untouched unwritten unread undrawn code report reported
-    → DecryptRuns trees asked before after untouched unwritten unread code report reported
-decrypt_asked trees words asked before after entropy spent untouched unwritten unread undrawn code report reported is runs =
-    subst (λ (w : Result Request WordsFault). RunsAs trees w before after entropy spent untouched unwritten unread undrawn code report reported) is runs
+decrypt_asked : (trees : Trees) (words : Result Request WordsFault) (asked : DecryptWords) (before after : Objects) (unchanged : Unchanged) (code : ℕ)
+    → words ≡ Ok (requests.Decrypt asked) → RunsAs trees words before after unchanged code
+    → DecryptRuns trees asked before after (without_entropy unchanged) code
+decrypt_asked trees words asked before after unchanged code is runs =
+    subst (λ (w : Result Request WordsFault). RunsAs trees w before after unchanged code) is runs
 
-pub migrate_asked : (trees : Trees) (words : Result Request WordsFault) (asked : MigrateWords) (before after : Objects) (entropy spent : EntropyState) (untouched unwritten unread undrawn : Type 0) (code : ℕ)
-    (report reported : SinkState) → words ≡ Ok (requests.Migrate asked) → RunsAs trees words before after entropy spent untouched unwritten unread undrawn code report reported
-    → MigrateRuns asked before.shelf after.shelf before.output after.output unwritten code report reported
-migrate_asked trees words asked before after entropy spent untouched unwritten unread undrawn code report reported is runs =
-    (subst (λ (w : Result Request WordsFault). RunsAs trees w before after entropy spent untouched unwritten unread undrawn code report reported) is runs).1
+migrate_asked : (trees : Trees) (words : Result Request WordsFault) (asked : MigrateWords) (before after : Objects) (unchanged : Unchanged) (code : ℕ)
+    → words ≡ Ok (requests.Migrate asked) → RunsAs trees words before after unchanged code
+    → MigrateRuns asked before after unchanged code
+migrate_asked trees words asked before after unchanged code is runs =
+    (subst (λ (w : Result Request WordsFault). RunsAs trees w before after unchanged code) is runs).1
+
+batch_asked : (trees : Trees) (words : Result Request WordsFault) (name : List ℕ) (before after : Objects) (unchanged : Unchanged) (code : ℕ)
+    → words ≡ Ok (requests.Batch name) → RunsAs trees words before after unchanged code → BatchRuns trees name before after unchanged code
+batch_asked trees words name before after unchanged code is runs =
+    subst (λ (w : Result Request WordsFault). RunsAs trees w before after unchanged code) is runs
+
+gen_asked : (trees : Trees) (words : Result Request WordsFault) (seed size : ℕ) (before after : Objects) (unchanged : Unchanged) (code : ℕ)
+    → words ≡ Ok (requests.Gen seed size) → RunsAs trees words before after unchanged code → GenRuns seed size before after unchanged code
+gen_asked trees words seed size before after unchanged code is runs =
+    (subst (λ (w : Result Request WordsFault). RunsAs trees w before after unchanged code) is runs).1
+
+-- and the other way round
+pub as_decrypt : (trees : Trees) (words : Result Request WordsFault) (asked : DecryptWords) (before after : Objects) (unchanged : Unchanged) (code : ℕ)
+    → words ≡ Ok (requests.Decrypt asked) → DecryptRuns trees asked before after (without_entropy unchanged) code → RunsAs trees words before after unchanged code
+as_decrypt trees words asked before after unchanged code is runs =
+    subst (λ (w : Result Request WordsFault). RunsAs trees w before after unchanged code) (sym is) runs
+
+pub as_batch : (trees : Trees) (words : Result Request WordsFault) (name : List ℕ) (before after : Objects) (unchanged : Unchanged) (code : ℕ)
+    → words ≡ Ok (requests.Batch name) → BatchRuns trees name before after unchanged code → RunsAs trees words before after unchanged code
+as_batch trees words name before after unchanged code is runs =
+    subst (λ (w : Result Request WordsFault). RunsAs trees w before after unchanged code) (sym is) runs
 
 -- the tree of a run whose words name a keyring file
-pub comes_back : (trees : Trees) (words : Result Request WordsFault) (before after : Objects) (entropy spent : EntropyState) (untouched unwritten unread undrawn : Type 0) (code : ℕ)
-    (report reported : SinkState) → RunsAs trees words before after entropy spent untouched unwritten unread undrawn code report reported
+pub comes_back : (trees : Trees) (words : Result Request WordsFault) (before after : Objects) (unchanged : Unchanged) (code : ℕ)
+    → RunsAs trees words before after unchanged code
     → IfSome (keyring_asked words) (λ asked. ComesBack trees asked.0 asked.1 before.shelf after.shelf code)
-comes_back trees (Ok (requests.List asked)) before after entropy spent untouched unwritten unread undrawn code report reported runs = tt
-comes_back trees (Ok (requests.Encrypt asked)) before after entropy spent untouched unwritten unread undrawn code report reported runs =
-    encrypt_comes_back trees asked before after entropy spent untouched unread undrawn code report reported runs
-comes_back trees (Ok (requests.Decrypt asked)) before after entropy spent untouched unwritten unread undrawn code report reported runs =
-    decrypt_comes_back trees asked before after untouched unwritten unread code report reported runs
-comes_back trees (Ok (requests.Migrate asked)) before after entropy spent untouched unwritten unread undrawn code report reported runs = tt
-comes_back trees (Err fault) before after entropy spent untouched unwritten unread undrawn code report reported runs = tt
+comes_back trees (Ok (requests.List asked)) before after unchanged code runs = tt
+comes_back trees (Ok (requests.Encrypt asked)) before after unchanged code runs =
+    encrypt_comes_back trees asked before after unchanged code runs
+comes_back trees (Ok (requests.Decrypt asked)) before after unchanged code runs =
+    decrypt_comes_back trees asked before after (without_entropy unchanged) code runs
+comes_back trees (Ok (requests.Migrate asked)) before after unchanged code runs = tt
+comes_back trees (Ok (requests.Batch name)) before after unchanged code runs = tt
+comes_back trees (Ok (requests.Gen seed size)) before after unchanged code runs = tt
+comes_back trees (Err fault) before after unchanged code runs = tt
+
+-- ---- what is so of such a run
+
+pub reads_asked : (trees : Trees) (words : Result Request WordsFault) (asked : DecryptWords) (before after : Objects) (unchanged : Unchanged) (code : ℕ)
+    → (unchanged.output → after.output ≡ before.output) → words ≡ Ok (requests.Decrypt asked) → RunsAs trees words before after unchanged code
+    → SaysWhatItReads trees asked before after code
+reads_asked trees words asked before after unchanged code same is runs =
+    says_what_it_reads trees asked before after (without_entropy unchanged) code same (decrypt_asked trees words asked before after unchanged code is runs)
+
+pub judgement_asked : (trees : Trees) (words : Result Request WordsFault) (asked : DecryptWords) (before after : Objects) (unchanged : Unchanged) (code : ℕ)
+    → words ≡ Ok (requests.Decrypt asked) → RunsAs trees words before after unchanged code
+    → SaysTheJudgement trees asked before after code
+judgement_asked trees words asked before after unchanged code is runs =
+    says_the_judgement trees asked before after (without_entropy unchanged) code (decrypt_asked trees words asked before after unchanged code is runs)
+
+pub whole_asked : (trees : Trees) (words : Result Request WordsFault) (asked : DecryptWords) (before after : Objects) (unchanged : Unchanged) (code : ℕ)
+    → words ≡ Ok (requests.Decrypt asked) → RunsAs trees words before after unchanged code
+    → DecryptsWholeMessages trees asked before after code
+whole_asked trees words asked before after unchanged code is runs =
+    decrypts_whole_messages trees asked before after (without_entropy unchanged) code (decrypt_asked trees words asked before after unchanged code is runs)
+
+pub round_trip_asked : (trees : Trees) (words : Result Request WordsFault) (asked : DecryptWords) (before after : Objects) (unchanged : Unchanged) (code : ℕ)
+    → words ≡ Ok (requests.Decrypt asked) → RunsAs trees words before after unchanged code
+    → ReadsBack trees asked before after code
+round_trip_asked trees words asked before after unchanged code is runs =
+    reads_back trees asked before after (without_entropy unchanged) code (decrypt_asked trees words asked before after unchanged code is runs)
+
+pub migration_asked : (trees : Trees) (words : Result Request WordsFault) (asked : MigrateWords) (before after : Objects) (unchanged : Unchanged) (code : ℕ)
+    → words ≡ Ok (requests.Migrate asked) → RunsAs trees words before after unchanged code
+    → MigratesWhatIsHeld asked before.shelf after.shelf before.output after.output code
+migration_asked trees words asked before after unchanged code is runs =
+    migrates_what_is_held asked before after unchanged code (migrate_asked trees words asked before after unchanged code is runs)
+
+pub limits_asked : (trees : Trees) (words : Result Request WordsFault) (name : List ℕ) (before after : Objects) (unchanged : Unchanged) (code : ℕ)
+    → words ≡ Ok (requests.Batch name) → RunsAs trees words before after unchanged code
+    → KeepsLimits name before after code
+limits_asked trees words name before after unchanged code is runs =
+    keeps_limits trees name before after unchanged code (batch_asked trees words name before after unchanged code is runs)
+
+pub others_asked : (trees : Trees) (words : Result Request WordsFault) (name : List ℕ) (before after : Objects) (unchanged : Unchanged) (code : ℕ)
+    → words ≡ Ok (requests.Batch name) → RunsAs trees words before after unchanged code
+    → KeepsOtherFiles name before.shelf after.shelf code
+others_asked trees words name before after unchanged code is runs =
+    keeps_other_files trees name before after unchanged code (batch_asked trees words name before after unchanged code is runs)
+
+pub jobs_asked : (trees : Trees) (words : Result Request WordsFault) (name : List ℕ) (before after : Objects) (unchanged : Unchanged) (code : ℕ)
+    → words ≡ Ok (requests.Batch name) → RunsAs trees words before after unchanged code
+    → RunsWhatIsHeld trees name before.shelf after.shelf before.output after.output code
+jobs_asked trees words name before after unchanged code is runs =
+    runs_what_is_held trees name before after unchanged code (batch_asked trees words name before after unchanged code is runs)
+
+pub line_asked : (trees : Trees) (words : Result Request WordsFault) (seed size : ℕ) (before after : Objects) (unchanged : Unchanged) (code : ℕ)
+    → words ≡ Ok (requests.Gen seed size) → RunsAs trees words before after unchanged code
+    → Generates seed size before.output after.output unchanged.output code
+line_asked trees words seed size before after unchanged code is runs =
+    generates seed size before after unchanged code (gen_asked trees words seed size before after unchanged code is runs)

@@ -50,12 +50,12 @@ required_alone words =
     with_keys-from_nil (required_in words) (AreAscendingKeys-with_keys [] (map (λ word. word.key) (filter (λ word. word.required) words)) no_keys_ascend)
 
 -- what is so of each value that may be there is so of it where it is
-where_some : {A : Type 0} (o : Option A) (Q : A → Type 0) → ((a : A) → o ≡ Some a → Q a) → IfSome o Q
+pub where_some : {A : Type 0} (o : Option A) (Q : A → Type 0) → ((a : A) → o ≡ Some a → Q a) → IfSome o Q
 where_some None Q each = tt
 where_some (Some a) Q each = each a refl
 
 -- where just what was told is told
-same_keys : (old new : Option (List WrapKeyValue)) → ((ws : List WrapKeyValue) → old ≡ Some ws → new ≡ Some ws) → ((ws : List WrapKeyValue) → new ≡ Some ws → old ≡ Some ws) → new ≡ old
+pub same_keys : (old new : Option (List WrapKeyValue)) → ((ws : List WrapKeyValue) → old ≡ Some ws → new ≡ Some ws) → ((ws : List WrapKeyValue) → new ≡ Some ws → old ≡ Some ws) → new ≡ old
 same_keys (Some ws) new on back = on ws refl
 same_keys None (Some ws) on back = sym (back ws refl)
 same_keys None None on back = refl

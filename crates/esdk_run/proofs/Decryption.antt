@@ -17,7 +17,7 @@ use Rattle.esdk_decrypt.proofs.Told.{decrypts_allowed, ends_allowed}
 use Rattle.esdk_decrypt.proofs.WholeInputs.{all_decrypted, first_fault, memory_alone}
 use Rattle.esdk_report.specs.declared.failure.Failure.TheVariants as failures
 use Rattle.esdk_run.specs.Decrypt.{asked_of, limits_of, reader_of}
-use Rattle.esdk_run.specs.Objects.{Objects}
+use Rattle.esdk_run.specs.Objects.{Objects, Unchanged}
 use Rattle.esdk_report.specs.Report.{ShowsContext}
 use Rattle.esdk_run.specs.Run.{DecryptRuns, TellsOrLacksMemory}
 use Rattle.esdk_run.specs.Told.{DecryptsWholeMessages, GivesBack, IfNoneFailed, IsDoneOrMemory, NamesFault, NothingFails, Reads, ReadsBack, SaysTheJudgement, SaysWhatItReads, ShowsWhole}
@@ -31,63 +31,63 @@ use Rattle.esdk_run.proofs.TreesBack.{HadTree, had_tree, told_then}
 -- ---- who reads is determined by the words and the tree
 
 -- a decryption with the tree ended as the reader's with the tree's keys does, where no keyring failed
-reader_ends : (asked : DecryptWords) (before after : Objects) (unwritten : Type 0) (code : ℕ) (report reported : SinkState) (pairs given : List KeyValue) (tree left : KeyringMeaning)
+reader_ends : (asked : DecryptWords) (before after : Objects) (unwritten : Type 0) (code : ℕ) (pairs given : List KeyValue) (tree left : KeyringMeaning)
     (keys : List WrapKeyValue) → pairs ≡ given → tree.keys ≡ Some keys → Stayed tree.faults left.faults
-    → Ending (asked_of asked pairs tree left) before after unwritten code report reported → Ending (asked_by (reader_of asked given keys)) before after unwritten code report reported
-reader_ends asked before after unwritten code report reported pairs given tree left keys is told stayed (inl (context, done, shown)) =
-    subst (λ (g : List KeyValue). Ending (asked_by (reader_of asked g keys)) before after unwritten code report reported) is
+    → Ending (asked_of asked pairs tree left) before after unwritten code → Ending (asked_by (reader_of asked given keys)) before after unwritten code
+reader_ends asked before after unwritten code pairs given tree left keys is told stayed (inl (context, done, shown)) =
+    subst (λ (g : List KeyValue). Ending (asked_by (reader_of asked g keys)) before after unwritten code) is
     (inl (context, decrypts_allowed (reader_allows asked pairs tree left keys told stayed) done, shown))
-reader_ends asked before after unwritten code report reported pairs given tree left keys is told stayed (inr (error, ends, said)) =
-    subst (λ (g : List KeyValue). Ending (asked_by (reader_of asked g keys)) before after unwritten code report reported) is
+reader_ends asked before after unwritten code pairs given tree left keys is told stayed (inr (error, ends, said)) =
+    subst (λ (g : List KeyValue). Ending (asked_by (reader_of asked g keys)) before after unwritten code) is
     (inr (error, ends_allowed _ _ (limits_of asked) pairs before.input after.input before.output after.output unwritten error (reader_allows asked pairs tree left keys told stayed) ends, said))
 
 -- so what is so of each such end is so of the run
-over_reader : (So : Type 0) (trees : Trees) (asked : DecryptWords) (before after : Objects) (untouched unwritten unread : Type 0) (code : ℕ) (report reported : SinkState) (given : List KeyValue)
-    (keys : List WrapKeyValue) → DecryptRuns trees asked before after untouched unwritten unread code report reported → Reads trees asked given keys
-    → (Ending (asked_by (reader_of asked given keys)) before after unwritten code report reported → So) → IfNoneFailed trees asked.keyring before.shelf after.shelf So
-over_reader So trees asked before after untouched unwritten unread code report reported given keys runs reads so =
-    let had : HadTree trees asked before after unwritten code report reported =
-    had_tree trees asked before after untouched unwritten unread code report reported reads.left reads.kept runs in
+over_reader : (So : Type 0) (trees : Trees) (asked : DecryptWords) (before after : Objects) (unchanged : Unchanged) (code : ℕ) (given : List KeyValue)
+    (keys : List WrapKeyValue) → DecryptRuns trees asked before after unchanged code → Reads trees asked given keys
+    → (Ending (asked_by (reader_of asked given keys)) before after unchanged.output code → So) → IfNoneFailed trees asked.keyring before.shelf after.shelf So
+over_reader So trees asked before after unchanged code given keys runs reads so =
+    let had : HadTree trees asked before after unchanged.output code =
+    had_tree trees asked before after unchanged code reads.left reads.kept runs in
     record {
       left = had.left;
       kept = had.has.kept;
       is = record { tree = had.tree; file = had.has.file; goes = had.has.goes };
       so = λ stayed.
-          so (reader_ends asked before after unwritten code report reported had.given given had.tree had.left keys (one_context asked.pairs had.given given had.has.given.made reads.pairs)
+          so (reader_ends asked before after unchanged.output code had.given given had.tree had.left keys (one_context asked.pairs had.given given had.has.given.made reads.pairs)
           (told_then trees had.tree had.left reads.left keys had.has.goes had.has.kept reads.kept reads.told) stayed had.ended);
     }
 
 -- ---- what is read of the bytes that were taken
 
-pub says_what_it_reads : (trees : Trees) (asked : DecryptWords) (before after : Objects) (untouched unwritten unread : Type 0) (code : ℕ) (report reported : SinkState)
-    → (unwritten → after.output ≡ before.output) → DecryptRuns trees asked before after untouched unwritten unread code report reported
-    → SaysWhatItReads trees asked before after code report reported
-says_what_it_reads trees asked before after untouched unwritten unread code report reported same runs given keys reads =
-    over_reader _ trees asked before after untouched unwritten unread code report reported given keys runs reads
-    (λ ended. says_what_is_read (reader_of asked given keys) before after unwritten code report reported same ended)
+pub says_what_it_reads : (trees : Trees) (asked : DecryptWords) (before after : Objects) (unchanged : Unchanged) (code : ℕ)
+    → (unchanged.output → after.output ≡ before.output) → DecryptRuns trees asked before after unchanged code
+    → SaysWhatItReads trees asked before after code
+says_what_it_reads trees asked before after unchanged code same runs given keys reads =
+    over_reader _ trees asked before after unchanged code given keys runs reads
+    (λ ended. says_what_is_read (reader_of asked given keys) before after unchanged.output code same ended)
 
 -- ---- only want of memory keeps a whole message from being decrypted
 
 -- a report that doesn't fail shows the context, unless memory is wanting for its line
-context_shown : (pairs : List KeyValue) (code : ℕ) (before after : Objects) (report reported : SinkState) → NothingFails before after report reported
-    → TellsOrLacksMemory pairs code report reported → IsDoneOrMemory code
-context_shown pairs code before after report reported nothing (inl (inl shown)) = inl shown.status
-context_shown pairs code before after report reported nothing (inl (inr lost)) = absurd (omega (arith, nothing.reporting, lost.rose))
-context_shown pairs code before after report reported nothing (inr lacking) = inr (memory_status failures.Memory code report reported refl lacking)
+context_shown : (pairs : List KeyValue) (code : ℕ) (before after : Objects) → NothingFails before after
+    → TellsOrLacksMemory pairs code before.report after.report → IsDoneOrMemory code
+context_shown pairs code before after nothing (inl (inl shown)) = inl shown.status
+context_shown pairs code before after nothing (inl (inr lost)) = absurd (omega (arith, nothing.reporting, lost.rose))
+context_shown pairs code before after nothing (inr lacking) = inr (memory_status failures.Memory code before.report after.report refl lacking)
 
-whole_decrypted : (reader : Reader) (before after : Objects) (unwritten : Type 0) (code : ℕ) (report reported : SinkState) (bytes : List ℕ) → IsWholeInput reader before.input bytes
-    → NothingFails before after report reported → Ending (asked_by reader) before after unwritten code report reported → IsDoneOrMemory code
-whole_decrypted reader before after unwritten code report reported bytes whole nothing (inl (context, done, told)) = context_shown context code before after report reported nothing told
-whole_decrypted reader before after unwritten code report reported bytes whole nothing (inr (error, ends, said)) =
+whole_decrypted : (reader : Reader) (before after : Objects) (unwritten : Type 0) (code : ℕ) (bytes : List ℕ) → IsWholeInput reader before.input bytes
+    → NothingFails before after → Ending (asked_by reader) before after unwritten code → IsDoneOrMemory code
+whole_decrypted reader before after unwritten code bytes whole nothing (inl (context, done, told)) = context_shown context code before after nothing told
+whole_decrypted reader before after unwritten code bytes whole nothing (inr (error, ends, said)) =
     let memory : error ≡ errors.Memory =
     memory_alone reader before.input after.input before.output after.output unwritten bytes error whole nothing.reading nothing.writing ends in
-    inr (memory_status (failure_of error) code report reported (ap failure_of memory) said)
+    inr (memory_status (failure_of error) code before.report after.report (ap failure_of memory) said)
 
-pub decrypts_whole_messages : (trees : Trees) (asked : DecryptWords) (before after : Objects) (untouched unwritten unread : Type 0) (code : ℕ) (report reported : SinkState)
-    → DecryptRuns trees asked before after untouched unwritten unread code report reported → DecryptsWholeMessages trees asked before after code report reported
-decrypts_whole_messages trees asked before after untouched unwritten unread code report reported runs given keys bytes reads whole nothing =
-    over_reader _ trees asked before after untouched unwritten unread code report reported given keys runs reads
-    (λ ended. whole_decrypted (reader_of asked given keys) before after unwritten code report reported bytes whole nothing ended)
+pub decrypts_whole_messages : (trees : Trees) (asked : DecryptWords) (before after : Objects) (unchanged : Unchanged) (code : ℕ)
+    → DecryptRuns trees asked before after unchanged code → DecryptsWholeMessages trees asked before after code
+decrypts_whole_messages trees asked before after unchanged code runs given keys bytes reads whole nothing =
+    over_reader _ trees asked before after unchanged code given keys runs reads
+    (λ ended. whole_decrypted (reader_of asked given keys) before after unchanged.output code bytes whole nothing ended)
 
 -- ---- what is said is the judgement of all bytes
 
@@ -112,54 +112,54 @@ fault_ended reader before after unwritten fault (errors.Fault other) is ends =
 fault_ended reader before after unwritten fault (errors.Outside outside) is ends = absurd cc
 fault_ended reader before after unwritten fault errors.Memory is ends = absurd cc
 
-whole_said : (asked : DecryptWords) (before after : Objects) (unwritten : Type 0) (code : ℕ) (report reported : SinkState) (given : List KeyValue) (keys : List WrapKeyValue) (bytes : List ℕ)
-    → before.input.left ≡ Some bytes → code ≡ 0 → Ending (asked_by (reader_of asked given keys)) before after unwritten code report reported
-    → ShowsWhole asked given keys bytes before after code report reported
-whole_said asked before after unwritten code report reported given keys bytes told zero (inl (context, done, shown)) = record {
+whole_said : (asked : DecryptWords) (before after : Objects) (unwritten : Type 0) (code : ℕ) (given : List KeyValue) (keys : List WrapKeyValue) (bytes : List ℕ)
+    → before.input.left ≡ Some bytes → code ≡ 0 → Ending (asked_by (reader_of asked given keys)) before after unwritten code
+    → ShowsWhole asked given keys bytes before after code
+whole_said asked before after unwritten code given keys bytes told zero (inl (context, done, shown)) = record {
   context = context;
   message = all_decrypted (reader_of asked given keys) before.input after.input before.output after.output context bytes told done;
-  shown = zero_shows context code report reported shown zero;
+  shown = zero_shows context code before.report after.report shown zero;
 }
-whole_said asked before after unwritten code report reported given keys bytes told zero (inr (error, ends, said)) = absurd (not_done (failure_of error) code report reported said zero)
+whole_said asked before after unwritten code given keys bytes told zero (inr (error, ends, said)) = absurd (not_done (failure_of error) code before.report after.report said zero)
 
-fault_said : (asked : DecryptWords) (before after : Objects) (unwritten : Type 0) (code : ℕ) (report reported : SinkState) (given : List KeyValue) (keys : List WrapKeyValue) (bytes : List ℕ)
-    → before.input.left ≡ Some bytes → code ≡ 1 → Ending (asked_by (reader_of asked given keys)) before after unwritten code report reported
-    → NamesFault asked given keys bytes before after report reported
-fault_said asked before after unwritten code report reported given keys bytes told one (inl (context, done, shown)) = absurd (one_shows_none context code report reported shown one)
-fault_said asked before after unwritten code report reported given keys bytes told one (inr (error, ends, said)) =
-    let named = fault_status (failure_of error) code report reported said one in
+fault_said : (asked : DecryptWords) (before after : Objects) (unwritten : Type 0) (code : ℕ) (given : List KeyValue) (keys : List WrapKeyValue) (bytes : List ℕ)
+    → before.input.left ≡ Some bytes → code ≡ 1 → Ending (asked_by (reader_of asked given keys)) before after unwritten code
+    → NamesFault asked given keys bytes before after
+fault_said asked before after unwritten code given keys bytes told one (inl (context, done, shown)) = absurd (one_shows_none context code before.report after.report shown one)
+fault_said asked before after unwritten code given keys bytes told one (inr (error, ends, said)) =
+    let named = fault_status (failure_of error) code before.report after.report said one in
     let first = first_fault (reader_of asked given keys) before.input after.input before.output after.output bytes named.fault told
     (fault_ended (reader_of asked given keys) before after unwritten named.fault error named.is ends) in
     record { fault = named.fault; cause = first.0; gained = first.1; line = named.line }
 
-pub says_the_judgement : (trees : Trees) (asked : DecryptWords) (before after : Objects) (untouched unwritten unread : Type 0) (code : ℕ) (report reported : SinkState)
-    → DecryptRuns trees asked before after untouched unwritten unread code report reported → SaysTheJudgement trees asked before after code report reported
-says_the_judgement trees asked before after untouched unwritten unread code report reported runs given keys bytes reads told =
-    over_reader _ trees asked before after untouched unwritten unread code report reported given keys runs reads
+pub says_the_judgement : (trees : Trees) (asked : DecryptWords) (before after : Objects) (unchanged : Unchanged) (code : ℕ)
+    → DecryptRuns trees asked before after unchanged code → SaysTheJudgement trees asked before after code
+says_the_judgement trees asked before after unchanged code runs given keys bytes reads told =
+    over_reader _ trees asked before after unchanged code given keys runs reads
     (λ ended. (
-      λ zero. whole_said asked before after unwritten code report reported given keys bytes told zero ended,
-      λ one. fault_said asked before after unwritten code report reported given keys bytes told one ended,
+      λ zero. whole_said asked before after unchanged.output code given keys bytes told zero ended,
+      λ one. fault_said asked before after unchanged.output code given keys bytes told one ended,
     ))
 
 -- ---- round trip
 
-text_given : (reader : Reader) (before after : Objects) (unwritten : Type 0) (code : ℕ) (report reported : SinkState) (writers : List WrapKeyValue) (m : Written)
-    → IsWrittenFor reader writers m → before.input.left ≡ Some (message_of m) → code ≡ 0 → Ending (asked_by reader) before after unwritten code report reported
-    → GivesBack m.text m.context before after code report reported
-text_given reader before after unwritten code report reported writers m written told zero (inl (context, done, shown)) =
+text_given : (reader : Reader) (before after : Objects) (unwritten : Type 0) (code : ℕ) (writers : List WrapKeyValue) (m : Written)
+    → IsWrittenFor reader writers m → before.input.left ≡ Some (message_of m) → code ≡ 0 → Ending (asked_by reader) before after unwritten code
+    → GivesBack m.text m.context before after code
+text_given reader before after unwritten code writers m written told zero (inl (context, done, shown)) =
     let given_back = text_decrypted reader writers m before.input after.input before.output after.output context written told done in
     record {
       gained = given_back.0;
-      shown = subst (λ (c : List KeyValue). ShowsContext c code report reported) given_back.1 (zero_shows context code report reported shown zero);
+      shown = subst (λ (c : List KeyValue). ShowsContext c code before.report after.report) given_back.1 (zero_shows context code before.report after.report shown zero);
     }
-text_given reader before after unwritten code report reported writers m written told zero (inr (error, ends, said)) = absurd (not_done (failure_of error) code report reported said zero)
+text_given reader before after unwritten code writers m written told zero (inr (error, ends, said)) = absurd (not_done (failure_of error) code before.report after.report said zero)
 
-pub reads_back : (trees : Trees) (asked : DecryptWords) (before after : Objects) (untouched unwritten unread : Type 0) (code : ℕ) (report reported : SinkState)
-    → DecryptRuns trees asked before after untouched unwritten unread code report reported → ReadsBack trees asked before after code report reported
-reads_back trees asked before after untouched unwritten unread code report reported runs given keys writers m reads written told few =
-    over_reader _ trees asked before after untouched unwritten unread code report reported given keys runs reads
+pub reads_back : (trees : Trees) (asked : DecryptWords) (before after : Objects) (unchanged : Unchanged) (code : ℕ)
+    → DecryptRuns trees asked before after unchanged code → ReadsBack trees asked before after code
+reads_back trees asked before after unchanged code runs given keys writers m reads written told few =
+    over_reader _ trees asked before after unchanged code given keys runs reads
     (λ ended. (
-      λ zero. text_given (reader_of asked given keys) before after unwritten code report reported writers m written told zero ended,
-      λ nothing. whole_decrypted (reader_of asked given keys) before after unwritten code report reported (message_of m)
+      λ zero. text_given (reader_of asked given keys) before after unchanged.output code writers m written told zero ended,
+      λ nothing. whole_decrypted (reader_of asked given keys) before after unchanged.output code (message_of m)
           (written_whole (reader_of asked given keys) writers m before.input written told few) nothing ended,
     ))

@@ -10,3 +10,7 @@ pub mod TreesBack
 pub mod Encryption
 pub mod Migration
 pub mod Decryption
+pub mod BatchMore
+pub mod Serving
+pub mod Showing
+pub mod Batches

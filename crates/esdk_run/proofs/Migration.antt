@@ -14,6 +14,7 @@ use Rattle.esdk_report.specs.declared.failure.Failure.TheVariants as failures
 use Rattle.esdk_run.specs.FileReading.{FileIsRefused}
 use Rattle.esdk_run.specs.Migrate.{MigrateFails, value_asked}
 use Rattle.esdk_report.specs.Report.{Reports}
+use Rattle.esdk_run.specs.Objects.{Objects, Unchanged}
 use Rattle.esdk_run.specs.Run.{MigrateRuns}
 use Rattle.esdk_run.specs.Told.{IsDoneOrMemory, MigratesWhatIsHeld}
 use Rattle.esdk_run.proofs.Files.{no_read_fails}
@@ -49,8 +50,9 @@ fails_held asked old new before after unwritten code report reported bytes value
 fails_held asked old new before after unwritten code report reported bytes value failures.Memory holds few is reading writing fails said =
     inr (memory_status failures.Memory code report reported refl said)
 
-pub migrates_what_is_held : (asked : MigrateWords) (old new : ShelfState) (before after : SinkState) (unwritten : Type 0) (code : ℕ) (report reported : SinkState)
-    → MigrateRuns asked old new before after unwritten code report reported → MigratesWhatIsHeld asked old new before after code
-migrates_what_is_held asked old new before after unwritten code report reported (inl done) bytes value holds few is reading writing = inl done.0.status
-migrates_what_is_held asked old new before after unwritten code report reported (inr fails) bytes value holds few is reading writing =
-    fails_held asked old new before after unwritten code report reported bytes value fails.failure holds few is reading writing fails.because fails.said
+pub migrates_what_is_held : (asked : MigrateWords) (before after : Objects) (unchanged : Unchanged) (code : ℕ)
+    → MigrateRuns asked before after unchanged code → MigratesWhatIsHeld asked before.shelf after.shelf before.output after.output code
+migrates_what_is_held asked before after unchanged code (inl done) bytes value holds few is reading writing = inl done.0.status
+migrates_what_is_held asked before after unchanged code (inr fails) bytes value holds few is reading writing =
+    fails_held asked before.shelf after.shelf before.output after.output unchanged.output code before.report after.report bytes value fails.failure holds few is reading writing
+    fails.because fails.said

@@ -2,7 +2,6 @@
 use Rattle.std.proofs.Common.{◌≡◌, ◌⊎◌, ◌∙◌, ℕ, List, inl, inr, sym, ap, subst}
 use Rattle.std.specs.Io.KnownBytes.{Appends}
 use Rattle.esdk_base.specs.Sink.{AppendsFront}
-use Rattle.esdk_base.specs.Streams.{SinkState}
 use Rattle.esdk_fields.specs.declared.faults.Fault.{Fault}
 use Rattle.esdk_fields.specs.declared.refusals.Outside.TheVariants as outsides
 use Rattle.context_codec.specs.Context.{KeyValue}
@@ -27,10 +26,10 @@ failure_of (errors.Outside outside) = failures.Outside outside
 failure_of errors.Memory = failures.Memory
 
 -- how a decryption ended, and what was said of it
-abbrev pub Ending : Asked → Objects → Objects → Type 0 → ℕ → SinkState → SinkState → Type 0
-Ending asked before after unwritten code report reported =
-    ((context : List KeyValue) × Decrypts asked before.input after.input before.output after.output context × TellsOrLacksMemory context code report reported)
-    ⊎ ((error : DecryptError) × EndsSo asked before.input after.input before.output after.output unwritten error × Reports (failure_of error) code report reported)
+abbrev pub Ending : Asked → Objects → Objects → Type 0 → ℕ → Type 0
+Ending asked before after unwritten code =
+    ((context : List KeyValue) × Decrypts asked before.input after.input before.output after.output context × TellsOrLacksMemory context code before.report after.report)
+    ⊎ ((error : DecryptError) × EndsSo asked before.input after.input before.output after.output unwritten error × Reports (failure_of error) code before.report after.report)
 
 -- ---- what was released is what is read
 
@@ -61,10 +60,10 @@ reads_fault reader before after fault has =
       ];
     }
 
-reads_whole : (reader : Reader) (before after : Objects) (code : ℕ) (report reported : SinkState) (context : List KeyValue)
-    → Decrypts (asked_by reader) before.input after.input before.output after.output context → TellsOrLacksMemory context code report reported
-    → ReadsWhole reader before after code report reported
-reads_whole reader before after code report reported context done told =
+reads_whole : (reader : Reader) (before after : Objects) (code : ℕ) (context : List KeyValue)
+    → Decrypts (asked_by reader) before.input after.input before.output after.output context → TellsOrLacksMemory context code before.report after.report
+    → ReadsWhole reader before after code
+reads_whole reader before after code context done told =
     let answer : Unlocking = Unlocks context done.only done.key in
     let same : judged done.bytes reader.settings answer ≡ judged_by reader done.bytes = judged_reader reader done.bytes answer done.releases.answered in
     record {
@@ -106,8 +105,8 @@ ends_as_read reader before after unwritten errors.Memory same lost = record {
   unwritten = same lost.1;
 }
 
-pub says_what_is_read : (reader : Reader) (before after : Objects) (unwritten : Type 0) (code : ℕ) (report reported : SinkState) → (unwritten → after.output ≡ before.output)
-    → Ending (asked_by reader) before after unwritten code report reported → SaysWhatIsRead reader before after code report reported
-says_what_is_read reader before after unwritten code report reported same (inl (context, done, told)) = inl (reads_whole reader before after code report reported context done told)
-says_what_is_read reader before after unwritten code report reported same (inr (error, ends, said)) =
+pub says_what_is_read : (reader : Reader) (before after : Objects) (unwritten : Type 0) (code : ℕ) → (unwritten → after.output ≡ before.output)
+    → Ending (asked_by reader) before after unwritten code → SaysWhatIsRead reader before after code
+says_what_is_read reader before after unwritten code same (inl (context, done, told)) = inl (reads_whole reader before after code context done told)
+says_what_is_read reader before after unwritten code same (inr (error, ends, said)) =
     inr (record { failure = failure_of error; because = ends_as_read reader before after unwritten error same ends; said = said })

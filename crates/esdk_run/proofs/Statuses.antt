@@ -26,6 +26,21 @@ not_done (failures.Refusal refusal) code old new (inl said) done = omega (arith,
 not_done (failures.Refusal refusal) code old new (inr said) done = omega (arith, said.status, done)
 not_done failures.Memory code old new said done = omega (arith, said.status, done)
 
+-- nor is its status that of a batch some job of which isn't done
+pub not_seven : (failure : Failure) (code : ℕ) (old new : SinkState) → Reports failure code old new → code ≡ 7 → ⊥
+not_seven failures.NotRead code old new said seven = omega (arith, said.status, seven)
+not_seven (failures.BadNumber name) code old new said seven = omega (arith, said.status, seven)
+not_seven (failures.BadPair number) code old new (inl said) seven = omega (arith, said.status, seven)
+not_seven (failures.BadPair number) code old new (inr said) seven = omega (arith, said.status, seven)
+not_seven (failures.Fault fault) code old new (inl said) seven = omega (arith, said.status, seven)
+not_seven (failures.Fault fault) code old new (inr said) seven = omega (arith, said.status, seven)
+not_seven (failures.File refusal) code old new (inl said) seven = omega (arith, said.status, seven)
+not_seven (failures.File refusal) code old new (inr said) seven = omega (arith, said.status, seven)
+not_seven (failures.Outside outside) code old new said seven = omega (arith, said.status, seven)
+not_seven (failures.Refusal refusal) code old new (inl said) seven = omega (arith, said.status, seven)
+not_seven (failures.Refusal refusal) code old new (inr said) seven = omega (arith, said.status, seven)
+not_seven failures.Memory code old new said seven = omega (arith, said.status, seven)
+
 -- the failure is this fault, and the report gained its line
 pub record IsFault (failure : Failure) (old new : SinkState) : Type 0 where
   pub fault : Fault

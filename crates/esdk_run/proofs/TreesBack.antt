@@ -4,7 +4,7 @@ use Rattle.esdk_fields.specs.Counts.{Stayed}
 use Rattle.esdk_fields.specs.declared.refusals.Outside.TheVariants as outsides
 use Rattle.esdk_args.specs.declared.pair_words.PairWord.{PairWord}
 use Rattle.esdk_args.specs.declared.request.DecryptWords.{DecryptWords}
-use Rattle.esdk_base.specs.Streams.{ShelfState, SinkState}
+use Rattle.esdk_base.specs.Streams.{ShelfState}
 use Rattle.context_codec.specs.Context.{KeyValue}
 use Rattle.keyring_trait.specs.Keyring.{KeyringMeaning}
 use Rattle.keyring_trait.specs.Wrapping.{WrapKeyValue}
@@ -12,7 +12,7 @@ use Rattle.esdk_decrypt.specs.declared.errors.DecryptError.TheVariants as errors
 use Rattle.esdk_report.specs.declared.failure.Failure.{Failure}
 use Rattle.esdk_report.specs.declared.failure.Failure.TheVariants as failures
 use Rattle.esdk_run.specs.Decrypt.{DecryptFails, asked_of}
-use Rattle.esdk_run.specs.Objects.{Objects}
+use Rattle.esdk_run.specs.Objects.{Objects, Unchanged}
 use Rattle.esdk_run.specs.Pairs.{context_in}
 use Rattle.esdk_report.specs.Report.{Reports}
 use Rattle.esdk_run.specs.Run.{DecryptRuns}
@@ -50,71 +50,71 @@ gives_held trees words name old new context tree left held holds has =
 -- ---- of `decrypt`
 
 -- The run read a tree, and the decryption with it ended so.
-pub record HadTree (trees : Trees) (asked : DecryptWords) (before after : Objects) (unwritten : Type 0) (code : ℕ) (report reported : SinkState) : Type 0 where
+pub record HadTree (trees : Trees) (asked : DecryptWords) (before after : Objects) (unwritten : Type 0) (code : ℕ) : Type 0 where
   pub given : List KeyValue
   pub tree : KeyringMeaning
   pub left : KeyringMeaning
   pub has : HasTree trees asked.pairs asked.keyring before.shelf after.shelf given tree left
-  pub ended : Ending (asked_of asked given tree left) before after unwritten code report reported
+  pub ended : Ending (asked_of asked given tree left) before after unwritten code
 
-failed_with : (trees : Trees) (asked : DecryptWords) (before after : Objects) (untouched unwritten unread : Type 0) (code : ℕ) (report reported : SinkState) (left : KeyringMeaning)
-    (failure : Failure) → trees.kept ≡ Some left → DecryptFails trees asked before after untouched unwritten unread failure → Reports failure code report reported
-    → HadTree trees asked before after unwritten code report reported
-failed_with trees asked before after untouched unwritten unread code report reported left failures.NotRead kept fails said = absurd fails
-failed_with trees asked before after untouched unwritten unread code report reported left (failures.BadNumber option) kept fails said = absurd fails
-failed_with trees asked before after untouched unwritten unread code report reported left (failures.BadPair number) kept fails said = absurd fails
-failed_with trees asked before after untouched unwritten unread code report reported left (failures.Fault fault) kept fails said =
+failed_with : (trees : Trees) (asked : DecryptWords) (before after : Objects) (unchanged : Unchanged) (code : ℕ) (left : KeyringMeaning)
+    (failure : Failure) → trees.kept ≡ Some left → DecryptFails trees asked before after unchanged failure → Reports failure code before.report after.report
+    → HadTree trees asked before after unchanged.output code
+failed_with trees asked before after unchanged code left failures.NotRead kept fails said = absurd fails
+failed_with trees asked before after unchanged code left (failures.BadNumber option) kept fails said = absurd fails
+failed_with trees asked before after unchanged code left (failures.BadPair number) kept fails said = absurd fails
+failed_with trees asked before after unchanged code left (failures.Fault fault) kept fails said =
     record { given = fails.given; tree = fails.tree; left = fails.left; has = fails.has; ended = inr (errors.Fault fault, fails.ended, said) }
-failed_with trees asked before after untouched unwritten unread code report reported left (failures.File refusal) kept fails said = absurd (none_is_some trees left kept fails.1.none)
-failed_with trees asked before after untouched unwritten unread code report reported left (failures.Outside outsides.ShelfFault) kept fails said =
+failed_with trees asked before after unchanged code left (failures.File refusal) kept fails said = absurd (none_is_some trees left kept fails.1.none)
+failed_with trees asked before after unchanged code left (failures.Outside outsides.ShelfFault) kept fails said =
     absurd (none_is_some trees left kept fails.1.none)
-failed_with trees asked before after untouched unwritten unread code report reported left (failures.Outside outside) kept fails said =
+failed_with trees asked before after unchanged code left (failures.Outside outside) kept fails said =
     record { given = fails.given; tree = fails.tree; left = fails.left; has = fails.has; ended = inr (errors.Outside outside, fails.ended, said) }
-failed_with trees asked before after untouched unwritten unread code report reported left (failures.Refusal refusal) kept fails said = absurd (none_is_some trees left kept fails.1.none)
-failed_with trees asked before after untouched unwritten unread code report reported left failures.Memory kept (inl none) said = absurd (none_is_some trees left kept none.none)
-failed_with trees asked before after untouched unwritten unread code report reported left failures.Memory kept (inr fails) said =
+failed_with trees asked before after unchanged code left (failures.Refusal refusal) kept fails said = absurd (none_is_some trees left kept fails.1.none)
+failed_with trees asked before after unchanged code left failures.Memory kept (inl none) said = absurd (none_is_some trees left kept none.none)
+failed_with trees asked before after unchanged code left failures.Memory kept (inr fails) said =
     record { given = fails.given; tree = fails.tree; left = fails.left; has = fails.has; ended = inr (errors.Memory, fails.ended, said) }
 
-pub had_tree : (trees : Trees) (asked : DecryptWords) (before after : Objects) (untouched unwritten unread : Type 0) (code : ℕ) (report reported : SinkState) (left : KeyringMeaning)
-    → trees.kept ≡ Some left → DecryptRuns trees asked before after untouched unwritten unread code report reported → HadTree trees asked before after unwritten code report reported
-had_tree trees asked before after untouched unwritten unread code report reported left kept (inl done) = record {
+pub had_tree : (trees : Trees) (asked : DecryptWords) (before after : Objects) (unchanged : Unchanged) (code : ℕ) (left : KeyringMeaning)
+    → trees.kept ≡ Some left → DecryptRuns trees asked before after unchanged code → HadTree trees asked before after unchanged.output code
+had_tree trees asked before after unchanged code left kept (inl done) = record {
   given = done.done.given;
   tree = done.done.tree;
   left = done.done.left;
   has = done.done.has;
   ended = inl (done.context, done.done.done, done.told);
 }
-had_tree trees asked before after untouched unwritten unread code report reported left kept (inr fails) =
-    failed_with trees asked before after untouched unwritten unread code report reported left fails.failure kept fails.because fails.said
+had_tree trees asked before after unchanged code left kept (inr fails) =
+    failed_with trees asked before after unchanged code left fails.failure kept fails.because fails.said
 
-fails_back : (trees : Trees) (asked : DecryptWords) (before after : Objects) (untouched unwritten unread : Type 0) (code : ℕ) (report reported : SinkState) (failure : Failure)
+fails_back : (trees : Trees) (asked : DecryptWords) (before after : Objects) (unchanged : Unchanged) (code : ℕ) (failure : Failure)
     (context : List KeyValue) (tree : KeyringMeaning) → context_in asked.pairs ≡ Ok context → HoldsTree trees before.shelf.files asked.keyring tree
-    → Stayed before.shelf.faults after.shelf.faults → DecryptFails trees asked before after untouched unwritten unread failure → Reports failure code report reported
+    → Stayed before.shelf.faults after.shelf.faults → DecryptFails trees asked before after unchanged failure → Reports failure code before.report after.report
     → (code ≡ 5) ⊎ GivesTree trees tree
-fails_back trees asked before after untouched unwritten unread code report reported failures.NotRead context tree is holds stayed fails said = absurd fails
-fails_back trees asked before after untouched unwritten unread code report reported (failures.BadNumber option) context tree is holds stayed fails said = absurd fails
-fails_back trees asked before after untouched unwritten unread code report reported (failures.BadPair number) context tree is holds stayed fails said = absurd fails
-fails_back trees asked before after untouched unwritten unread code report reported (failures.Fault fault) context tree is holds stayed fails said =
+fails_back trees asked before after unchanged code failures.NotRead context tree is holds stayed fails said = absurd fails
+fails_back trees asked before after unchanged code (failures.BadNumber option) context tree is holds stayed fails said = absurd fails
+fails_back trees asked before after unchanged code (failures.BadPair number) context tree is holds stayed fails said = absurd fails
+fails_back trees asked before after unchanged code (failures.Fault fault) context tree is holds stayed fails said =
     inr (gives_held trees _ _ _ _ _ fails.tree fails.left tree holds fails.has)
-fails_back trees asked before after untouched unwritten unread code report reported (failures.File refusal) context tree is holds stayed fails said =
+fails_back trees asked before after unchanged code (failures.File refusal) context tree is holds stayed fails said =
     absurd (held_is_taken trees before.shelf after.shelf asked.keyring tree refusal holds fails.0.cause)
-fails_back trees asked before after untouched unwritten unread code report reported (failures.Outside outsides.ShelfFault) context tree is holds stayed fails said =
+fails_back trees asked before after unchanged code (failures.Outside outsides.ShelfFault) context tree is holds stayed fails said =
     absurd (held_is_read trees before.shelf after.shelf asked.keyring tree holds stayed fails.0.cause)
-fails_back trees asked before after untouched unwritten unread code report reported (failures.Outside outside) context tree is holds stayed fails said =
+fails_back trees asked before after unchanged code (failures.Outside outside) context tree is holds stayed fails said =
     inr (gives_held trees _ _ _ _ _ fails.tree fails.left tree holds fails.has)
-fails_back trees asked before after untouched unwritten unread code report reported (failures.Refusal refusal) context tree is holds stayed fails said =
+fails_back trees asked before after unchanged code (failures.Refusal refusal) context tree is holds stayed fails said =
     absurd (pairs_not_refused asked.pairs context refusal is fails.0.refused)
-fails_back trees asked before after untouched unwritten unread code report reported failures.Memory context tree is holds stayed fails said =
-    inl (memory_status failures.Memory code report reported refl said)
+fails_back trees asked before after unchanged code failures.Memory context tree is holds stayed fails said =
+    inl (memory_status failures.Memory code before.report after.report refl said)
 
-pub decrypt_comes_back : (trees : Trees) (asked : DecryptWords) (before after : Objects) (untouched unwritten unread : Type 0) (code : ℕ) (report reported : SinkState)
-    → DecryptRuns trees asked before after untouched unwritten unread code report reported → ComesBack trees asked.pairs asked.keyring before.shelf after.shelf code
-decrypt_comes_back trees asked before after untouched unwritten unread code report reported runs = record {
+pub decrypt_comes_back : (trees : Trees) (asked : DecryptWords) (before after : Objects) (unchanged : Unchanged) (code : ℕ)
+    → DecryptRuns trees asked before after unchanged code → ComesBack trees asked.pairs asked.keyring before.shelf after.shelf code
+decrypt_comes_back trees asked before after unchanged code runs = record {
   read = λ left kept.
-      let had = had_tree trees asked before after untouched unwritten unread code report reported left kept runs in
+      let had = had_tree trees asked before after unchanged code left kept runs in
       left_is trees _ _ _ _ _ had.tree had.left left had.has kept;
   held = λ context tree is holds stayed. elim runs [
     | inl done ↦ inr (gives_held trees _ _ _ _ _ done.done.tree done.done.left tree holds done.done.has)
-    | inr fails ↦ fails_back trees asked before after untouched unwritten unread code report reported fails.failure context tree is holds stayed fails.because fails.said
+    | inr fails ↦ fails_back trees asked before after unchanged code fails.failure context tree is holds stayed fails.because fails.said
   ];
 }

@@ -20,7 +20,7 @@ use Rattle.esdk_decrypt.specs.Decrypt.{Asked, Decrypts, EndsSo}
 use Rattle.esdk_decrypt.specs.Told.{Reader}
 use Rattle.esdk_report.specs.declared.failure.Failure.{Failure}
 use Rattle.esdk_report.specs.declared.failure.Failure.TheVariants as failures
-use Rattle.esdk_run.specs.Objects.{Objects}
+use Rattle.esdk_run.specs.Objects.{Objects, Unchanged, same_streams}
 use Rattle.esdk_run.specs.Pairs.{RefusesWordPairs, required_in}
 use Rattle.esdk_run.specs.Trees.{HasNoTree, HasTree, IsUntouched, Trees}
 
@@ -87,18 +87,17 @@ pub record DecryptionFails (trees : Trees) (asked : DecryptWords) (before after 
   pub has : HasTree trees asked.pairs asked.keyring before.shelf after.shelf given tree left
   pub ended : EndsSo (asked_of asked given tree left) before.input after.input before.output after.output unwritten error
 
--- Why an input wasn't decrypted, and what that left. `untouched` says that input and output are as before, `unwritten` that the output is, `unread` that the shelf is.
--- Want of memory is free.
-abbrev pub DecryptFails : Trees → DecryptWords → Objects → Objects → Type 0 → Type 0 → Type 0 → Failure → Type 0
-DecryptFails trees asked before after untouched unwritten unread (failures.File refusal) =
-    HasNoTree trees asked.pairs asked.keyring before.shelf after.shelf (failures.File refusal) × IsUntouched trees untouched
-DecryptFails trees asked before after untouched unwritten unread (failures.Outside outsides.ShelfFault) =
-    HasNoTree trees asked.pairs asked.keyring before.shelf after.shelf (failures.Outside outsides.ShelfFault) × IsUntouched trees untouched
-DecryptFails trees asked before after untouched unwritten unread (failures.Outside outside) = DecryptionFails trees asked before after unwritten (errors.Outside outside)
-DecryptFails trees asked before after untouched unwritten unread (failures.Fault fault) = DecryptionFails trees asked before after unwritten (errors.Fault fault)
-DecryptFails trees asked before after untouched unwritten unread (failures.Refusal refusal) = RefusesWordPairs asked.pairs refusal unread × IsUntouched trees untouched
-DecryptFails trees asked before after untouched unwritten unread failures.Memory = IsUntouched trees untouched ⊎ DecryptionFails trees asked before after unwritten errors.Memory
-DecryptFails trees asked before after untouched unwritten unread failure = ⊥
+-- Why an input wasn't decrypted, and what that left. Want of memory is free.
+abbrev pub DecryptFails : Trees → DecryptWords → Objects → Objects → Unchanged → Failure → Type 0
+DecryptFails trees asked before after unchanged (failures.File refusal) =
+    HasNoTree trees asked.pairs asked.keyring before.shelf after.shelf (failures.File refusal) × IsUntouched trees (same_streams unchanged)
+DecryptFails trees asked before after unchanged (failures.Outside outsides.ShelfFault) =
+    HasNoTree trees asked.pairs asked.keyring before.shelf after.shelf (failures.Outside outsides.ShelfFault) × IsUntouched trees (same_streams unchanged)
+DecryptFails trees asked before after unchanged (failures.Outside outside) = DecryptionFails trees asked before after unchanged.output (errors.Outside outside)
+DecryptFails trees asked before after unchanged (failures.Fault fault) = DecryptionFails trees asked before after unchanged.output (errors.Fault fault)
+DecryptFails trees asked before after unchanged (failures.Refusal refusal) = RefusesWordPairs asked.pairs refusal unchanged.shelf × IsUntouched trees (same_streams unchanged)
+DecryptFails trees asked before after unchanged failures.Memory = IsUntouched trees (same_streams unchanged) ⊎ DecryptionFails trees asked before after unchanged.output errors.Memory
+DecryptFails trees asked before after unchanged failure = ⊥
 
 -- what the failure of a decryption is called in the program
 abbrev pub IsDecryptFailure : DecryptError → Failure → Type 0

@@ -1,7 +1,6 @@
 -- What the command `encrypt` comes to.
 use Rattle.std.specs.Prelude.{◌≡◌, ◌⊎◌, ℕ, List, [], ◌∷◌, length, take, drop, ⊤, Option, option_map, None, IfSome}
 use Rattle.esdk_args.specs.declared.request.EncryptWords.{EncryptWords}
-use Rattle.esdk_base.specs.Streams.{EntropyState}
 use Rattle.esdk_fields.specs.declared.refusals.Outside.TheVariants as outsides
 use Rattle.esdk_fields.specs.declared.refusals.Refusal.{Refusal}
 use Rattle.context_codec.specs.Context.{KeyValue}
@@ -17,7 +16,7 @@ use Rattle.esdk_encrypt.specs.Encrypt.{Asked, Encrypts, EndsSo}
 use Rattle.esdk_encrypt.specs.Told.{NoneFor, Writer}
 use Rattle.esdk_report.specs.declared.failure.Failure.{Failure}
 use Rattle.esdk_report.specs.declared.failure.Failure.TheVariants as failures
-use Rattle.esdk_run.specs.Objects.{Objects}
+use Rattle.esdk_run.specs.Objects.{Objects, Unchanged, same_streams}
 use Rattle.esdk_run.specs.Pairs.{RefusesWordPairs, required_in}
 use Rattle.esdk_run.specs.Trees.{HasNoTree, HasTree, IsUntouched, Trees}
 
@@ -62,36 +61,35 @@ writer_of asked context keys = record {
 -- ---- how it ends
 
 -- The words give a context, the keyring file is read as a tree, and the output gained the message of the whole input.
-pub record EncryptsInput (trees : Trees) (asked : EncryptWords) (before after : Objects) (entropy spent : EntropyState) : Type 0 where
+pub record EncryptsInput (trees : Trees) (asked : EncryptWords) (before after : Objects) : Type 0 where
   pub context : List KeyValue
   pub tree : KeyringMeaning
   pub left : KeyringMeaning
   pub has : HasTree trees asked.pairs asked.keyring before.shelf after.shelf context tree left
-  pub done : Encrypts (asked_of asked context tree left) before.input after.input before.output after.output entropy spent
+  pub done : Encrypts (asked_of asked context tree left) before.input after.input before.output after.output before.entropy after.entropy
 
 -- The words give a context, the keyring file is read as a tree, and the encryption ended with this error.
-pub record EncryptionFails (trees : Trees) (asked : EncryptWords) (before after : Objects) (entropy spent : EntropyState) (untouched : Type 0) (error : EncryptError) : Type 0 where
+pub record EncryptionFails (trees : Trees) (asked : EncryptWords) (before after : Objects) (untouched : Type 0) (error : EncryptError) : Type 0 where
   pub context : List KeyValue
   pub tree : KeyringMeaning
   pub left : KeyringMeaning
   pub has : HasTree trees asked.pairs asked.keyring before.shelf after.shelf context tree left
-  pub ended : EndsSo (asked_of asked context tree left) before.input after.input before.output after.output entropy spent untouched ⊤ error
+  pub ended : EndsSo (asked_of asked context tree left) before.input after.input before.output after.output before.entropy after.entropy untouched ⊤ error
 
--- Why an input wasn't encrypted, and what that left. `untouched` says that input and output are as before, `unread` that the shelf is, `undrawn` that the entropy is.
--- Want of memory is free.
-abbrev pub EncryptFails : Trees → EncryptWords → Objects → Objects → EntropyState → EntropyState → Type 0 → Type 0 → Type 0 → Failure → Type 0
-EncryptFails trees asked before after entropy spent untouched unread undrawn (failures.File refusal) =
-    HasNoTree trees asked.pairs asked.keyring before.shelf after.shelf (failures.File refusal) × IsUntouched trees (untouched × undrawn)
-EncryptFails trees asked before after entropy spent untouched unread undrawn (failures.Outside outsides.ShelfFault) =
-    HasNoTree trees asked.pairs asked.keyring before.shelf after.shelf (failures.Outside outsides.ShelfFault) × IsUntouched trees (untouched × undrawn)
-EncryptFails trees asked before after entropy spent untouched unread undrawn (failures.Outside outside) =
-    EncryptionFails trees asked before after entropy spent untouched (errors.Outside outside)
-EncryptFails trees asked before after entropy spent untouched unread undrawn (failures.Refusal refusal) =
-    (RefusesWordPairs asked.pairs refusal unread × IsUntouched trees (untouched × undrawn))
-    ⊎ EncryptionFails trees asked before after entropy spent untouched (errors.Refusal refusal)
-EncryptFails trees asked before after entropy spent untouched unread undrawn failures.Memory =
-    IsUntouched trees (untouched × undrawn) ⊎ EncryptionFails trees asked before after entropy spent untouched errors.Memory
-EncryptFails trees asked before after entropy spent untouched unread undrawn failure = ⊥
+-- Why an input wasn't encrypted, and what that left. Want of memory is free.
+abbrev pub EncryptFails : Trees → EncryptWords → Objects → Objects → Unchanged → Failure → Type 0
+EncryptFails trees asked before after unchanged (failures.File refusal) =
+    HasNoTree trees asked.pairs asked.keyring before.shelf after.shelf (failures.File refusal) × IsUntouched trees (same_streams unchanged × unchanged.entropy)
+EncryptFails trees asked before after unchanged (failures.Outside outsides.ShelfFault) =
+    HasNoTree trees asked.pairs asked.keyring before.shelf after.shelf (failures.Outside outsides.ShelfFault) × IsUntouched trees (same_streams unchanged × unchanged.entropy)
+EncryptFails trees asked before after unchanged (failures.Outside outside) =
+    EncryptionFails trees asked before after (same_streams unchanged) (errors.Outside outside)
+EncryptFails trees asked before after unchanged (failures.Refusal refusal) =
+    (RefusesWordPairs asked.pairs refusal unchanged.shelf × IsUntouched trees (same_streams unchanged × unchanged.entropy))
+    ⊎ EncryptionFails trees asked before after (same_streams unchanged) (errors.Refusal refusal)
+EncryptFails trees asked before after unchanged failures.Memory =
+    IsUntouched trees (same_streams unchanged × unchanged.entropy) ⊎ EncryptionFails trees asked before after (same_streams unchanged) errors.Memory
+EncryptFails trees asked before after unchanged failure = ⊥
 
 -- what the failure of an encryption is called in the program
 abbrev pub IsEncryptFailure : EncryptError → Failure → Type 0

@@ -8,3 +8,7 @@ pub mod Told
 pub mod Pairs
 pub mod Read
 pub mod Trees
+pub mod Serving
+pub mod Batch
+pub mod Generate
+pub mod Served

@@ -3,7 +3,6 @@ use Rattle.std.specs.Prelude.{◌≡◌, ◌⊎◌, ℕ, ◌≤◌, List, ◌++�
 use Rattle.std.specs.Io.KnownBytes.{Appends}
 use Rattle.esdk_fields.specs.Counts.{Rose}
 use Rattle.esdk_base.specs.Sink.{AppendsFront}
-use Rattle.esdk_base.specs.Streams.{SinkState}
 use Rattle.esdk_fields.specs.declared.faults.Fault.{Fault}
 use Rattle.esdk_fields.specs.declared.refusals.Outside.TheVariants as outsides
 use Rattle.context_codec.specs.Context.{KeyValue}
@@ -33,14 +32,14 @@ pub record GainsFront (reader : Reader) (before after : Objects) : Type 0 where
   pub front : AppendsFront before.output.written after.output.written (content (judged_by reader bytes))
 
 -- The whole input was taken and is a whole message, the output gained its content, and the report was told its whole context, or that memory was wanting for it.
-pub record ReadsWhole (reader : Reader) (before after : Objects) (code : ℕ) (report reported : SinkState) : Type 0 where
+pub record ReadsWhole (reader : Reader) (before after : Objects) (code : ℕ) : Type 0 where
   pub bytes : List ℕ
   pub context : List KeyValue
   pub gains : GainsRead reader before after bytes
   pub end : EndSeen before.input after.input bytes
   pub whole : (judged_by reader bytes).verdict ≡ Whole
   pub unlocked : HasContext (unlocking bytes reader.settings reader.given reader.required reader.keys) context
-  pub told : TellsOrLacksMemory context code report reported
+  pub told : TellsOrLacksMemory context code before.report after.report
 
 -- The bytes that were taken have this fault, or they are the whole input and it has it. The output gained what is read of them.
 pub record ReadsFault (reader : Reader) (before after : Objects) (fault : Fault) : Type 0 where
@@ -75,6 +74,6 @@ EndsAsRead reader before after failures.Memory = ReadsNothing reader before afte
 EndsAsRead reader before after failure = ⊥
 
 -- All was decrypted, or a failure ended the run: a fault (status 1), X1, X2 or X6 (4), or want of memory (5); each as is read.
-abbrev pub SaysWhatIsRead : Reader → Objects → Objects → ℕ → SinkState → SinkState → Type 0
-SaysWhatIsRead reader before after code report reported =
-    ReadsWhole reader before after code report reported ⊎ Fails (EndsAsRead reader before after) code report reported
+abbrev pub SaysWhatIsRead : Reader → Objects → Objects → ℕ → Type 0
+SaysWhatIsRead reader before after code =
+    ReadsWhole reader before after code ⊎ Fails (EndsAsRead reader before after) code before.report after.report

@@ -11,7 +11,7 @@ use Rattle.esdk_args.specs.declared.request.Request.TheVariants as requests
 use Rattle.esdk_args.specs.declared.request.WordsFault.{WordsFault}
 use Rattle.esdk_fields.specs.Counts.{Stayed}
 use Rattle.esdk_base.specs.Shelf.{Files, Holds}
-use Rattle.esdk_base.specs.Streams.{EntropyState, ShelfState, SinkState}
+use Rattle.esdk_base.specs.Streams.{ShelfState, SinkState}
 use Rattle.esdk_fields.specs.declared.faults.Fault.{Fault}
 use Rattle.esdk_report.specs.Lines.{fault_line, printed_line}
 use Rattle.context_codec.specs.Context.{KeyValue}
@@ -64,19 +64,18 @@ pub record ComesBack (trees : Trees) (words : List PairWord) (name : List ℕ) (
   pub held : (context : List KeyValue) (tree : KeyringMeaning) → context_in words ≡ Ok context → HoldsTree trees old.files name tree → Stayed old.faults new.faults
       → (code ≡ 5) ⊎ GivesTree trees tree
 
--- the pair words, and the name of the keyring file, of words that name one
+-- the pair words, and the name of the keyring file, of words that name one (that of a batch stands in its job file)
 abbrev pub keyring_asked : Result Request WordsFault → Option (List PairWord × List ℕ)
 keyring_asked (Ok (requests.Encrypt asked)) = Some (asked.pairs, asked.keyring)
 keyring_asked (Ok (requests.Decrypt asked)) = Some (asked.pairs, asked.keyring)
-keyring_asked (Ok (requests.List asked)) = None
-keyring_asked (Ok (requests.Migrate asked)) = None
+keyring_asked (Ok request) = None
 keyring_asked (Err fault) = None
 
 -- No count of faults of the input, the output and the report rose, and none is at its end.
-pub record NothingFails (before after : Objects) (report reported : SinkState) : Type 0 where
+pub record NothingFails (before after : Objects) : Type 0 where
   pub reading : Stayed before.input.faults after.input.faults
   pub writing : Stayed before.output.faults after.output.faults
-  pub reporting : Stayed report.faults reported.faults
+  pub reporting : Stayed before.report.faults after.report.faults
 
 -- all is done, or memory ran out
 abbrev pub IsDoneOrMemory : ℕ → Type 0
@@ -86,19 +85,19 @@ IsDoneOrMemory code = (code ≡ 0) ⊎ (code ≡ 5)
 
 -- An input that fits into a message is encrypted, unless memory runs out or an object fails: where the words give a context, a tree is given back, the request isn't
 -- refused, and the limit on entries allows as many as the tree makes. The tree needn't tell its keys.
-abbrev pub EncryptsWhatFits : Trees → EncryptWords → Objects → Objects → EntropyState → EntropyState → ℕ → SinkState → SinkState → Type 0
-EncryptsWhatFits trees asked before after entropy spent code report reported = (context : List KeyValue) (left : KeyringMeaning) (text : List ℕ)
+abbrev pub EncryptsWhatFits : Trees → EncryptWords → Objects → Objects → ℕ → Type 0
+EncryptsWhatFits trees asked before after code = (context : List KeyValue) (left : KeyringMeaning) (text : List ℕ)
     → context_in asked.pairs ≡ Ok context → trees.kept ≡ Some left
     → refusal_asked asked context left ≡ None → IfSome asked.max_keys (λ most. left.wraps ≤ most) → FitsMessage asked.frame before.input text
-    → NothingFails before after report reported → Stayed entropy.faults spent.faults
+    → NothingFails before after → Stayed before.entropy.faults after.entropy.faults
     → IfNoneFailed trees asked.keyring before.shelf after.shelf (IsDoneOrMemory code)
 
 -- Once `encrypt` is done, an output that tells its bytes gained the message of the input's bytes, over the context of the words, under the keys that the tree tells.
-abbrev pub WritesTheMessage : Trees → EncryptWords → Objects → Objects → EntropyState → ℕ → Type 0
-WritesTheMessage trees asked before after entropy code = (context : List KeyValue) (left : KeyringMeaning) (keys : List WrapKeyValue) (text written : List ℕ)
+abbrev pub WritesTheMessage : Trees → EncryptWords → Objects → Objects → ℕ → Type 0
+WritesTheMessage trees asked before after code = (context : List KeyValue) (left : KeyringMeaning) (keys : List WrapKeyValue) (text written : List ℕ)
     → context_in asked.pairs ≡ Ok context → trees.kept ≡ Some left → left.keys ≡ Some keys
     → before.input.left ≡ Some text → before.output.written ≡ Some written → code ≡ 0
-    → GainsMessage (writer_of asked context keys) text written entropy after.output
+    → GainsMessage (writer_of asked context keys) text written before.entropy after.output
 
 -- ---- `decrypt`, where the tree tells its keys and no keyring of it failed
 
@@ -110,48 +109,48 @@ pub record Reads (trees : Trees) (asked : DecryptWords) (given : List KeyValue) 
   pub told : left.keys ≡ Some keys
 
 -- `decrypt` says what is read of the bytes that it took, whatever the input and the output tell.
-abbrev pub SaysWhatItReads : Trees → DecryptWords → Objects → Objects → ℕ → SinkState → SinkState → Type 0
-SaysWhatItReads trees asked before after code report reported = (given : List KeyValue) (keys : List WrapKeyValue) → Reads trees asked given keys
-    → IfNoneFailed trees asked.keyring before.shelf after.shelf (SaysWhatIsRead (reader_of asked given keys) before after code report reported)
+abbrev pub SaysWhatItReads : Trees → DecryptWords → Objects → Objects → ℕ → Type 0
+SaysWhatItReads trees asked before after code = (given : List KeyValue) (keys : List WrapKeyValue) → Reads trees asked given keys
+    → IfNoneFailed trees asked.keyring before.shelf after.shelf (SaysWhatIsRead (reader_of asked given keys) before after code)
 
 -- An input that is a whole message is decrypted, unless memory runs out or an object fails.
-abbrev pub DecryptsWholeMessages : Trees → DecryptWords → Objects → Objects → ℕ → SinkState → SinkState → Type 0
-DecryptsWholeMessages trees asked before after code report reported = (given : List KeyValue) (keys : List WrapKeyValue) (bytes : List ℕ)
-    → Reads trees asked given keys → IsWholeInput (reader_of asked given keys) before.input bytes → NothingFails before after report reported
+abbrev pub DecryptsWholeMessages : Trees → DecryptWords → Objects → Objects → ℕ → Type 0
+DecryptsWholeMessages trees asked before after code = (given : List KeyValue) (keys : List WrapKeyValue) (bytes : List ℕ)
+    → Reads trees asked given keys → IsWholeInput (reader_of asked given keys) before.input bytes → NothingFails before after
     → IfNoneFailed trees asked.keyring before.shelf after.shelf (IsDoneOrMemory code)
 
 -- All of the input's bytes have this fault, the output gained what their judgement releases, and the report gained the fault's line.
-pub record NamesFault (asked : DecryptWords) (given : List KeyValue) (keys : List WrapKeyValue) (bytes : List ℕ) (before after : Objects) (report reported : SinkState) : Type 0 where
+pub record NamesFault (asked : DecryptWords) (given : List KeyValue) (keys : List WrapKeyValue) (bytes : List ℕ) (before after : Objects) : Type 0 where
   pub fault : Fault
   pub cause : fault_at_end (judged_by (reader_of asked given keys) bytes).verdict ≡ Some fault
   pub gained : Appends before.output.written after.output.written (content (judged_by (reader_of asked given keys) bytes))
-  pub line : Gains (printed_line (fault_line fault)) report reported
+  pub line : Gains (printed_line (fault_line fault)) before.report after.report
 
 -- All of the input's bytes are a whole message, the output gained its content, and the report the line of its whole context.
-pub record ShowsWhole (asked : DecryptWords) (given : List KeyValue) (keys : List WrapKeyValue) (bytes : List ℕ) (before after : Objects) (code : ℕ) (report reported : SinkState) : Type 0 where
+pub record ShowsWhole (asked : DecryptWords) (given : List KeyValue) (keys : List WrapKeyValue) (bytes : List ℕ) (before after : Objects) (code : ℕ) : Type 0 where
   pub context : List KeyValue
   pub message : IsWholeMessage (reader_of asked given keys) bytes before.output after.output context
-  pub shown : ShowsContext context code report reported
+  pub shown : ShowsContext context code before.report after.report
 
 -- `decrypt` says of the input what the judgement of all its bytes is, however little of it was taken: a verdict that is a fault stays when bytes follow.
-abbrev pub SaysTheJudgement : Trees → DecryptWords → Objects → Objects → ℕ → SinkState → SinkState → Type 0
-SaysTheJudgement trees asked before after code report reported = (given : List KeyValue) (keys : List WrapKeyValue) (bytes : List ℕ)
+abbrev pub SaysTheJudgement : Trees → DecryptWords → Objects → Objects → ℕ → Type 0
+SaysTheJudgement trees asked before after code = (given : List KeyValue) (keys : List WrapKeyValue) (bytes : List ℕ)
     → Reads trees asked given keys → before.input.left ≡ Some bytes
     → IfNoneFailed trees asked.keyring before.shelf after.shelf
-    ((code ≡ 0 → ShowsWhole asked given keys bytes before after code report reported) × (code ≡ 1 → NamesFault asked given keys bytes before after report reported))
+    ((code ≡ 0 → ShowsWhole asked given keys bytes before after code) × (code ≡ 1 → NamesFault asked given keys bytes before after))
 
 -- The output gained this text, and the report the line of this context.
-pub record GivesBack (text : List ℕ) (context : List KeyValue) (before after : Objects) (code : ℕ) (report reported : SinkState) : Type 0 where
+pub record GivesBack (text : List ℕ) (context : List KeyValue) (before after : Objects) (code : ℕ) : Type 0 where
   pub gained : Appends before.output.written after.output.written text
-  pub shown : ShowsContext context code report reported
+  pub shown : ShowsContext context code before.report after.report
 
 -- A message that was written for one of the keys and for the pairs is decrypted to its text and its whole context, unless memory runs out or an object fails.
-abbrev pub ReadsBack : Trees → DecryptWords → Objects → Objects → ℕ → SinkState → SinkState → Type 0
-ReadsBack trees asked before after code report reported = (given : List KeyValue) (keys writers : List WrapKeyValue) (m : Written)
+abbrev pub ReadsBack : Trees → DecryptWords → Objects → Objects → ℕ → Type 0
+ReadsBack trees asked before after code = (given : List KeyValue) (keys writers : List WrapKeyValue) (m : Written)
     → Reads trees asked given keys → IsWrittenFor (reader_of asked given keys) writers m
     → before.input.left ≡ Some (message_of m) → length (message_of m) < 2 ^ 62
     → IfNoneFailed trees asked.keyring before.shelf after.shelf
-    ((code ≡ 0 → GivesBack m.text m.context before after code report reported) × (NothingFails before after report reported → IsDoneOrMemory code))
+    ((code ≡ 0 → GivesBack m.text m.context before after code) × (NothingFails before after → IsDoneOrMemory code))
 
 -- ---- `migrate`
 

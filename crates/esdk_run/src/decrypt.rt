@@ -1,8 +1,9 @@
 //! The command `decrypt`.
-ghost use Rattle.std.specs.Prelude.{◌≡◌, ◌+◌, ◌<◌, ◌≤◌, ◌^◌, length, IfErr, IfOk};
+ghost use Rattle.std.specs.Prelude.{◌≡◌, ◌+◌, ◌<◌, ◌≤◌, ◌^◌, ⊤, length, IfErr, IfOk};
+ghost use Rattle.esdk_base.specs.Streams.{EntropyState, SinkState};
 ghost use Rattle.esdk_decrypt.specs.Decrypt.{Decrypts, EndsSo};
 ghost use Rattle.esdk_run.specs.Decrypt.{DecryptFails, DecryptsInput, IsDecryptFailure, asked_of};
-ghost use Rattle.esdk_run.specs.Objects.{objects};
+ghost use Rattle.esdk_run.specs.Objects.{as_before, objects};
 ghost use Rattle.esdk_run.specs.Pairs.{required_in};
 ghost use Rattle.esdk_run.specs.Trees.{IsLawful, TreeGoes, trees_of};
 
@@ -22,11 +23,12 @@ use keyring_trait::Keyring;
 use multi_keyring::Node;
 use std::alloc::Global;
 
-/// Writes what the judgement of the input releases under the tree that the keyring file is read as, with the pairs of
-/// the words given and their required keys demanded, and answers the whole context. The tree is given back as it is
-/// left, also after an error.
+/// Writes what the judgement of the input releases under the tree that the keyring file is read as,
+/// with the pairs of the words given and their required keys demanded, and answers the whole
+/// context. The tree is given back as it is left, also after an error.
 ///
-/// The pairs are read first, then the keyring file, and then the input, each content being written before more is read.
+/// The pairs are read first, then the keyring file, and then the input, each content being written
+/// before more is read.
 pub fn decrypt_input<P: Keyring, S: Source, O: Sink, F: Shelf>(
     alloc: Global,
     asked: &DecryptWords,
@@ -36,13 +38,15 @@ pub fn decrypt_input<P: Keyring, S: Source, O: Sink, F: Shelf>(
     plugs: Vec<Plug<P>>,
 ) -> Outcome<Result<Context, Failure>, Option<Node<P>>>
     requires plugs { length plugs.items < 2 ^ 24 }
-    ensures done { IfOk result.ended (DecryptsInput (trees_of P.meaning plugs.items result.tree) asked.now
-        (objects (S.state input.old) (O.state output.old) (F.state shelf.old))
-        (objects (S.state input.new) (O.state output.new) (F.state shelf.new))) }
-    ensures fails { IfErr result.ended (DecryptFails (trees_of P.meaning plugs.items result.tree) asked.now
-        (objects (S.state input.old) (O.state output.old) (F.state shelf.old))
-        (objects (S.state input.new) (O.state output.new) (F.state shelf.new))
-        ((input.new ≡ input.old) × (output.new ≡ output.old)) (output.new ≡ output.old) (shelf.new ≡ shelf.old)) }
+    ensures done { (entropy : EntropyState) (report reported : SinkState)
+        → IfOk result.ended (DecryptsInput (trees_of P.meaning plugs.items result.tree) asked.now
+        (objects (S.state input.old) (O.state output.old) (F.state shelf.old) entropy report)
+        (objects (S.state input.new) (O.state output.new) (F.state shelf.new) entropy reported)) }
+    ensures fails { (entropy : EntropyState) (report reported : SinkState)
+        → IfErr result.ended (DecryptFails (trees_of P.meaning plugs.items result.tree) asked.now
+        (objects (S.state input.old) (O.state output.old) (F.state shelf.old) entropy report)
+        (objects (S.state input.new) (O.state output.new) (F.state shelf.new) entropy reported)
+        (as_before (input.new ≡ input.old) (output.new ≡ output.old) (shelf.new ≡ shelf.old) ⊤)) }
     ensures shelf { (F.state shelf.new).files ≡ (F.state shelf.old).files }
     ensures taken { (S.state input.new).given ≤ (S.state input.old).given + 2 ^ 62 }
 {
@@ -73,8 +77,8 @@ pub fn decrypt_input<P: Keyring, S: Source, O: Sink, F: Shelf>(
     }
 }
 
-/// Writes what the judgement of the input releases under this tree, with these pairs given and these keys required,
-/// and answers the whole context.
+/// Writes what the judgement of the input releases under this tree, with these pairs given and
+/// these keys required, and answers the whole context.
 fn decrypt_under<K: Keyring, S: Source, O: Sink>(
     alloc: Global,
     asked: &DecryptWords,
@@ -85,10 +89,12 @@ fn decrypt_under<K: Keyring, S: Source, O: Sink>(
     output: &mut O,
 ) -> Outcome<Result<Context, DecryptError>, K>
     requires keys { required ≡ required_in asked.now.pairs }
-    ensures done { IfOk result.ended (λ context. Decrypts (asked_of asked.now given.now (K.meaning tree) (K.meaning result.tree))
+    ensures done { IfOk result.ended (λ context. Decrypts
+        (asked_of asked.now given.now (K.meaning tree) (K.meaning result.tree))
         (S.state input.old) (S.state input.new)
         (O.state output.old) (O.state output.new) context) }
-    ensures ends { IfErr result.ended (EndsSo (asked_of asked.now given.now (K.meaning tree) (K.meaning result.tree))
+    ensures ends { IfErr result.ended (EndsSo (asked_of asked.now given.now (K.meaning tree)
+        (K.meaning result.tree))
         (S.state input.old) (S.state input.new)
         (O.state output.old) (O.state output.new) (output.new ≡ output.old)) }
     ensures lawful { IsLawful (K.meaning tree) }

@@ -1,8 +1,9 @@
 //! The command `encrypt`.
 ghost use Rattle.std.specs.Prelude.{◌≡◌, ◌+◌, ◌<◌, ◌≤◌, ◌^◌, ⊤, length, IfErr, OnOk};
+ghost use Rattle.esdk_base.specs.Streams.{SinkState};
 ghost use Rattle.esdk_encrypt.specs.Encrypt.{Encrypts, EndsSo};
 ghost use Rattle.esdk_run.specs.Encrypt.{EncryptFails, EncryptsInput, IsEncryptFailure, asked_of};
-ghost use Rattle.esdk_run.specs.Objects.{objects};
+ghost use Rattle.esdk_run.specs.Objects.{as_before, objects};
 ghost use Rattle.esdk_run.specs.Pairs.{required_in};
 ghost use Rattle.esdk_run.specs.Trees.{IsLawful, TreeGoes, trees_of};
 
@@ -21,11 +22,12 @@ use keyring_trait::{EncRequest, Keyring};
 use multi_keyring::Node;
 use std::alloc::Global;
 
-/// Writes the message of the whole input under the tree that the keyring file is read as, over the context of the
-/// words. The tree is given back as it is left, also after an error.
+/// Writes the message of the whole input under the tree that the keyring file is read as, over the
+/// context of the words. The tree is given back as it is left, also after an error.
 ///
-/// The pairs are read first, then the keyring file; then the random bytes are drawn; then the request is judged;
-/// then the message is written, the header before the input is read, and each frame before more of it is.
+/// The pairs are read first, then the keyring file; then the random bytes are drawn; then the
+/// request is judged; then the message is written, the header before the input is read, and each
+/// frame before more of it is.
 pub fn encrypt_input<P: Keyring, S: Source, O: Sink, F: Shelf, W: Entropy>(
     alloc: Global,
     asked: &EncryptWords,
@@ -37,15 +39,20 @@ pub fn encrypt_input<P: Keyring, S: Source, O: Sink, F: Shelf, W: Entropy>(
 ) -> Outcome<Result<(), Failure>, Option<Node<P>>>
     requires some { 1 ≤ asked.now.frame }
     requires plugs { length plugs.items < 2 ^ 24 }
-    ensures done { OnOk result.ended (EncryptsInput (trees_of P.meaning plugs.items result.tree) asked.now
-        (objects (S.state input.old) (O.state output.old) (F.state shelf.old))
-        (objects (S.state input.new) (O.state output.new) (F.state shelf.new))
-        (W.state entropy.old) (W.state entropy.new)) }
-    ensures fails { IfErr result.ended (EncryptFails (trees_of P.meaning plugs.items result.tree) asked.now
-        (objects (S.state input.old) (O.state output.old) (F.state shelf.old))
-        (objects (S.state input.new) (O.state output.new) (F.state shelf.new))
-        (W.state entropy.old) (W.state entropy.new)
-        ((input.new ≡ input.old) × (output.new ≡ output.old)) (shelf.new ≡ shelf.old) (entropy.new ≡ entropy.old)) }
+    ensures done { (report reported : SinkState) → OnOk result.ended
+        (EncryptsInput (trees_of P.meaning plugs.items result.tree) asked.now
+        (objects (S.state input.old) (O.state output.old) (F.state shelf.old)
+        (W.state entropy.old) report)
+        (objects (S.state input.new) (O.state output.new) (F.state shelf.new)
+        (W.state entropy.new) reported)) }
+    ensures fails { (report reported : SinkState) → IfErr result.ended
+        (EncryptFails (trees_of P.meaning plugs.items result.tree) asked.now
+        (objects (S.state input.old) (O.state output.old) (F.state shelf.old)
+        (W.state entropy.old) report)
+        (objects (S.state input.new) (O.state output.new) (F.state shelf.new)
+        (W.state entropy.new) reported)
+        (as_before (input.new ≡ input.old) (output.new ≡ output.old)
+        (shelf.new ≡ shelf.old) (entropy.new ≡ entropy.old))) }
     ensures shelf { (F.state shelf.new).files ≡ (F.state shelf.old).files }
     ensures taken { (S.state input.new).given ≤ (S.state input.old).given + 2 ^ 62 }
 {
@@ -76,7 +83,8 @@ pub fn encrypt_input<P: Keyring, S: Source, O: Sink, F: Shelf, W: Entropy>(
     }
 }
 
-/// Writes the message of the whole input under this tree, over this context with these required keys.
+/// Writes the message of the whole input under this tree, over this context with these required
+/// keys.
 fn encrypt_under<K: Keyring, S: Source, O: Sink, W: Entropy>(
     alloc: Global,
     asked: &EncryptWords,
@@ -89,11 +97,13 @@ fn encrypt_under<K: Keyring, S: Source, O: Sink, W: Entropy>(
 ) -> Outcome<Result<(), EncryptError>, K>
     requires some { 1 ≤ asked.now.frame }
     requires keys { required ≡ required_in asked.now.pairs }
-    ensures done { OnOk result.ended (Encrypts (asked_of asked.now context (K.meaning tree) (K.meaning result.tree))
+    ensures done { OnOk result.ended (Encrypts (asked_of asked.now context (K.meaning tree)
+        (K.meaning result.tree))
         (S.state input.old) (S.state input.new)
         (O.state output.old) (O.state output.new)
         (W.state entropy.old) (W.state entropy.new)) }
-    ensures ends { IfErr result.ended (EndsSo (asked_of asked.now context (K.meaning tree) (K.meaning result.tree))
+    ensures ends { IfErr result.ended (EndsSo (asked_of asked.now context (K.meaning tree)
+        (K.meaning result.tree))
         (S.state input.old) (S.state input.new)
         (O.state output.old) (O.state output.new)
         (W.state entropy.old) (W.state entropy.new)

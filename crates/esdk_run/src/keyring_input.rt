@@ -13,7 +13,8 @@ use multi_keyring::Node;
 use std::alloc::Global;
 use whole_input::{FileError, take_file};
 
-/// The keyring tree that the file of this name is read as, in which the plugs stand where the file names them. The shelf stays as it is.
+/// The keyring tree that the file of this name is read as, in which the plugs stand where the file
+/// names them. The shelf stays as it is.
 ///
 /// `ShelfFault` where a read failed or the file isn't there; then `FileTooLong` where the file has
 /// more than 1,048,576 bytes; then what its bytes are refused for.
@@ -24,8 +25,10 @@ pub fn read_keyring<P: Keyring, F: Shelf>(
     plugs: Vec<Plug<P>>,
 ) -> Result<Node<P>, Failure>
     requires plugs { length plugs.items < 2 ^ 24 }
-    ensures tree { IfOk result (λ tree. TreeIs (reading P.meaning plugs.items) (F.state shelf.old) (F.state shelf.new) name.now (tree_meaning P.meaning tree)) }
-    ensures cause { IfErr result (FileFails (reading P.meaning plugs.items) (F.state shelf.old) (F.state shelf.new) name.now) }
+    ensures tree { IfOk result (λ tree. TreeIs (reading P.meaning plugs.items) (F.state shelf.old)
+        (F.state shelf.new) name.now (tree_meaning P.meaning tree)) }
+    ensures cause { IfErr result (FileFails (reading P.meaning plugs.items) (F.state shelf.old)
+        (F.state shelf.new) name.now) }
     ensures stays { (F.state shelf.new).files ≡ (F.state shelf.old).files }
 {
     match take_file(alloc, shelf, name) {
@@ -39,7 +42,8 @@ pub fn read_keyring<P: Keyring, F: Shelf>(
 /// The keyring tree that these bytes of a file are read as.
 fn tree_in<P: Keyring>(alloc: Global, bytes: &[u8], plugs: Vec<Plug<P>>) -> Result<Node<P>, Failure>
     requires plugs { length plugs.items < 2 ^ 24 }
-    ensures tree { IfOk result (λ tree. reading P.meaning plugs.items bytes.now ≡ Ok (tree_meaning P.meaning tree ∷ [])) }
+    ensures tree { IfOk result (λ tree. reading P.meaning plugs.items bytes.now ≡ Ok
+        (tree_meaning P.meaning tree ∷ [])) }
     ensures cause { IfErr result (ReadCause (reading P.meaning plugs.items) bytes.now) }
 {
     match read_tree(alloc, bytes, plugs) {

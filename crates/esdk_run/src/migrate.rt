@@ -11,18 +11,22 @@ use keyring_file::{TreeError, migrate};
 use std::alloc::Global;
 use whole_input::{FileError, take_file};
 
-/// Writes the keyring file in version 2, with the key retired whose number the words give. The shelf stays as it is.
+/// Writes the keyring file in version 2, with the key retired whose number the words give. The
+/// shelf stays as it is.
 ///
-/// The file is taken first (`ShelfFault` where a read failed or the file isn't there, `FileTooLong` where it has more than 1,048,576 bytes); then its bytes
-/// are judged; then all of its text is written at once (`SinkFault`).
+/// The file is taken first (`ShelfFault` where a read failed or the file isn't there, `FileTooLong`
+/// where it has more than 1,048,576 bytes); then its bytes are judged; then all of its text is
+/// written at once (`SinkFault`).
 pub fn migrate_file<O: Sink, F: Shelf>(
     alloc: Global,
     asked: &MigrateWords,
     output: &mut O,
     shelf: &mut F,
 ) -> Result<(), Failure>
-    ensures done { OnOk result (WritesMigrated asked.now (F.state shelf.old) (F.state shelf.new) (O.state output.old) (O.state output.new)) }
-    ensures fails { IfErr result (MigrateFails asked.now (F.state shelf.old) (F.state shelf.new) (O.state output.old) (O.state output.new) (output.new ≡ output.old)) }
+    ensures done { OnOk result (WritesMigrated asked.now (F.state shelf.old) (F.state shelf.new)
+        (O.state output.old) (O.state output.new)) }
+    ensures fails { IfErr result (MigrateFails asked.now (F.state shelf.old) (F.state shelf.new)
+        (O.state output.old) (O.state output.new) (output.new ≡ output.old)) }
     ensures stays { (F.state shelf.new).files ≡ (F.state shelf.old).files }
 {
     let text = match file_text(alloc, asked, shelf) {
@@ -38,7 +42,8 @@ pub fn migrate_file<O: Sink, F: Shelf>(
 /// The text of the keyring file in version 2.
 fn file_text<F: Shelf>(alloc: Global, asked: &MigrateWords, shelf: &mut F) -> Result<Blob, Failure>
     ensures text { IfOk result (IsMigrated asked.now (F.state shelf.old) (F.state shelf.new)) }
-    ensures cause { IfErr result (FileFails (value_asked asked.now) (F.state shelf.old) (F.state shelf.new) asked.now.keyring) }
+    ensures cause { IfErr result (FileFails (value_asked asked.now) (F.state shelf.old)
+        (F.state shelf.new) asked.now.keyring) }
     ensures stays { (F.state shelf.new).files ≡ (F.state shelf.old).files }
 {
     match take_file(alloc, shelf, asked.keyring.as_str()) {

@@ -18,8 +18,8 @@ pub struct Outcome<E, K> {
 pub struct Ended<P> {
     /// The exit status.
     pub status: Status,
-    /// The tree that the keyring file was read as, as the run left it: there exactly where a keyring file was read as a tree,
-    /// but that it may be missing at status 5.
+    /// The tree that the keyring file was read as, as the run left it: there exactly where a
+    /// keyring file was read as a tree, but that it may be missing at status 5.
     pub tree: Option<Node<P>>,
 }
 

@@ -9,8 +9,9 @@ use std::alloc::{AllocError, Global};
 
 /// The context of the pairs of these words, which are inserted in the order of the words.
 ///
-/// Q3 `DuplicateKey` where a key has a pair already; else Q2 `ContextTooLong` with the length that the context's
-/// text would have, where that is over 65,535 bytes; of the first pair that has either. `Memory` where memory runs out.
+/// Q3 `DuplicateKey` where a key has a pair already; else Q2 `ContextTooLong` with the length that
+/// the context's text would have, where that is over 65,535 bytes; of the first pair that has
+/// either. `Memory` where memory runs out.
 pub fn context_of(alloc: Global, words: &[PairWord]) -> Result<Context, PairError>
     ensures context { IfOk result (GivesContext words.now) }
     ensures cause { IfErr result (RefusesPairs (context_in words.now)) }
@@ -29,8 +30,10 @@ pub fn context_of(alloc: Global, words: &[PairWord]) -> Result<Context, PairErro
 
 /// Inserts the pair of the word, if it has one.
 fn insert_pair(alloc: Global, word: &PairWord, context: &mut Context) -> Result<(), PairError>
-    ensures inserted { OnOk result (inserted context.old (option_to_list (pair_in word.now)) ≡ Ok context.new) }
-    ensures cause { IfErr result (RefusesPairs (inserted context.old (option_to_list (pair_in word.now)))) }
+    ensures inserted { OnOk result (inserted context.old
+        (option_to_list (pair_in word.now)) ≡ Ok context.new) }
+    ensures cause { IfErr result (RefusesPairs (inserted context.old
+        (option_to_list (pair_in word.now)))) }
 {
     match &word.value {
         Some(value) => context.insert(alloc, word.key.as_str(), value.as_str()),

@@ -1,9 +1,9 @@
-//! `esdk` encrypts files into messages of the AWS Encryption SDK's message format 2.0, decrypts them,
-//! and lists what stands in their headers.
+//! `esdk` encrypts files into messages of the AWS Encryption SDK's message format 2.0, decrypts
+//! them, lists what stands in their headers, and runs batches of such jobs.
 //!
-//! The program is one call, `esdk_run::run`, over its words, its input, its two outputs, a shelf of files,
-//! an entropy, a clock and the keyrings that a keyring file may name; `main` makes the real ones, calls it,
-//! and ends with its status.
+//! The program is one call, `esdk_run::run`, over its words, its input, its two outputs, a shelf of
+//! files, an entropy, a clock and the keyrings that a keyring file may name; `main` makes the real
+//! ones, calls it, and ends with its status.
 #![tactic(auto)]
 
 ghost use Rattle.std.specs.Prelude.{◌≡◌, length, IfOk};
@@ -22,8 +22,9 @@ use std::{env, io};
 /// The keyring that `main` hands in: one key, in a file of the folder that the program runs in.
 type Keydir = KeydirKeyring<FileShelf>;
 
-/// Runs the program over standard input, standard output and standard error, the files of the folder
-/// that it runs in, a generator that the system seeds, the system's clock, and the plug `keydir`.
+/// Runs the program over standard input, standard output and standard error, the files of the
+/// folder that it runs in, a generator that the system seeds, the system's clock, and the plug
+/// `keydir`.
 fn main(rt: HostRuntime) -> ExitCode {
     let mut report = StdSink::new(rt.stderr());
     let status = match run_words(rt, &mut report) {

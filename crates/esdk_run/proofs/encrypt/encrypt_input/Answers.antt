@@ -5,8 +5,8 @@ use Rattle.esdk_run.proofs.Endings.{encryption_fails}
 use Rattle.esdk_run.proofs.encrypt.encrypt_input.Goals as goal
 
 pub returns-in-Err-ended-clause-fails : goal.returns-in-Err-ended-clause-fails
-returns-in-Err-ended-clause-fails g c =
-    encryption_fails (trees_of g.P.Keyring.meaning c.args.plugs.items (Some c.encrypt_under-ended.result.tree)) c.args.asked.now _ _ _ _ _ _ _ c.in-Err-ended.error
+returns-in-Err-ended-clause-fails g c = λ report reported.
+    encryption_fails (trees_of g.P.Keyring.meaning c.args.plugs.items (Some c.encrypt_under-ended.result.tree)) c.args.asked.now _ _ _ c.in-Err-ended.error
     c.failure_of.result c.failure_of.ensures
     (record {
       context = c.in-Ok.context;

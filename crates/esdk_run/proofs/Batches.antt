@@ -1,0 +1,213 @@
+-- What `batch` and `gen` leave, and when they must be done.
+use Rattle.std.proofs.Common.{◌≡◌, ◌⊎◌, ◌∙◌, ◌≤◌, ℕ, Bool, true, false, List, length, Ok, Err, inl, inr, refl, sym, ap, subst, arith}
+use Rattle.std.specs.Prelude.{if◌then◌else◌}
+use Rattle.std.specs.List.{list_all}
+use Rattle.std.specs.declared.option.Option.{Option}
+use Rattle.std.specs.declared.result.Result.{Result}
+use Rattle.esdk_base.specs.Shelf.{Files, Holds}
+use Rattle.esdk_base.specs.Streams.{ShelfState, SinkState}
+use Rattle.esdk_fields.specs.Counts.{Stayed}
+use Rattle.esdk_fields.specs.declared.refusals.FileRefusal.{FileRefusal}
+use Rattle.esdk_fields.specs.declared.refusals.Outside.TheVariants as outsides
+use Rattle.keyring_trait.specs.declared.journal.JournalLine.{JournalLine}
+use Rattle.keyring_trait.specs.Keyring.{KeyringMeaning}
+use Rattle.cmm_caching.specs.Journal.{KeepsWithin}
+use Rattle.job_file.specs.JobFile.{JobFile}
+use Rattle.whole_input.specs.File.{most_file}
+use Rattle.batch_report.specs.declared.job_lines.JobLine.{JobLine}
+use Rattle.batch_report.specs.BatchReport.{is_done}
+use Rattle.esdk_batch.specs.Batch.{OnlyWritten}
+use Rattle.esdk_report.specs.declared.failure.Failure.{Failure}
+use Rattle.esdk_report.specs.declared.failure.Failure.TheVariants as failures
+use Rattle.esdk_report.specs.Report.{Reports}
+use Rattle.esdk_run.specs.Batch.{BatchFails, JobsAre, JobsHaveNoTree, RunsJobFile, jobs_in}
+use Rattle.esdk_run.specs.FileReading.{FileFails, FileIsRefused}
+use Rattle.esdk_run.specs.Generate.{GenFails, WritesLineFront}
+use Rattle.esdk_run.specs.Objects.{Objects, Unchanged}
+use Rattle.esdk_run.specs.Run.{BatchRuns, Fails, GenRuns, RunsAllJobs, is_status}
+use Rattle.esdk_run.specs.Served.{ChangesOnlyWritten, Generates, HoldsJobs, KeepsLimits, KeepsOtherFiles, RunsWhatIsHeld, ShowsLimits}
+use Rattle.esdk_run.specs.Told.{HoldsTree, IsDoneOrMemory}
+use Rattle.esdk_run.specs.Trees.{Trees}
+use Rattle.esdk_run.proofs.Files.{held_is_read, held_is_taken, no_read_fails}
+use Rattle.esdk_run.proofs.Showing.{each_has_a_line, shows_limits}
+use Rattle.esdk_run.proofs.Statuses.{memory_status, not_done, not_seven}
+
+-- ---- the status
+
+status_known : (all : Bool) (code : ℕ) → code ≡ (if all then 0 else 7) → is_status code ≡ true
+status_known true code is = ap is_status is
+status_known false code is = ap is_status is
+
+pub run_status : (trees : Trees) (name : List ℕ) (before after : Objects) (code : ℕ) → RunsAllJobs trees name before after code → is_status code ≡ true
+run_status trees name before after code runs = status_known (list_all is_done runs.lines) code runs.writes.status
+
+-- ---- a run of `batch`, as its command ends it
+
+pub batch_reported : (trees : Trees) (name other : List ℕ) (before after : Objects) (unwritten undrawn : Type 0) (code : ℕ) → other ≡ name → RunsAllJobs trees other before after code
+    → RunsAllJobs trees name before after code ⊎ Fails (BatchFails trees name before after unwritten undrawn) code before.report after.report
+batch_reported trees name other before after unwritten undrawn code same runs = inl (subst (λ (n : List ℕ). RunsAllJobs trees n before after code) same runs)
+
+pub batch_failed : (trees : Trees) (name other : List ℕ) (before after : Objects) (unwritten undrawn : Type 0) (code : ℕ) (failure : Failure) → other ≡ name
+    → BatchFails trees other before after unwritten undrawn failure → Reports failure code before.report after.report
+    → RunsAllJobs trees name before after code ⊎ Fails (BatchFails trees name before after unwritten undrawn) code before.report after.report
+batch_failed trees name other before after unwritten undrawn code failure same because said =
+    inr (record { failure = failure; because = subst (λ (n : List ℕ). BatchFails trees n before after unwritten undrawn failure) same because; said = said })
+
+-- ---- the limits
+
+all_shown : (trees : Trees) (name : List ℕ) (before after : Objects) (code : ℕ) → RunsAllJobs trees name before after code → ShowsLimits name before after
+all_shown trees name before after code runs =
+    let ran = runs.runs.runs.runs in
+    record {
+      file = runs.runs.file;
+      between = runs.runs.has.between;
+      lines = runs.lines;
+      jobs = runs.runs.has.jobs;
+      gained = runs.writes.gained;
+      each = each_has_a_line _ _ _ runs.runs.file.jobs ran.draws runs.lines ran.jobs;
+      within = shows_limits runs.runs.file.cache _ _ _ runs.runs.file.jobs ran.draws runs.lines ran.gained ran.jobs ran.served
+          (subst (λ (j : List JournalLine). KeepsWithin runs.runs.file.cache j) ran.journal runs.runs.runs.within);
+    }
+
+pub keeps_limits : (trees : Trees) (name : List ℕ) (before after : Objects) (unchanged : Unchanged) (code : ℕ)
+    → BatchRuns trees name before after unchanged code → KeepsLimits name before after code
+keeps_limits trees name before after unchanged code (inl runs) reported = all_shown trees name before after code runs
+keeps_limits trees name before after unchanged code (inr fails) (inl zero) = absurd (not_done fails.failure code before.report after.report fails.said zero)
+keeps_limits trees name before after unchanged code (inr fails) (inr seven) = absurd (not_seven fails.failure code before.report after.report fails.said seven)
+
+-- ---- the files
+
+run_changes : {trees : Trees} {name : List ℕ} {lines : List JobLine} (before after : Objects) → RunsJobFile trees name before.shelf after.shelf before.entropy after.entropy lines
+    → ChangesOnlyWritten name before.shelf after.shelf
+run_changes before after runs = record {
+  file = runs.file;
+  between = runs.has.between;
+  jobs = runs.has.jobs;
+  others = subst (λ (files : Option Files). OnlyWritten runs.file.jobs files after.shelf.files) runs.has.stay runs.runs.runs.others;
+}
+
+failing_keeps : (trees : Trees) (name : List ℕ) (before after : Objects) (unwritten undrawn : Type 0) (code : ℕ) (failure : Failure)
+    → BatchFails trees name before after unwritten undrawn failure → Reports failure code before.report after.report → KeepsOtherFiles name before.shelf after.shelf code
+failing_keeps trees name before after unwritten undrawn code failures.NotRead fails said some = absurd fails.0
+failing_keeps trees name before after unwritten undrawn code (failures.BadNumber option) fails said some = absurd fails.0
+failing_keeps trees name before after unwritten undrawn code (failures.BadPair number) fails said some = absurd fails.0
+failing_keeps trees name before after unwritten undrawn code (failures.Fault fault) fails said some = absurd fails.0
+failing_keeps trees name before after unwritten undrawn code (failures.File refusal) fails said some = inl fails.0.0.stay
+failing_keeps trees name before after unwritten undrawn code (failures.Outside outsides.SinkFault) fails said some = inr (run_changes before after fails.runs)
+failing_keeps trees name before after unwritten undrawn code (failures.Outside outsides.ShelfFault) fails said some = inl fails.0.0.stay
+failing_keeps trees name before after unwritten undrawn code (failures.Outside outside) fails said some = absurd fails.0
+failing_keeps trees name before after unwritten undrawn code (failures.Refusal refusal) fails said some = absurd fails.0
+failing_keeps trees name before after unwritten undrawn code failures.Memory fails said some =
+    absurd (some (memory_status failures.Memory code before.report after.report refl said))
+
+pub keeps_other_files : (trees : Trees) (name : List ℕ) (before after : Objects) (unchanged : Unchanged) (code : ℕ)
+    → BatchRuns trees name before after unchanged code → KeepsOtherFiles name before.shelf after.shelf code
+keeps_other_files trees name before after unchanged code (inl runs) some = inr (run_changes before after runs.runs)
+keeps_other_files trees name before after unchanged code (inr fails) some =
+    failing_keeps trees name before after unchanged.output unchanged.entropy code fails.failure fails.because fails.said some
+
+-- ---- files that the shelf tells
+
+-- a file that is read as this isn't refused
+not_refused : {A : Type 0} (read : List ℕ → Result A FileRefusal) (old new : ShelfState) (name bytes : List ℕ) (value : A) (refusal : FileRefusal) → Holds old.files name bytes
+    → length bytes ≤ most_file → read bytes ≡ Ok value → FileIsRefused read old new name refusal → ⊥
+not_refused read old new name bytes value refusal holds few is (inl long) = absurd (omega (arith, few, long.1.many bytes holds))
+not_refused read old new name bytes value refusal holds few is (inr refused) =
+    let same : Ok value ≡ Err refusal = sym is ∙ ap read (refused.file.whole bytes holds) ∙ refused.is in absurd cc
+
+-- the jobs that were read are those that the shelf told
+jobs_are_held : (old between : ShelfState) (name bytes : List ℕ) (held read : JobFile) → Holds old.files name bytes → jobs_in name bytes ≡ Ok held → JobsAre old between name read
+    → read ≡ held
+jobs_are_held old between name bytes held read holds is jobs =
+    let same : Ok read ≡ Ok held = sym jobs.is ∙ ap (jobs_in name) (sym (jobs.read.whole bytes holds)) ∙ is in cc
+
+-- and so is the tree
+tree_still_held : (trees : Trees) (old between : ShelfState) (name : List ℕ) (held read : JobFile) (tree : KeyringMeaning) → read ≡ held → JobsAre old between name read
+    → HoldsTree trees old.files held.keyring tree → HoldsTree trees between.files read.keyring tree
+tree_still_held trees old between name held read tree same jobs holds =
+    subst (λ (files : Option Files). HoldsTree trees files read.keyring tree) (sym jobs.stay)
+    (subst (λ (f : JobFile). HoldsTree trees old.files f.keyring tree) (sym same) holds)
+
+held_has_tree : (trees : Trees) (old new : ShelfState) (name : List ℕ) (file : JobFile) (tree : KeyringMeaning) (refusal : FileRefusal) → HoldsJobs trees old.files name file tree
+    → FileFails (jobs_in name) old new name (failures.File refusal) ⊎ JobsHaveNoTree trees name old new (failures.File refusal) → ⊥
+held_has_tree trees old new name file tree refusal holds (inl refused) = not_refused (jobs_in name) old new name holds.bytes file refusal holds.holds holds.few holds.is refused
+held_has_tree trees old new name file tree refusal holds (inr none) =
+    let same = jobs_are_held old none.between name holds.bytes file none.file holds.holds holds.is none.jobs in
+    held_is_taken trees none.between new none.file.keyring tree refusal (tree_still_held trees old none.between name file none.file tree same none.jobs holds.keyring) none.cause
+
+held_are_read : (trees : Trees) (old new : ShelfState) (name : List ℕ) (file : JobFile) (tree : KeyringMeaning) → HoldsJobs trees old.files name file tree → Stayed old.faults new.faults
+    → FileFails (jobs_in name) old new name (failures.Outside outsides.ShelfFault) ⊎ JobsHaveNoTree trees name old new (failures.Outside outsides.ShelfFault) → ⊥
+held_are_read trees old new name file tree holds stayed (inl unread) = no_read_fails old new name holds.bytes holds.holds stayed unread.cause
+held_are_read trees old new name file tree holds stayed (inr none) =
+    let same = jobs_are_held old none.between name holds.bytes file none.file holds.holds holds.is none.jobs in
+    held_is_read trees none.between new none.file.keyring tree (tree_still_held trees old none.between name file none.file tree same none.jobs holds.keyring)
+    (subst (λ (n : ℕ). Stayed n new.faults) (sym none.jobs.read.faults) stayed) none.cause
+
+zero_or_seven : (all : Bool) (code : ℕ) → code ≡ (if all then 0 else 7) → IsDoneOrMemory code ⊎ (code ≡ 7)
+zero_or_seven true code is = inl (inl is)
+zero_or_seven false code is = inr is
+
+failing_held : (trees : Trees) (name : List ℕ) (before after : Objects) (unwritten undrawn : Type 0) (code : ℕ) (file : JobFile) (tree : KeyringMeaning) (failure : Failure)
+    → HoldsJobs trees before.shelf.files name file tree → Stayed before.shelf.faults after.shelf.faults → Stayed before.output.faults after.output.faults
+    → BatchFails trees name before after unwritten undrawn failure → Reports failure code before.report after.report → IsDoneOrMemory code
+failing_held trees name before after unwritten undrawn code file tree failures.NotRead holds reading writing fails said = absurd fails.0
+failing_held trees name before after unwritten undrawn code file tree (failures.BadNumber option) holds reading writing fails said = absurd fails.0
+failing_held trees name before after unwritten undrawn code file tree (failures.BadPair number) holds reading writing fails said = absurd fails.0
+failing_held trees name before after unwritten undrawn code file tree (failures.Fault fault) holds reading writing fails said = absurd fails.0
+failing_held trees name before after unwritten undrawn code file tree (failures.File refusal) holds reading writing fails said =
+    absurd (held_has_tree trees before.shelf after.shelf name file tree refusal holds fails.0.0.cause)
+failing_held trees name before after unwritten undrawn code file tree (failures.Outside outsides.SinkFault) holds reading writing fails said = absurd (omega (arith, writing, fails.front.rose))
+failing_held trees name before after unwritten undrawn code file tree (failures.Outside outsides.ShelfFault) holds reading writing fails said =
+    absurd (held_are_read trees before.shelf after.shelf name file tree holds reading fails.0.0.cause)
+failing_held trees name before after unwritten undrawn code file tree (failures.Outside outside) holds reading writing fails said = absurd fails.0
+failing_held trees name before after unwritten undrawn code file tree (failures.Refusal refusal) holds reading writing fails said = absurd fails.0
+failing_held trees name before after unwritten undrawn code file tree failures.Memory holds reading writing fails said =
+    inr (memory_status failures.Memory code before.report after.report refl said)
+
+pub runs_what_is_held : (trees : Trees) (name : List ℕ) (before after : Objects) (unchanged : Unchanged) (code : ℕ)
+    → BatchRuns trees name before after unchanged code → RunsWhatIsHeld trees name before.shelf after.shelf before.output after.output code
+runs_what_is_held trees name before after unchanged code (inl runs) file tree holds reading writing = zero_or_seven (list_all is_done runs.lines) code runs.writes.status
+runs_what_is_held trees name before after unchanged code (inr fails) file tree holds reading writing =
+    inl (failing_held trees name before after unchanged.output unchanged.entropy code file tree fails.failure holds reading writing fails.because fails.said)
+
+-- ---- `gen`
+
+-- The failure of a generation is the output's, or want of memory.
+gen_failed : (seed size : ℕ) (before after : SinkState) (unwritten : Type 0) (code : ℕ) (report reported : SinkState) (failure : Failure)
+    → GenFails seed size before after unwritten failure → Reports failure code report reported → ((code ≡ 4) × WritesLineFront seed size before after) ⊎ ((code ≡ 5) × unwritten)
+gen_failed seed size before after unwritten code report reported failures.NotRead fails said = absurd fails
+gen_failed seed size before after unwritten code report reported (failures.BadNumber option) fails said = absurd fails
+gen_failed seed size before after unwritten code report reported (failures.BadPair number) fails said = absurd fails
+gen_failed seed size before after unwritten code report reported (failures.Fault fault) fails said = absurd fails
+gen_failed seed size before after unwritten code report reported (failures.File refusal) fails said = absurd fails
+gen_failed seed size before after unwritten code report reported (failures.Outside outsides.SinkFault) fails said = inl (said.status, fails)
+gen_failed seed size before after unwritten code report reported (failures.Outside outside) fails said = absurd fails
+gen_failed seed size before after unwritten code report reported (failures.Refusal refusal) fails said = absurd fails
+gen_failed seed size before after unwritten code report reported failures.Memory fails said = inr (said.status, fails)
+
+fails_generating : (seed size : ℕ) (before after : SinkState) (unwritten : Type 0) (code : ℕ) → ((code ≡ 4) × WritesLineFront seed size before after) ⊎ ((code ≡ 5) × unwritten)
+    → Generates seed size before after unwritten code
+fails_generating seed size before after unwritten code (inl (four, front)) = record {
+  done = λ zero. absurd (omega (arith, four, zero));
+  failed = λ is. front;
+  otherwise = λ some other. absurd (other four);
+  must = λ stayed. absurd (omega (arith, stayed, front.rose));
+}
+fails_generating seed size before after unwritten code (inr (five, same)) = record {
+  done = λ zero. absurd (omega (arith, five, zero));
+  failed = λ four. absurd (omega (arith, five, four));
+  otherwise = λ some other. same;
+  must = λ stayed. inr five;
+}
+
+pub generates : (seed size : ℕ) (before after : Objects) (unchanged : Unchanged) (code : ℕ)
+    → GenRuns seed size before after unchanged code → Generates seed size before.output after.output unchanged.output code
+generates seed size before after unchanged code (inl done) = record {
+  done = λ zero. done.1;
+  failed = λ four. absurd (omega (arith, done.0.status, four));
+  otherwise = λ some other. absurd (some done.0.status);
+  must = λ stayed. inl done.0.status;
+}
+generates seed size before after unchanged code (inr fails) =
+    fails_generating seed size before.output after.output unchanged.output code
+    (gen_failed seed size before.output after.output unchanged.output code before.report after.report fails.failure fails.because fails.said)

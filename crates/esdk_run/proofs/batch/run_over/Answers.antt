@@ -1,0 +1,24 @@
+use Rattle.std.proofs.Common.{◌∙◌}
+use Rattle.desk_core.specs.Desk.{empty_desk}
+use Rattle.esdk_run.proofs.Serving.{Begins, outlasts_over, runs_over}
+use Rattle.esdk_run.proofs.batch.run_over.Goals as goal
+
+pub returns-clause-runs : goal.returns-clause-runs
+returns-clause-runs g c =
+    let begins : Begins c.args.jobs.now.cache c.in_ok-manager.manager.1 (g.K.Keyring.meaning c.new.result) =
+    record { limits = c.in_ok-manager.ensures.limits ∙ c.cache.ensures; tells = c.in_ok-manager.ensures.tells; exact = c.in_ok-manager.ensures.exact tt } in
+    runs_over g.K.Keyring.meaning c.new.result c.args.tree c.into_ring.result c.in_ok-manager.manager c.new-desk.result.manager c.run_batch-ended.new.desk.manager c.args.jobs.now
+    (g.F.Shelf.state c.args.shelf.now) (g.F.Shelf.state c.run_batch-ended.new.shelf) (g.W.Entropy.state c.args.entropy.now) (g.W.Entropy.state c.run_batch-ended.new.entropy)
+    c.new-desk.result.journal.items c.run_batch-ended.new.desk.journal.items c.journal-journal.result.now c.run_batch-ended.result
+    c.new-desk.ensures.manager c.in_ok-manager.ensures.inner c.new.ensures (c.into_ring.ensures ∙ c.into_inner.ensures ∙ (λ i. (c.into_manager.ensures i).0)) begins
+    c.new-desk.ensures.stands.journal c.journal-journal.ensures.journal
+    (c.run_batch-ended.ensures.limits c.journal-journal.result.now (c.journal-journal.ensures.within (c.run_batch-ended.ensures.bears c.new-desk.ensures.bears)))
+    (c.run_batch-ended.ensures.runs empty_desk c.new-desk.ensures.stands)
+
+pub returns-clause-goes : goal.returns-clause-goes
+returns-clause-goes g c =
+    let begins : Begins c.args.jobs.now.cache c.in_ok-manager.manager.1 (g.K.Keyring.meaning c.new.result) =
+    record { limits = c.in_ok-manager.ensures.limits ∙ c.cache.ensures; tells = c.in_ok-manager.ensures.tells; exact = c.in_ok-manager.ensures.exact tt } in
+    outlasts_over g.K.Keyring.meaning c.args.jobs.now.cache c.new.result c.args.tree c.into_ring.result c.in_ok-manager.manager c.new-desk.result.manager c.run_batch-ended.new.desk.manager
+    c.new-desk.ensures.manager c.in_ok-manager.ensures.inner c.new.ensures (c.into_ring.ensures ∙ c.into_inner.ensures ∙ (λ i. (c.into_manager.ensures i).0)) begins
+    c.run_batch-ended.ensures.goes c.run_batch-ended.ensures.tells c.run_batch-ended.ensures.same

@@ -1,0 +1,18 @@
+use Rattle.std.proofs.Common.{None}
+use Rattle.esdk_base.specs.Streams.{SourceState}
+use Rattle.esdk_run.proofs.Batches.{batch_failed, batch_reported, run_status}
+use Rattle.esdk_run.proofs.commands.run_batch.Goals as goal
+
+pub returns-in-Ok-clause-status : goal.returns-in-Ok-clause-status
+returns-in-Ok-clause-status g c =
+    let none : SourceState = record { left = None; given = 0; faults = 0 } in
+    run_status _ _ _ _ _ (rw c.in-Ok.is at (c.batch_jobs-ended.ensures.done none (g.R.Sink.state c.args.report.now)))
+
+pub returns-in-Ok-clause-runs : goal.returns-in-Ok-clause-runs
+returns-in-Ok-clause-runs g c = λ input.
+    batch_reported _ _ c.as_str.result.now _ _ _ _ _ c.as_str.ensures.text (rw c.in-Ok.is at (c.batch_jobs-ended.ensures.done input (g.R.Sink.state c.args.report.now)))
+
+pub returns-in-Err-clause-runs : goal.returns-in-Err-clause-runs
+returns-in-Err-clause-runs g c = λ input.
+    batch_failed _ _ c.as_str.result.now _ _ _ _ _ c.in-Err.failure c.as_str.ensures.text
+    (rw c.in-Err.is at (c.batch_jobs-ended.ensures.fails input (g.R.Sink.state c.args.report.now) (g.R.Sink.state c.report_failure.new.report))) c.report_failure.ensures

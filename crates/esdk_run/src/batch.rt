@@ -1,0 +1,203 @@
+//! The command `batch`.
+ghost use Rattle.std.specs.Prelude.{◌≡◌, ◌<◌, ◌^◌, length, IfErr, IfOk, Ok};
+ghost use Rattle.esdk_base.specs.Streams.{SinkState, SourceState};
+ghost use Rattle.esdk_run.specs.Batch.{BatchFails, JobsAre, JobsFail, ReportFails, RunsJobFile, RunsWithin, WritesReport, jobs_in, status_of};
+ghost use Rattle.esdk_run.specs.FileReading.{FileFails, ReadCause};
+ghost use Rattle.esdk_run.specs.Objects.{objects};
+ghost use Rattle.esdk_run.specs.Run.{RunsAllJobs};
+ghost use Rattle.esdk_run.specs.Serving.{TreeOutlasts, managing_over};
+ghost use Rattle.esdk_run.specs.Trees.{IsLawful, trees_of};
+
+use crate::keyring_input::read_keyring;
+use crate::outcome::{Outcome, without_tree};
+use batch_report::{BatchReport, report_text};
+use cmm_caching::CachingCmm;
+use cmm_default::DefaultCmm;
+use desk_core::Desk;
+use esdk_base::{Clock, Entropy, Shelf, Sink};
+use esdk_batch::run_batch;
+use esdk_fields::{FileRefusal, Outside};
+use esdk_report::{Failure, Status};
+use job_file::{Jobs, read_jobs};
+use keyring_file::{Plug, TreeError};
+use keyring_trait::{Keyring, Manager};
+use multi_keyring::Node;
+use std::alloc::{AllocError, Global};
+use whole_input::{FileError, take_file};
+
+/// Runs the jobs of the job file of this name over the tree that its keyring file is read as, and
+/// writes the report of what they came to. The status says whether all are done. The tree is given
+/// back as it is left, also after an error, but that it may be missing where memory ran out.
+///
+/// The job file is read first, then the keyring file; then the jobs have their turns; then all of
+/// the report is written at once (`SinkFault`).
+pub fn batch_jobs<P: Keyring, O: Sink, F: Shelf, W: Entropy, C: Clock>(
+    alloc: Global,
+    name: &str,
+    output: &mut O,
+    shelf: &mut F,
+    entropy: &mut W,
+    clock: &mut C,
+    plugs: Vec<Plug<P>>,
+) -> Outcome<Result<Status, Failure>, Option<Node<P>>>
+    requires plugs { length plugs.items < 2 ^ 24 }
+    ensures done { (input : SourceState) (report : SinkState)
+        → IfOk result.ended (λ status.
+        RunsAllJobs (trees_of P.meaning plugs.items result.tree) name.now
+        (objects input (O.state output.old) (F.state shelf.old) (W.state entropy.old) report)
+        (objects input (O.state output.new) (F.state shelf.new) (W.state entropy.new) report)
+        status.code) }
+    ensures fails { (input : SourceState) (report reported : SinkState)
+        → IfErr result.ended
+        (BatchFails (trees_of P.meaning plugs.items result.tree) name.now
+        (objects input (O.state output.old) (F.state shelf.old) (W.state entropy.old) report)
+        (objects input (O.state output.new) (F.state shelf.new) (W.state entropy.new) reported)
+        (output.new ≡ output.old) (entropy.new ≡ entropy.old)) }
+{
+    let Outcome { ended, tree } = run_job_file(alloc, name, shelf, entropy, clock, plugs);
+    let report = match ended {
+        Ok(report) => report,
+        Err(failure) => {
+            return Outcome {
+                ended: Err(failure),
+                tree,
+            };
+        }
+    };
+    Outcome {
+        ended: write_report(alloc, &report, output),
+        tree,
+    }
+}
+
+/// Writes the report, and answers the status of the run.
+fn write_report<O: Sink>(
+    alloc: Global,
+    report: &BatchReport,
+    output: &mut O,
+) -> Result<Status, Failure>
+    ensures done { IfOk result (λ status.
+        WritesReport report.now (O.state output.old) (O.state output.new) status.code) }
+    ensures fails { IfErr result (ReportFails report.now (O.state output.old) (O.state output.new)
+        (output.new ≡ output.old)) }
+{
+    let text = report_text(alloc, report)?;
+    match output.put(text.bytes()) {
+        Ok(()) => Ok(status_of(report)),
+        Err(_) => Err(Failure::Outside(Outside::SinkFault)),
+    }
+}
+
+/// The status of a run with this report.
+fn status_of(report: &BatchReport) -> Status
+    ensures { result.code ≡ status_of report.now }
+{
+    if report.is_done() {
+        Status::DONE
+    } else {
+        Status::JOBS
+    }
+}
+
+/// Runs the jobs of the job file of this name over the tree that its keyring file is read as.
+fn run_job_file<P: Keyring, F: Shelf, W: Entropy, C: Clock>(
+    alloc: Global,
+    name: &str,
+    shelf: &mut F,
+    entropy: &mut W,
+    clock: &mut C,
+    plugs: Vec<Plug<P>>,
+) -> Outcome<Result<BatchReport, Failure>, Option<Node<P>>>
+    requires plugs { length plugs.items < 2 ^ 24 }
+    ensures done { IfOk result.ended
+        (RunsJobFile (trees_of P.meaning plugs.items result.tree) name.now
+        (F.state shelf.old) (F.state shelf.new) (W.state entropy.old) (W.state entropy.new)) }
+    ensures fails { IfErr result.ended
+        (JobsFail (trees_of P.meaning plugs.items result.tree) name.now
+        (F.state shelf.old) (F.state shelf.new) (entropy.new ≡ entropy.old)) }
+{
+    let jobs = match read_job_file(alloc, shelf, name) {
+        Ok(jobs) => jobs,
+        Err(failure) => return without_tree(failure),
+    };
+    let tree = match read_keyring(alloc, shelf, jobs.keyring(), plugs) {
+        Ok(tree) => tree,
+        Err(failure) => return without_tree(failure),
+    };
+    let Outcome { ended, tree } = match run_over(alloc, &jobs, tree, shelf, entropy, clock) {
+        Ok(outcome) => outcome,
+        Err(_) => return without_tree(Failure::Memory),
+    };
+    match ended {
+        Ok(report) => Outcome {
+            ended: Ok(report),
+            tree: Some(tree),
+        },
+        Err(_) => Outcome {
+            ended: Err(Failure::Memory),
+            tree: Some(tree),
+        },
+    }
+}
+
+/// The jobs of the job file of this name. The shelf keeps its files.
+///
+/// `ShelfFault` where a read failed or the file isn't there; then `FileTooLong` where the file has
+/// more than 1,048,576 bytes; then what its bytes are refused for.
+fn read_job_file<F: Shelf>(alloc: Global, shelf: &mut F, name: &str) -> Result<Jobs, Failure>
+    ensures jobs { IfOk result (JobsAre (F.state shelf.old) (F.state shelf.new) name.now) }
+    ensures cause { IfErr result
+        (FileFails (jobs_in name.now) (F.state shelf.old) (F.state shelf.new) name.now) }
+    ensures stays { (F.state shelf.new).files ≡ (F.state shelf.old).files }
+{
+    match take_file(alloc, shelf, name) {
+        Ok(bytes) => jobs_in(alloc, bytes.bytes(), name),
+        Err(FileError::Shelf) => Err(Failure::Outside(Outside::ShelfFault)),
+        Err(FileError::TooLong) => Err(Failure::File(FileRefusal::FileTooLong)),
+        Err(FileError::Memory) => Err(Failure::Memory),
+    }
+}
+
+/// The jobs that the bytes of a job file of this name mean.
+fn jobs_in(alloc: Global, bytes: &[u8], name: &str) -> Result<Jobs, Failure>
+    ensures jobs { IfOk result (λ jobs. jobs_in name.now bytes.now ≡ Ok jobs) }
+    ensures cause { IfErr result (ReadCause (jobs_in name.now) bytes.now) }
+{
+    match read_jobs(alloc, bytes, name) {
+        Ok(jobs) => Ok(jobs),
+        Err(TreeError::File(refusal)) => Err(Failure::File(refusal)),
+        Err(TreeError::Memory) => Err(Failure::Memory),
+    }
+}
+
+/// Runs the jobs over this tree, and gives back what is left of it. Fails, with nothing run, where
+/// memory for the cache isn't there.
+fn run_over<K: Keyring, F: Shelf, W: Entropy, C: Clock>(
+    alloc: Global,
+    jobs: &Jobs,
+    tree: K,
+    shelf: &mut F,
+    entropy: &mut W,
+    clock: &mut C,
+) -> Result<Outcome<Result<BatchReport, AllocError>, K>, AllocError>
+    ensures runs { IfOk result (λ outcome. IfOk outcome.ended (RunsWithin
+        (managing_over jobs.now.cache (K.meaning tree) (K.meaning outcome.tree)) jobs.now
+        (F.state shelf.old) (F.state shelf.new) (W.state entropy.old) (W.state entropy.new))) }
+    ensures goes { IfOk result (λ outcome.
+        TreeOutlasts jobs.now.cache (K.meaning tree) (K.meaning outcome.tree)) }
+    ensures lawful { IsLawful (K.meaning tree) }
+{
+    // Called for its clauses alone, which say what every keyring keeps.
+    let _wraps = tree.wraps();
+    let manager = CachingCmm::new(alloc, DefaultCmm::new(tree), jobs.cache())?;
+    // Called for its clauses alone, which say what every manager keeps.
+    let _entries = manager.wraps();
+    let mut desk = Desk::new(alloc, manager);
+    let ended = run_batch(alloc, jobs, &mut desk, shelf, entropy, clock);
+    // Called for its clause alone, which says that the journal is within the limits of the cache.
+    let _journal = desk.journal();
+    Ok(Outcome {
+        ended,
+        tree: desk.into_manager().into_inner().into_ring(),
+    })
+}
