@@ -32,11 +32,19 @@ class Case:
     input: bytes = b""
     piece: int = MOST_PIECE
     files: dict = field(default_factory=dict)
+    rooms: dict = field(default_factory=dict)
+    names: list = field(default_factory=list)
+    moments: tuple = ()
     entropy: bytes = b""
     failing: dict = field(default_factory=lambda: {name: () for name in OBJECTS})
     room: dict = field(default_factory=lambda: {"output": ROOM, "report": ROOM})
     plugs: list = field(default_factory=list)
     ends: str = None
+
+    def meet(self, name):
+        """Keeps the names of files in the order in which they are met first."""
+        if name not in self.names:
+            self.names.append(name)
 
 
 def made(seed, count):
@@ -141,12 +149,19 @@ class Reader:
             setattr(case, setting, getattr(case, setting) + self.values.value(rest))
         elif setting == "file":
             name, _, value = rest.partition(" ")
+            case.meet(name)
             case.files[name] = case.files.get(name, b"") + self.values.value(value)
         elif setting == "piece":
             case.piece = int(rest)
         elif setting == "ends":
             case.ends = self.expected(rest)
-        elif setting not in ("clock", "room-file"):
+        elif setting == "clock":
+            case.moments = numbers(rest)
+        elif setting == "room-file":
+            name, _, count = rest.partition(" ")
+            case.meet(name)
+            case.rooms[name] = int(count)
+        else:
             self.object_setting(case, setting, rest)
 
     def object_setting(self, case, setting, rest):

@@ -13,8 +13,13 @@ from dataclasses import dataclass
 
 from cryptography.hazmat.primitives.ciphers.aead import AESGCM
 
+import batches
+import generator
+import jobs
 import keyrings
 import migration
+from contexts import joined, refuse_request
+from endings import DONE, FAULT, FILE, OUTSIDE, REFUSED, UNDONE, WORDS, Ended
 from forms import MOST_PIECE, Reader, shown, shown_report
 from keyrings import KeyringFault, json_text
 from messages import (
@@ -32,31 +37,25 @@ from messages import (
     sealed_frame,
     units,
 )
-from objects import Entropy, Failed, Shelf, Sink, Source
+from objects import Clock, Entropy, Failed, Shelf, Sink, Source
 
 MOST_FILE = 1_048_576
 MOST_HEADER = 16_777_216
 MOST_FRAMES = 2**32 - 1
-DONE, FAULT, WORDS, FILE, OUTSIDE, REFUSED = 0, 1, 2, 3, 4, 6
 
+# The options of each command with a value, in the order of the table: the range of a number, or None for a name.
 OPTIONS = {
     "list": {},
-    "encrypt": {"--keyring": None, "--frame": 2**32 - 1, "--max-keys": 2**16 - 1},
-    "decrypt": {"--keyring": None, "--max-keys": 2**16 - 1, "--max-unit": 2**36 - 32},
-    "migrate": {"--keyring": None, "--retire": 2**20},
+    "encrypt": {"--keyring": None, "--frame": (1, 2**32 - 1), "--max-keys": (1, 2**16 - 1)},
+    "decrypt": {"--keyring": None, "--max-keys": (1, 2**16 - 1), "--max-unit": (1, 2**36 - 32)},
+    "batch": {"--jobs": None},
+    "gen": {"--seed": (0, 2**64 - 1), "--size": (0, 2**26)},
+    "migrate": {"--keyring": None, "--retire": (1, 2**20)},
 }
+REQUIRED = {"--keyring", "--jobs", "--seed", "--size"}
 FLAG = "--allow-uncommitted"
 WITH_FLAG = ("list", "decrypt")
 WITH_PAIRS = ("encrypt", "decrypt")
-
-
-class Ended(Exception):
-    """A run ends with this status, and this line on the report."""
-
-    def __init__(self, status, line):
-        super().__init__(line)
-        self.status = status
-        self.line = line
 
 
 @dataclass
@@ -64,7 +63,7 @@ class Asked:
     """What the words ask for."""
 
     command: str
-    keyring: str
+    name: str
     numbers: dict
     uncommitted: bool
     pairs: list
@@ -84,12 +83,12 @@ def read_words(words):
         given.take(word)
     given.close()
     numbers = {
-        name: read_number(name, given.values[name], most)
-        for name, most in OPTIONS[command].items()
-        if name in given.values and most
+        name: read_number(name, given.values[name], *range_)
+        for name, range_ in OPTIONS[command].items()
+        if name in given.values and range_
     }
-    uncommitted = FLAG in given.values
-    return Asked(command, given.values.get("--keyring"), numbers, uncommitted, read_pairs(given.pairs))
+    file = next((given.values[name] for name, range_ in OPTIONS[command].items() if not range_), None)
+    return Asked(command, file, numbers, FLAG in given.values, read_pairs(given.pairs))
 
 
 def not_read():
@@ -137,13 +136,13 @@ class Given:
             self.waiting = name
 
     def close(self):
-        if self.waiting or ("--keyring" in self.options and "--keyring" not in self.values):
+        if self.waiting or not (self.options & REQUIRED) <= set(self.values):
             raise not_read()
 
 
-def read_number(name, text, most):
+def read_number(name, text, least, most):
     is_number = 1 <= len(text) <= 20 and all(digit in "0123456789" for digit in text)
-    if not is_number or not 1 <= int(text) <= most:
+    if not is_number or not least <= int(text) <= most:
         raise Ended(WORDS, f"words BadNumber {name}")
     return int(text)
 
@@ -195,9 +194,12 @@ class Run:
         self.input = Source(case.input, case.piece, failing["input"])
         self.output = Sink(case.room["output"], failing["output"])
         self.report = Sink(case.room["report"], failing["report"])
-        self.shelf = Shelf(case.files, failing["shelf"])
+        self.before = dict(case.files)
+        self.shelf = Shelf(case.files, failing["shelf"], case.rooms)
+        self.clock = Clock(case.moments)
         self.entropy = Entropy(case.entropy, failing["entropy"])
         self.plugs = [plug_of(settings) for settings in case.plugs]
+        self.names = case.names
         self.tree = None
         self.whole = None
 
@@ -211,8 +213,17 @@ class Run:
         return (
             f"status {status} taken {self.input.taken} drawn {self.entropy.drawn} "
             f"tree {'yes' if self.tree else 'no'} output {shown(self.output.written)} "
-            f"files - report {shown_report(self.report.written)}"
+            f"files {self.changed()} report {shown_report(self.report.written)}"
         )
+
+    def changed(self):
+        """The files that were made or changed, in the order in which the case names them."""
+        held = self.shelf.files
+        return " ".join(
+            f"{name}={shown(held[name])}"
+            for name in self.names
+            if name in held and held[name] != self.before.get(name)
+        ) or "-"
 
     def put_refusal(self, line):
         try:
@@ -227,9 +238,14 @@ class Run:
         if asked.command == "migrate":
             self.migrate(asked)
             return DONE
+        if asked.command == "gen":
+            self.put(generator.line_of(asked.numbers["--seed"], asked.numbers["--size"]).encode())
+            return DONE
+        if asked.command == "batch":
+            return self.batch(asked.name)
         context = context_of(asked.pairs)
         required = required_of(asked.pairs)
-        self.tree = self.read_keyring(asked.keyring)
+        self.tree = self.read_keyring(asked.name)
         if asked.command == "encrypt":
             self.encrypt(asked.numbers, context, required)
             return DONE
@@ -274,12 +290,25 @@ class Run:
     # migrate
 
     def migrate(self, asked):
-        bytes_ = self.read_file(asked.keyring)
+        bytes_ = self.read_file(asked.name)
         try:
             text = migration.migrate(bytes_, asked.numbers.get("--retire"))
         except keyrings.Refusal as refusal:
             raise Ended(FILE, str(refusal)) from None
         self.put(text)
+
+    # batch
+
+    def batch(self, name):
+        bytes_ = self.read_file(name)
+        try:
+            file = jobs.read_jobs(bytes_, name)
+        except keyrings.Refusal as refusal:
+            raise Ended(FILE, str(refusal)) from None
+        self.tree = self.read_keyring(file.keyring)
+        lines = batches.run(file, self.tree, self.shelf, self.entropy, self.clock)
+        self.put("".join(f"{line}\n" for line in lines).encode())
+        return DONE if all(line.is_done() for line in lines) else UNDONE
 
     # list
 
@@ -364,34 +393,6 @@ def plug_of(settings):
     return keyrings.Plug(
         settings.name, settings.namespace.encode(), settings.key_name.encode(), shelf
     )
-
-
-def joined(stored, given, required):
-    """The pairs that are authenticated only, and the whole context."""
-    for key in sorted(required):
-        if key not in given:
-            raise Fault(f"M13 MissingRequired {json_text(key.decode())}")
-    if b"aws-crypto-public-key" in stored:
-        raise Fault("M11 ReservedKey")
-    for key in sorted(stored):
-        if key in given and given[key] != stored[key]:
-            raise Fault(f"M12 ContextMismatch {json_text(key.decode())}")
-    only = {key: given[key] for key in given if key not in stored}
-    whole = {**stored, **only}
-    if context_length(whole) > MOST_CONTEXT:
-        raise Fault(f"M14 ContextTooLong {context_length(whole)}")
-    return only, whole
-
-
-def refuse_request(context, required, tree):
-    for key in sorted(required):
-        if key not in context:
-            raise Ended(REFUSED, f"Q4 RequiredAbsent {json_text(key.decode())}")
-    for key in sorted(context):
-        if key.startswith(b"aws-crypto-"):
-            raise Ended(REFUSED, f"Q1 ReservedPrefix {json_text(key.decode())}")
-    if tree.refuses(False):
-        raise Ended(REFUSED, tree.refuses(False))
 
 
 def refuse_entries(entries, max_keys, context, required):

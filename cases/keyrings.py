@@ -184,19 +184,25 @@ def finite(text):
 
 
 def whole(text):
-    """A number without them, of which the same holds."""
+    """A number without them, of which the same holds. One with a sign is out of each range, and so is -0."""
     finite(text)
-    return int(text)
+    return -0.0 if text == "-0" else int(text)
 
 
 def most_open(text):
     """How many objects and lists are open at once at the most."""
     text = re.sub(r'"(?:[^"\\]|\\.)*"', "", text, flags=re.DOTALL)
     depth = most = 0
-    for character in text:
-        depth += {"{": 1, "[": 1, "}": -1, "]": -1}.get(character, 0)
+    for bracket in re.findall(r"[][{}]", text):
+        depth += 1 if bracket in "{[" else -1
         most = max(most, depth)
     return most
+
+
+def members_of(pairs):
+    """An object, of whose members that stand twice the last counts; no text of it has a lone surrogate, nor has one that doesn't count."""
+    json.dumps(pairs, ensure_ascii=False).encode("utf-8")
+    return dict(pairs)
 
 
 def json_value(bytes_):
@@ -205,8 +211,9 @@ def json_value(bytes_):
         text = bytes_.decode("utf-8")
         if most_open(text) > MOST_OPEN:
             raise ValueError("too deep")
-        value = json.loads(text, parse_constant=refuse_constant, parse_float=finite, parse_int=whole)
-        json.dumps(value, ensure_ascii=False).encode("utf-8")  # no lone surrogate
+        hooks = {"parse_constant": refuse_constant, "parse_float": finite, "parse_int": whole}
+        value = json.loads(text, object_pairs_hook=members_of, **hooks)
+        members_of([("", value)])
     except (ValueError, RecursionError):
         raise Refusal("K1 NotJson") from None
     return value

@@ -305,17 +305,22 @@ def units(left, header, data_key, max_unit):
 
 
 def frames(left, header, cipher):
-    wanted = 1
-    while True:
-        mark = left.take(4)
-        if mark == FINAL_MARK:
-            yield final_frame(left, header, cipher, wanted)
-            return
-        check_number(wanted, number(mark))
-        iv = left.take(12)
-        data = unit_data(header.message_id, FRAME, wanted, header.frame)
-        yield opened(cipher, iv, left.take(header.frame + TAG), data, wanted)
+    wanted, is_final = 1, False
+    while not is_final:
+        content, is_final = next_frame(left, header, cipher, wanted)
+        yield content
         wanted += 1
+
+
+def next_frame(left, header, cipher, wanted):
+    """The content of the next frame, and whether it is the final one."""
+    mark = left.take(4)
+    if mark == FINAL_MARK:
+        return final_frame(left, header, cipher, wanted), True
+    check_number(wanted, number(mark))
+    iv = left.take(12)
+    data = unit_data(header.message_id, FRAME, wanted, header.frame)
+    return opened(cipher, iv, left.take(header.frame + TAG), data, wanted), False
 
 
 def check_number(wanted, got):

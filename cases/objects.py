@@ -48,15 +48,27 @@ class Sink(Planned):
 
 
 class Shelf(Planned):
-    """Files by their names."""
+    """Files by their names. A name has room for what it held at first, and for as much as is said."""
 
-    def __init__(self, files, failing=()):
+    def __init__(self, files, failing=(), rooms=None):
         super().__init__(failing)
-        self.files = files
+        self.files = dict(files)
+        self.rooms = {name: len(bytes_) for name, bytes_ in files.items()}
+        for name, size in (rooms or {}).items():
+            self.rooms[name] = max(size, self.rooms.get(name, 0))
 
     def read_at(self, name, at, room):
         self.begin(is_refused=name not in self.files)
         return self.files[name][at : at + room]
+
+    def create(self, name):
+        self.begin(is_refused=name not in self.rooms)
+        self.files[name] = b""
+
+    def append(self, name, bytes_):
+        there = name in self.files
+        self.begin(is_refused=not there or len(self.files[name]) + len(bytes_) > self.rooms[name])
+        self.files[name] += bytes_
 
     def read_whole(self, name, most, piece=65_536):
         """The file's bytes up to its end; of one that has more than `most` bytes at least one more."""
@@ -81,3 +93,14 @@ class Entropy(Planned):
         self.begin(is_refused=len(self.bytes) - self.drawn < count)
         self.drawn += count
         return self.bytes[self.drawn - count : self.drawn]
+
+
+class Clock:
+    """Moments in their order; at the end the last of them stays, and 0 where there are none."""
+
+    def __init__(self, moments):
+        self.moments = list(moments)
+        self.last = self.moments[-1] if self.moments else 0
+
+    def now(self):
+        return self.moments.pop(0) if self.moments else self.last
