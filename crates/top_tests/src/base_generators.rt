@@ -13,7 +13,8 @@ fn fills(entropy: &mut RngEntropy, want: [u8; 8]) -> bool {
     entropy.fill(&mut out).is_ok() && out == want
 }
 
-/// The bytes are the key stream of ChaCha20 under the key and nonce of zeros (RFC 8439, appendix A.1).
+/// The bytes are the key stream of ChaCha20 under the key and nonce of zeros (RFC 8439, appendix
+/// A.1).
 #[test]
 fn a_seeded_generator_fills_in_turn(rt: HostRuntime) {
     let mut entropy = RngEntropy::new(Some(ChaCha20Rng::from_seed([0; 32])));

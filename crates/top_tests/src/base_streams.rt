@@ -55,15 +55,42 @@ fn a_writer_is_passed_through_up_to_its_room(rt: HostRuntime) {
     assert!(rt; room == *b"abc");
 }
 
+/// Whether the file of this path is made, and takes three bytes.
+fn is_written(rt: HostRuntime, path: &str) -> bool {
+    match File::create(&rt, path) {
+        Ok(file) => {
+            let mut sink = StdSink::new(file);
+            sink.put(b"ab").is_ok() && sink.put(b"c").is_ok()
+        }
+        Err(_) => false,
+    }
+}
+
+/// Whether the file of this path takes none where it is opened to be read.
+fn is_only_read(rt: HostRuntime, path: &str) -> bool {
+    match File::open(&rt, path) {
+        Ok(file) => StdSink::new(file).put(b"d").is_err(),
+        Err(_) => false,
+    }
+}
+
+/// Whether the file of this path gives those three bytes, and then ends.
+fn is_read(rt: HostRuntime, path: &str) -> bool {
+    match File::open(&rt, path) {
+        Ok(file) => {
+            let mut source = StdSource::new(file);
+            gives(&mut source, b"abc") && gives(&mut source, b"")
+        }
+        Err(_) => false,
+    }
+}
+
 #[test]
 fn a_file_is_written_and_read(rt: HostRuntime) -> Result<(), Fail> {
     let path = scratch_path(&rt, "streams")?;
-    let mut sink = StdSink::new(File::create(&rt, path.as_str())?);
-    assert!(rt; sink.put(b"ab").is_ok() && sink.put(b"c").is_ok());
-    let mut read_only = StdSink::new(File::open(&rt, path.as_str())?);
-    assert!(rt; read_only.put(b"d").is_err());
-    let mut source = StdSource::new(File::open(&rt, path.as_str())?);
-    assert!(rt; gives(&mut source, b"abc") && gives(&mut source, b""));
+    assert!(rt; is_written(rt, path.as_str()));
+    assert!(rt; is_only_read(rt, path.as_str()));
+    assert!(rt; is_read(rt, path.as_str()));
     fs::remove_file(&rt, path.as_str())?;
     Ok(())
 }

@@ -10,7 +10,8 @@ use std::alloc::Global;
 use std::test::Fail;
 use std::{fs, process};
 
-/// The keyring of a file in memory that holds the wrapping key, where the call of this number of the shelf fails. None where memory runs out.
+/// The keyring of a file in memory that holds the wrapping key, where the call of this number of
+/// the shelf fails. None where memory runs out.
 fn keyring_of(alloc: Global, failing: u64) -> Option<KeydirKeyring<MemShelf>> {
     let calls = match Vec::from_slice(alloc, &[failing]) {
         Ok(calls) => calls,
@@ -32,7 +33,8 @@ fn wraps_and_opens<K: Keyring>(alloc: Global, keyring: &mut K) -> bool {
     wraps(alloc, keyring, &known_cipher()) && opened(alloc, keyring, &known_cipher()) == Some(true)
 }
 
-/// Whether a keyring fails once, where it did so many wraps before, and goes on with its key at the next calls.
+/// Whether a keyring fails once, where it did so many wraps before, and goes on with its key at the
+/// next calls.
 fn fails_after<K: Keyring>(alloc: Global, keyring: &mut K, count: u32) -> bool {
     for _ in 0..count {
         if !wraps(alloc, keyring, &known_cipher()) {
@@ -100,7 +102,8 @@ fn goes_by_the_other_key<K: Keyring>(alloc: Global, keyring: &mut K) -> bool {
         && opened(alloc, keyring, &other_cipher()) == Some(true)
 }
 
-/// Whether the keyring of the file at this path goes by the wrapping key as long as that stands in the file, and then by the other one.
+/// Whether the keyring of the file at this path goes by the wrapping key as long as that stands in
+/// the file, and then by the other one.
 fn goes_by_the_file(rt: HostRuntime, path: &str) -> bool {
     match KeydirKeyring::new(rt.alloc(), FileShelf::new(rt), path, "ns", "k") {
         Ok(mut keyring) => {

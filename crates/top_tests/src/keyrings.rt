@@ -90,11 +90,24 @@ fn multi_of(generator: Tree, children: Vec<Tree>) -> Option<Multi<Box<dyn Keyrin
     }
 }
 
+/// The multi-keyring of a generator and these children, in a box of its own, as a tree.
+fn tree_over(alloc: Global, generator: Tree, children: Vec<Tree>) -> Option<Tree> {
+    match multi_of(generator, children) {
+        Some(multi) => tree_of(alloc, multi),
+        None => None,
+    }
+}
+
+/// One level of a multi-keyring above a tree.
+fn raised(alloc: Global, tree: Tree) -> Option<Tree> {
+    tree_over(alloc, tree, Vec::new(alloc))
+}
+
 /// So many levels of multi-keyrings above a raw key.
 fn nested(alloc: Global, levels: u32) -> Option<Tree> {
     let mut tree = raw(alloc, "k")?;
     for _ in 0..levels {
-        tree = tree_of(alloc, multi_of(tree, Vec::new(alloc))?)?;
+        tree = raised(alloc, tree)?;
     }
     Some(tree)
 }
@@ -135,9 +148,9 @@ fn many(alloc: Global, count: u32) -> Option<Vec<Tree>> {
     Some(children)
 }
 
-/// How many entries so many raw keys make, where they are too many; 0 where they are taken. None where there are over 100 keys.
-fn refused_width(alloc: Global, count: u32) -> Option<u64> {
-    let children = many(alloc, count)?;
+/// How many entries these children make, where they are too many; 0 where they are taken. None
+/// where there are over 100.
+fn width_refused(children: Vec<Tree>) -> Option<u64> {
     if children.len() > 100 {
         return None;
     }
@@ -145,6 +158,14 @@ fn refused_width(alloc: Global, count: u32) -> Option<u64> {
         Ok(_) => Some(0),
         Err(MultiError::TooWide(count)) => Some(count),
         Err(_) => None,
+    }
+}
+
+/// The same of so many raw keys.
+fn refused_width(alloc: Global, count: u32) -> Option<u64> {
+    match many(alloc, count) {
+        Some(children) => width_refused(children),
+        None => None,
     }
 }
 
@@ -172,10 +193,11 @@ fn tree_of_two(alloc: Global) -> Option<Tree> {
         Err(_) => return None,
     };
     let children = row_of(alloc, Node::Handed(boxed))?;
-    tree_of(alloc, multi_of(raw(alloc, "one")?, children)?)
+    tree_over(alloc, raw(alloc, "one")?, children)
 }
 
-/// There are two entries: the generator's with the first initialization vector, and the boxed keyring's with the second.
+/// There are two entries: the generator's with the first initialization vector, and the boxed
+/// keyring's with the second.
 fn are_in_order(entries: &[DataKeyEntry]) -> bool {
     match entries {
         [first, second] => {
@@ -186,7 +208,8 @@ fn are_in_order(entries: &[DataKeyEntry]) -> bool {
     }
 }
 
-/// What a keyring of two wraps makes of the data key of 32 bytes `k`, with initialization vectors of `a` and of `b`.
+/// What a keyring of two wraps makes of the data key of 32 bytes `k`, with initialization vectors
+/// of `a` and of `b`.
 fn wrapped_twice<K: Keyring>(alloc: Global, keyring: &mut K) -> Option<Wrapped> {
     if keyring.wraps() != 2 {
         return None;
@@ -214,7 +237,8 @@ fn known_finds_k(alloc: Global, entries: &[DataKeyEntry]) -> bool {
     }
 }
 
-/// Whether a keyring makes two entries in their order, and it and the known keyring alone open them.
+/// Whether a keyring makes two entries in their order, and it and the known keyring alone open
+/// them.
 fn wraps_twice<K: Keyring>(alloc: Global, keyring: &mut K) -> bool {
     match wrapped_twice(alloc, keyring) {
         Some(wrapped) => {
@@ -287,10 +311,11 @@ fn a_retired_key_opens_and_does_not_wrap(rt: HostRuntime) {
     assert!(rt; retired_key_opens_alone(rt.alloc()));
 }
 
-/// A multi-keyring of the known key, which generates the data key, and the other key, which is retired.
+/// A multi-keyring of the known key, which generates the data key, and the other key, which is
+/// retired.
 fn tree_with_retired(alloc: Global) -> Option<Tree> {
     let children = row_of(alloc, Node::Raw(retired(alloc, other_key())?))?;
-    tree_of(alloc, multi_of(Node::Raw(known_ring(alloc)?), children)?)
+    tree_over(alloc, Node::Raw(known_ring(alloc)?), children)
 }
 
 /// Whether that tree wraps under the known key alone, and opens what either key wrapped.

@@ -1,9 +1,11 @@
-//! Wraps over the context with the one pair `tenant`=`acme`, made by AES-256-GCM of Python's `cryptography` (over OpenSSL): the wrapping keys have the bytes 00 to 1f and 20
-//! to 3f, the namespace `ns` and the name `k`, and the data key and the initialization vector have the bytes 22.
+//! Wraps over the context with the one pair `tenant`=`acme`, made by AES-256-GCM of Python's
+//! `cryptography` (over OpenSSL): the wrapping keys have the bytes 00 to 1f and 20 to 3f, the
+//! namespace `ns` and the name `k`, and the data key and the initialization vector have the bytes
+//! 22.
 
 use context_codec::Context;
 use edk_codec::DataKeyEntry;
-use keyring_trait::Keyring;
+use keyring_trait::{Keyring, Wrapped};
 use raw_aes_keyring::RawAes;
 use std::alloc::Global;
 
@@ -31,7 +33,8 @@ pub(crate) fn other_key() -> [u8; 32] {
     ]
 }
 
-/// The provider information of a wrap: the name, 128 bits of tag, 12 bytes of initialization vector, and that vector.
+/// The provider information of a wrap: the name, 128 bits of tag, 12 bytes of initialization
+/// vector, and that vector.
 pub(crate) fn known_info() -> [u8; 21] {
     [
         0x6b, 0x00, 0x00, 0x00, 0x80, 0x00, 0x00, 0x00, 0x0c, 0x22, 0x22, 0x22, 0x22, 0x22, 0x22,
@@ -90,20 +93,21 @@ fn known_entry(alloc: Global, cipher: &[u8; 48]) -> Option<DataKeyEntry> {
     }
 }
 
-/// That entry, so many times.
-pub(crate) fn known_entries(
-    alloc: Global,
-    cipher: &[u8; 48],
-    count: u32,
-) -> Option<Vec<DataKeyEntry>> {
+/// This entry alone, in a row. None where memory runs out.
+fn row_of(alloc: Global, entry: DataKeyEntry) -> Option<Vec<DataKeyEntry>> {
     let mut entries = Vec::new(alloc);
-    for _ in 0..count {
-        match entries.push(known_entry(alloc, cipher)?) {
-            Ok(()) => {}
-            Err(_) => return None,
-        }
+    match entries.push(entry) {
+        Ok(()) => Some(entries),
+        Err(_) => None,
     }
-    Some(entries)
+}
+
+/// The entry of this ciphertext alone, in a row. None where memory runs out.
+pub(crate) fn known_entries(alloc: Global, cipher: &[u8; 48]) -> Option<Vec<DataKeyEntry>> {
+    match known_entry(alloc, cipher) {
+        Some(entry) => row_of(alloc, entry),
+        None => None,
+    }
 }
 
 /// There is one entry, which has this ciphertext.
@@ -118,31 +122,58 @@ pub(crate) fn are_known(entries: &[DataKeyEntry], cipher: &[u8; 48]) -> bool {
     }
 }
 
-/// Whether a keyring draws the data key and makes the one entry of this ciphertext.
-pub(crate) fn wraps<K: Keyring>(alloc: Global, keyring: &mut K, cipher: &[u8; 48]) -> bool {
+/// The wrap has the data key and the one entry of this ciphertext.
+fn is_known_wrap(wrapped: &Wrapped, cipher: &[u8; 48]) -> bool {
+    *wrapped.key().bytes() == DATA_KEY && are_known(wrapped.entries(), cipher)
+}
+
+/// Whether a keyring makes that wrap over this context.
+fn wraps_over<K: Keyring>(
+    alloc: Global,
+    keyring: &mut K,
+    context: &Context,
+    cipher: &[u8; 48],
+) -> bool {
     if keyring.wraps() != 1 {
         return false;
     }
-    let Some(context) = context_of(alloc, &TENANT) else {
-        return false;
-    };
-    match keyring.on_encrypt(alloc, &context, &RANDOM, None) {
-        Ok(wrapped) => *wrapped.key().bytes() == DATA_KEY && are_known(wrapped.entries(), cipher),
+    match keyring.on_encrypt(alloc, context, &RANDOM, None) {
+        Ok(wrapped) => is_known_wrap(&wrapped, cipher),
         Err(_) => false,
     }
 }
 
-/// Whether a keyring finds the data key in the entry of this ciphertext, or finds no key. None where it fails, or finds another key.
+/// Whether a keyring draws the data key and makes the one entry of this ciphertext.
+pub(crate) fn wraps<K: Keyring>(alloc: Global, keyring: &mut K, cipher: &[u8; 48]) -> bool {
+    match context_of(alloc, &TENANT) {
+        Some(context) => wraps_over(alloc, keyring, &context, cipher),
+        None => false,
+    }
+}
+
+/// Whether a keyring finds the data key in these entries over this context, or finds no key. None
+/// where it fails, or finds another key.
+fn opened_over<K: Keyring>(
+    alloc: Global,
+    keyring: &mut K,
+    context: &Context,
+    entries: &[DataKeyEntry],
+) -> Option<bool> {
+    match keyring.on_decrypt(alloc, context, entries) {
+        Ok(Some(key)) if *key.bytes() == DATA_KEY => Some(true),
+        Ok(None) => Some(false),
+        _ => None,
+    }
+}
+
+/// Whether a keyring finds the data key in the entry of this ciphertext, or finds no key. None
+/// where it fails, or finds another key.
 pub(crate) fn opened<K: Keyring>(
     alloc: Global,
     keyring: &mut K,
     cipher: &[u8; 48],
 ) -> Option<bool> {
     let context = context_of(alloc, &TENANT)?;
-    let entries = known_entries(alloc, cipher, 1)?;
-    match keyring.on_decrypt(alloc, &context, &entries) {
-        Ok(Some(key)) if *key.bytes() == DATA_KEY => Some(true),
-        Ok(None) => Some(false),
-        _ => None,
-    }
+    let entries = known_entries(alloc, cipher)?;
+    opened_over(alloc, keyring, &context, &entries)
 }

@@ -1,6 +1,7 @@
-//! The tests of the library's calls that no data of a program of cases shows: calls over real objects, as files, streams of std, generators and the
-//! system's clock; the forms in memory one by one; and calls that no words of the program reach. The crates of these calls have no tests of their own, and
-//! so each is proved once.
+//! The tests of the library's calls that no data of a program of cases shows: calls over real
+//! objects, as files, streams of std, generators and the system's clock; the forms in memory one by
+//! one; and calls that no words of the program reach. The crates of these calls have no tests of
+//! their own, and so each is proved once.
 #![tactic(auto)]
 
 #[cfg(test)]

@@ -1,31 +1,29 @@
-//! The default manager and the manager that requires keys: over boxes, over each other, and over a cache.
+//! The default manager and the manager that requires keys: over boxes, over each other, and over a
+//! cache.
 
-use crate::asking::{
-    GIVEN, Wanted, gives_known, keys_of, opens, request_of, request_to_open, sealed, serves,
-};
+use crate::asking::{COMMITTING, finds_known, gives_known, request_of, request_to_open, sealed};
 use crate::caching::caching;
-use crate::known_wraps::{RANDOM, known_ring};
-use cmm_caching::CacheLimits;
+use crate::known_wraps::known_ring;
+use cmm_caching::CachingCmm;
 use cmm_default::{DefaultCmm, HandedCmm};
 use cmm_required::RequiredCmm;
 use context_codec::KeySet;
 use esdk_fields::Fault;
-use keyring_trait::{DecMaterials, Keyring, Manager, ManagerError, Served};
+use keyring_trait::{
+    DecMaterials, EncMaterials, EncRequest, Keyring, Manager, ManagerError, Served,
+};
 use raw_aes_keyring::RawAes;
 use std::alloc::Global;
 
 /// Whether a manager gives the known wrap, opens it, and refuses nothing, all directly.
 fn gives_directly<M: Manager>(alloc: Global, manager: &mut M) -> bool {
-    gives_known(alloc, manager, &RANDOM, Served::Direct)
-        && opens(alloc, manager, &[(GIVEN, 0, Some(Served::Direct))])
+    gives_known(alloc, manager, 0, Served::Direct)
+        && finds_known(alloc, manager, COMMITTING, 0, Served::Direct)
         && manager.refuses().is_none()
 }
 
-/// Whether the default manager over the known keyring in a box does so.
-fn boxed_ring_gives(alloc: Global) -> bool {
-    let Some(ring) = known_ring(alloc) else {
-        return false;
-    };
+/// Whether the default manager over this keyring in a box does so.
+fn boxed_ring_gives(alloc: Global, ring: RawAes) -> bool {
     match Box::new(alloc, ring) {
         Ok(ring) => {
             let boxed: Box<dyn Keyring> = ring;
@@ -35,11 +33,8 @@ fn boxed_ring_gives(alloc: Global) -> bool {
     }
 }
 
-/// Whether the default manager in a box does.
-fn boxed_manager_gives(alloc: Global) -> bool {
-    let Some(ring) = known_ring(alloc) else {
-        return false;
-    };
+/// Whether the default manager of this keyring in a box does.
+fn boxed_manager_gives(alloc: Global, ring: RawAes) -> bool {
     match Box::new(alloc, DefaultCmm::new(ring)) {
         Ok(manager) => {
             let boxed: Box<dyn Manager> = manager;
@@ -49,21 +44,47 @@ fn boxed_manager_gives(alloc: Global) -> bool {
     }
 }
 
+/// Whether it does so over the known keyring in a box.
+fn known_boxed_ring_gives(alloc: Global) -> bool {
+    match known_ring(alloc) {
+        Some(ring) => boxed_ring_gives(alloc, ring),
+        None => false,
+    }
+}
+
+/// Whether the manager of the known keyring does so in a box.
+fn known_boxed_manager_gives(alloc: Global) -> bool {
+    match known_ring(alloc) {
+        Some(ring) => boxed_manager_gives(alloc, ring),
+        None => false,
+    }
+}
+
 #[test]
 fn boxes_give_and_find_directly(rt: HostRuntime) {
-    assert!(rt; boxed_ring_gives(rt.alloc()));
-    assert!(rt; boxed_manager_gives(rt.alloc()));
+    assert!(rt; known_boxed_ring_gives(rt.alloc()));
+    assert!(rt; known_boxed_manager_gives(rt.alloc()));
+}
+
+/// The set of this key. None where memory runs out.
+fn set_of(alloc: Global, key: &str) -> Option<KeySet> {
+    let mut set = KeySet::new(alloc);
+    match set.insert(alloc, key) {
+        Ok(()) => Some(set),
+        Err(_) => None,
+    }
 }
 
 /// The manager over this one that requires this key. None where memory runs out.
 fn over<M: Drop>(alloc: Global, inner: M, key: &str) -> Option<RequiredCmm<M>> {
-    match keys_of(alloc, &[key]) {
+    match set_of(alloc, key) {
         Some(keys) => Some(RequiredCmm::new(inner, keys)),
         None => None,
     }
 }
 
-/// The manager that requires `region`, over the one that requires `zone`, over the default manager of the known key.
+/// The manager that requires `region`, over the one that requires `zone`, over the default manager
+/// of the known key.
 fn requires_two(alloc: Global) -> Option<RequiredCmm<RequiredCmm<DefaultCmm<RawAes>>>> {
     let inner = over(alloc, DefaultCmm::new(known_ring(alloc)?), "zone")?;
     over(alloc, inner, "region")
@@ -79,13 +100,33 @@ fn are_all(keys: &KeySet) -> bool {
     }
 }
 
-/// Whether a reader of what a manager gives has to give all three pairs, where the request requires `tenant`.
+/// The request, where these keys are required. None where memory runs out.
+fn requiring(alloc: Global, request: &EncRequest, keys: &KeySet) -> Option<EncRequest> {
+    match request.requiring(alloc, keys) {
+        Ok(request) => Some(request),
+        Err(_) => None,
+    }
+}
+
+/// A request over three pairs that requires `tenant`. None where memory runs out.
+fn request_requiring(alloc: Global) -> Option<EncRequest> {
+    let keys = set_of(alloc, "tenant")?;
+    let request = request_of(alloc, &[("region", "1"), ("tenant", "2"), ("zone", "3")])?;
+    requiring(alloc, &request, &keys)
+}
+
+/// The materials that a manager gives at this request.
+fn sealed_requiring<M: Manager>(alloc: Global, manager: &mut M) -> Option<EncMaterials> {
+    match request_requiring(alloc) {
+        Some(request) => sealed(alloc, manager, &request, 0),
+        None => None,
+    }
+}
+
+/// Whether a reader of what a manager gives has to give all three pairs, where the request requires
+/// `tenant`.
 fn requires_all<M: Manager>(alloc: Global, manager: &mut M) -> bool {
-    let pairs = [("region", "1"), ("tenant", "2"), ("zone", "3")];
-    let Some(request) = request_of(alloc, &pairs, &["tenant"], None) else {
-        return false;
-    };
-    match sealed(alloc, manager, &request, 0, &RANDOM) {
+    match sealed_requiring(alloc, manager) {
         Some(materials) => are_all(materials.required()),
         None => false,
     }
@@ -107,13 +148,10 @@ fn is_zone_missing(answer: Result<DecMaterials, ManagerError>) -> bool {
     }
 }
 
-/// Whether a manager refuses nothing to write, and names `zone` as missing where `region` alone is given.
+/// Whether a manager refuses nothing to write, and names `zone` as missing where `region` alone is
+/// given.
 fn misses_zone<M: Manager>(alloc: Global, manager: &mut M) -> bool {
-    let wanted = Wanted {
-        given: &[("region", "1")],
-        ..GIVEN
-    };
-    match request_to_open(alloc, wanted) {
+    match request_to_open(alloc, COMMITTING, &[("region", "1")]) {
         Some(request) => {
             manager.refuses().is_none()
                 && is_zone_missing(manager.for_decryption(alloc, &request, 0))
@@ -122,13 +160,19 @@ fn misses_zone<M: Manager>(alloc: Global, manager: &mut M) -> bool {
     }
 }
 
-/// Whether two managers require the keys of both beside the request's, of who writes and of who reads; and whether the inner one comes back.
+/// Whether two managers require the keys of both beside the request's, of who writes and of who
+/// reads.
 fn requires_of_both(alloc: Global) -> bool {
     match requires_two(alloc) {
-        Some(mut outer) => {
-            let is_asked = requires_all(alloc, &mut outer) && misses_zone(alloc, &mut outer);
-            is_asked && misses_zone(alloc, &mut outer.into_inner())
-        }
+        Some(mut outer) => requires_all(alloc, &mut outer) && misses_zone(alloc, &mut outer),
+        None => false,
+    }
+}
+
+/// Whether the inner one comes back.
+fn inner_comes_back(alloc: Global) -> bool {
+    match requires_two(alloc) {
+        Some(outer) => misses_zone(alloc, &mut outer.into_inner()),
         None => false,
     }
 }
@@ -136,30 +180,38 @@ fn requires_of_both(alloc: Global) -> bool {
 #[test]
 fn one_manager_over_another_requires_the_keys_of_both(rt: HostRuntime) {
     assert!(rt; requires_of_both(rt.alloc()));
+    assert!(rt; inner_comes_back(rt.alloc()));
 }
 
-/// Whether requests at these moments come at these moments to a cache below, whose entries serve for ten seconds.
-fn passes_moments_on<M: Manager>(alloc: Global, manager: &mut M) -> bool {
-    let requests = [
-        ("tenant", Some(1), 0, Served::New(1)),
-        ("tenant", Some(1), 9, Served::Hit(1)),
-        ("tenant", Some(1), 10, Served::New(2)),
-    ];
-    let openings = [
-        (GIVEN, 0, Some(Served::New(3))),
-        (GIVEN, 9, Some(Served::Hit(3))),
-        (GIVEN, 10, Some(Served::New(4))),
-    ];
-    serves(alloc, manager, &requests) && opens(alloc, manager, &openings)
+/// Whether requests to encrypt come at their moments to a cache below, whose entries serve for ten
+/// seconds.
+fn passes_on_to_encrypt<M: Manager>(alloc: Global, manager: &mut M) -> bool {
+    gives_known(alloc, manager, 0, Served::New(1))
+        && gives_known(alloc, manager, 9, Served::Hit(1))
+        && gives_known(alloc, manager, 10, Served::New(2))
 }
 
-/// Whether the manager that requires `tenant` passes them on to its cache.
+/// Whether requests to decrypt do, after those.
+fn passes_on_to_decrypt<M: Manager>(alloc: Global, manager: &mut M) -> bool {
+    finds_known(alloc, manager, COMMITTING, 0, Served::New(3))
+        && finds_known(alloc, manager, COMMITTING, 9, Served::Hit(3))
+        && finds_known(alloc, manager, COMMITTING, 10, Served::New(4))
+}
+
+/// The manager that requires `tenant`, over a cache. None where memory runs out.
+fn over_a_cache(alloc: Global) -> Option<RequiredCmm<CachingCmm<DefaultCmm<RawAes>>>> {
+    match caching(alloc) {
+        Some(cache) => over(alloc, cache, "tenant"),
+        None => None,
+    }
+}
+
+/// Whether the manager over a cache passes the moments on.
 fn moments_are_passed_on(alloc: Global) -> bool {
-    let Some(cache) = caching(alloc, CacheLimits::new(5, 10, 10, 1000)) else {
-        return false;
-    };
-    match over(alloc, cache, "tenant") {
-        Some(mut manager) => passes_moments_on(alloc, &mut manager),
+    match over_a_cache(alloc) {
+        Some(mut manager) => {
+            passes_on_to_encrypt(alloc, &mut manager) && passes_on_to_decrypt(alloc, &mut manager)
+        }
         None => false,
     }
 }

@@ -1,16 +1,18 @@
-//! Steps of an opener: how many bytes each takes and gives, and what is told by when. What messages come to is shown by the program of cases over codecs.
+//! Steps of an opener: how many bytes each takes and gives, and what is told by when. What messages
+//! come to is shown by the program of cases over codecs.
 
 use crate::known_wraps::known_ring;
 use cmm_default::DefaultCmm;
 use context_codec::Context;
 use header_codec::Settings;
-use keyring_trait::Served;
+use keyring_trait::{Manager, Served};
 use raw_aes_keyring::RawAes;
 use std::alloc::Global;
 use stream_open::{OpenError, Opener};
 
-/// Nine bytes, `123456789`, in three frames of 4, under the known keyring: made by another implementation of the format over OpenSSL. The header ends at 169, the frames at
-/// 205, 241 and 282.
+/// Nine bytes, `123456789`, in three frames of 4, under the known keyring: made by another
+/// implementation of the format over OpenSSL. The header ends at 169, the frames at 205, 241 and
+/// 282.
 const NINE_BYTES: &[u8] =
     b"\x02\x04\x78\x22\x22\x22\x22\x22\x22\x22\x22\x22\x22\x22\x22\x22\x22\x22\x22\x22\x22\x22\x22\x22\
     \x22\x22\x22\x22\x22\x22\x22\x22\x22\x22\x22\x00\x00\x00\x01\x00\x02\x6e\x73\x00\x15\x6b\x00\x00\
@@ -39,10 +41,10 @@ fn new_opener(alloc: Global) -> Opener {
 }
 
 /// Whether a step over the piece takes so many bytes, and gives so many.
-fn gives(
+fn gives<M: Manager>(
     alloc: Global,
     opener: &mut Opener,
-    manager: &mut DefaultCmm<RawAes>,
+    manager: &mut M,
     piece: &[u8],
     used: usize,
     given: usize,
@@ -53,20 +55,17 @@ fn gives(
     }
 }
 
-/// Whether steps over all that is left of a message, from each offset on, take and give so many bytes.
-fn steps_give(
+/// Whether a step over all that is left from this offset on takes so many bytes, and gives so many.
+fn gives_from<M: Manager>(
     alloc: Global,
     opener: &mut Opener,
-    manager: &mut DefaultCmm<RawAes>,
-    steps: &[(usize, usize, usize)],
+    manager: &mut M,
+    from: usize,
+    used: usize,
+    given: usize,
 ) -> bool {
-    for (from, used, given) in steps {
-        let left = NINE_BYTES.get(*from..).unwrap_or(&[]);
-        if !gives(alloc, opener, manager, left, *used, *given) {
-            return false;
-        }
-    }
-    true
+    let left = NINE_BYTES.get(from..).unwrap_or(&[]);
+    gives(alloc, opener, manager, left, used, given)
 }
 
 /// Whether the message is whole, and its end gives nothing.
@@ -74,14 +73,20 @@ fn ends_whole(opener: &mut Opener) -> bool {
     opener.is_whole() && opener.finish().is_ok() && opener.out().is_empty()
 }
 
-/// Whether steps over all that is left end with the header's tag and with each frame.
+/// Whether the steps of an opener over all that is left end with the header's tag and with each
+/// frame.
+fn is_opened_unit_by_unit<M: Manager>(alloc: Global, opener: &mut Opener, manager: &mut M) -> bool {
+    gives_from(alloc, opener, manager, 0, 169, 0)
+        && gives_from(alloc, opener, manager, 169, 36, 4)
+        && gives_from(alloc, opener, manager, 205, 36, 4)
+        && gives_from(alloc, opener, manager, 241, 41, 1)
+        && ends_whole(opener)
+}
+
+/// Whether a new opener does so.
 fn ends_with_each_unit(alloc: Global) -> bool {
-    let mut opener = new_opener(alloc);
-    let steps = [(0, 169, 0), (169, 36, 4), (205, 36, 4), (241, 41, 1)];
     match known_manager(alloc) {
-        Some(mut manager) => {
-            steps_give(alloc, &mut opener, &mut manager, &steps) && ends_whole(&mut opener)
-        }
+        Some(mut manager) => is_opened_unit_by_unit(alloc, &mut new_opener(alloc), &mut manager),
         None => false,
     }
 }
@@ -101,11 +106,7 @@ fn given_with(number: usize) -> usize {
 }
 
 /// Whether the message is opened so.
-fn is_opened_byte_by_byte(
-    alloc: Global,
-    opener: &mut Opener,
-    manager: &mut DefaultCmm<RawAes>,
-) -> bool {
+fn is_opened_byte_by_byte<M: Manager>(alloc: Global, opener: &mut Opener, manager: &mut M) -> bool {
     let mut number = 0usize;
     for byte in NINE_BYTES.chunks(1) {
         number = number.saturating_add(1);
@@ -118,9 +119,8 @@ fn is_opened_byte_by_byte(
 
 /// Whether a new opener opens it so.
 fn gives_with_the_last_byte(alloc: Global) -> bool {
-    let mut opener = new_opener(alloc);
     match known_manager(alloc) {
-        Some(mut manager) => is_opened_byte_by_byte(alloc, &mut opener, &mut manager),
+        Some(mut manager) => { is_opened_byte_by_byte(alloc, &mut new_opener(alloc), &mut manager) }
         None => false,
     }
 }
@@ -142,11 +142,7 @@ fn tells_all(opener: &Opener) -> bool {
 }
 
 /// Whether the last byte of the header's tag tells them.
-fn tells_with_the_tag(
-    alloc: Global,
-    opener: &mut Opener,
-    manager: &mut DefaultCmm<RawAes>,
-) -> bool {
+fn tells_with_the_tag<M: Manager>(alloc: Global, opener: &mut Opener, manager: &mut M) -> bool {
     let front = NINE_BYTES.get(..168).unwrap_or(&[]);
     let last = NINE_BYTES.get(168..169).unwrap_or(&[]);
     gives(alloc, opener, manager, front, 168, 0)
@@ -155,13 +151,15 @@ fn tells_with_the_tag(
         && tells_all(opener)
 }
 
-/// Whether a new opener tells them so, and hands the whole context out.
+/// Whether an opener tells them so, and hands the whole context out.
+fn hands_out<M: Manager>(alloc: Global, mut opener: Opener, manager: &mut M) -> bool {
+    tells_with_the_tag(alloc, &mut opener, manager) && opener.into_context().is_some()
+}
+
+/// Whether a new opener does so.
 fn tells_with_the_header(alloc: Global) -> bool {
-    let mut opener = new_opener(alloc);
     match known_manager(alloc) {
-        Some(mut manager) => {
-            tells_with_the_tag(alloc, &mut opener, &mut manager) && opener.into_context().is_some()
-        }
+        Some(mut manager) => hands_out(alloc, new_opener(alloc), &mut manager),
         None => false,
     }
 }
@@ -172,21 +170,27 @@ fn the_context_is_told_once_the_header_is_unlocked(rt: HostRuntime) {
 }
 
 /// Whether a step and the end are stopped.
-fn is_stopped(alloc: Global, opener: &mut Opener, manager: &mut DefaultCmm<RawAes>) -> bool {
+fn is_stopped<M: Manager>(alloc: Global, opener: &mut Opener, manager: &mut M) -> bool {
     let step = opener.step(alloc, manager, 0, NINE_BYTES);
     matches!(step, Err(OpenError::Stopped)) && matches!(opener.finish(), Err(OpenError::Stopped))
 }
 
-/// Whether a message of the version 3 is refused, and stops the opener; and whether the end of no bytes does.
+/// Whether a message of the version 3 is refused, and stops the opener.
+fn refusal_stops<M: Manager>(alloc: Global, opener: &mut Opener, manager: &mut M) -> bool {
+    opener.step(alloc, manager, 0, &[3]).is_err() && is_stopped(alloc, opener, manager)
+}
+
+/// Whether the end of no bytes stops the opener.
+fn end_stops<M: Manager>(alloc: Global, opener: &mut Opener, manager: &mut M) -> bool {
+    opener.finish().is_err() && is_stopped(alloc, opener, manager)
+}
+
+/// Whether both stop a new opener.
 fn errors_stop(alloc: Global) -> bool {
-    let mut refused = new_opener(alloc);
-    let mut ended = new_opener(alloc);
     match known_manager(alloc) {
         Some(mut manager) => {
-            refused.step(alloc, &mut manager, 0, &[3]).is_err()
-                && is_stopped(alloc, &mut refused, &mut manager)
-                && ended.finish().is_err()
-                && is_stopped(alloc, &mut ended, &mut manager)
+            refusal_stops(alloc, &mut new_opener(alloc), &mut manager)
+                && end_stops(alloc, &mut new_opener(alloc), &mut manager)
         }
         None => false,
     }

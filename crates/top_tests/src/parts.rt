@@ -12,7 +12,8 @@ fn key_of_nine() -> DataKey {
     DataKey::new(bytes)
 }
 
-/// Whether materials with no pair, but that these are only authenticated, come apart into their parts.
+/// Whether materials with no pair, but that these are only authenticated, come apart into their
+/// parts.
 fn come_apart(alloc: Global, only: Context) -> bool {
     let materials = DecMaterials::new(Context::new(alloc), only, key_of_nine(), Served::Hit(3));
     let served = materials.served();

@@ -1,6 +1,7 @@
-//! A manager that keeps what it gave last. What a manager says of its last answer may always be so; of this one it isn't.
+//! A manager that keeps what it gave last. What a manager says of its last answer may always be so;
+//! of this one it isn't.
 
-use crate::asking::serves;
+use crate::asking::gives_known;
 use crate::known_wraps::known_ring;
 use cmm_caching::{CacheLimits, CachingCmm};
 use cmm_default::DefaultCmm;
@@ -8,6 +9,7 @@ use keyring_trait::{
     DataKey, DecMaterials, DecRequest, EncMaterials, EncRequest, Manager, ManagerError,
     RingRefusal, Served,
 };
+use raw_aes_keyring::RawAes;
 use std::alloc::Global;
 
 /// The data key of materials, and the moment at which they were asked for.
@@ -17,7 +19,8 @@ struct Recalled {
     moment: u64,
 }
 
-/// A materials manager that asks another one, and recalls the last materials that it gave to encrypt and found to decrypt with.
+/// A materials manager that asks another one, and recalls the last materials that it gave to
+/// encrypt and found to decrypt with.
 #[derive(Drop)]
 struct Recalling<M> {
     manager: M,
@@ -39,9 +42,11 @@ impl<M: Manager> Manager for Recalling<M> {
     ghost within = { λ r. M.within r.manager };
 
     /// It recalls the key of these materials, and this moment.
-    ghost gave = { λ r request now random made. r.gave ≡ Some (record { key = made.key; moment = now }) };
+    ghost gave = { λ r request now random made. r.gave ≡ Some
+        (record { key = made.key; moment = now }) };
 
-    ghost found = { λ r request now found. r.found ≡ Some (record { key = found.key; moment = now }) };
+    ghost found = { λ r request now found. r.found ≡ Some
+        (record { key = found.key; moment = now }) };
 
     fn wraps(&self) -> u32 {
         self.manager.wraps()
@@ -81,32 +86,41 @@ impl<M: Manager> Manager for Recalling<M> {
     }
 }
 
-/// The moment that the manager behind a cache recalls, whose entries serve for 10 seconds, once these requests to encrypt were served so.
-fn moment_recalled(alloc: Global, requests: &[(&str, Option<u64>, u64, Served)]) -> Option<u64> {
+/// The recalling manager behind a cache, whose entries serve for ten seconds.
+fn behind_a_cache(alloc: Global) -> Option<CachingCmm<Recalling<DefaultCmm<RawAes>>>> {
     let inner = Recalling {
         manager: DefaultCmm::new(known_ring(alloc)?),
         gave: None,
         found: None,
     };
-    let Ok(mut manager) = CachingCmm::new(alloc, inner, CacheLimits::new(5, 10, 10, 1000)) else {
-        return None;
-    };
-    if !serves(alloc, &mut manager, requests) {
+    match CachingCmm::new(alloc, inner, CacheLimits::new(5, 10, 10, 1000)) {
+        Ok(manager) => Some(manager),
+        Err(_) => None,
+    }
+}
+
+/// Whether a manager with a cache makes an entry at second 2, and serves the same request so at
+/// this moment.
+fn is_asked_twice<M: Manager>(alloc: Global, manager: &mut M, now: u64, served: Served) -> bool {
+    gives_known(alloc, manager, 2, Served::New(1)) && gives_known(alloc, manager, now, served)
+}
+
+/// The moment that the manager behind a cache recalls.
+fn moment_behind<M: Manager>(manager: CachingCmm<Recalling<M>>) -> Option<u64> {
+    Some(manager.into_inner().gave?.moment)
+}
+
+/// The moment that it recalls once it was asked twice.
+fn moment_recalled(alloc: Global, now: u64, served: Served) -> Option<u64> {
+    let mut manager = behind_a_cache(alloc)?;
+    if !is_asked_twice(alloc, &mut manager, now, served) {
         return None;
     }
-    Some(manager.into_inner().gave?.moment)
+    moment_behind(manager)
 }
 
 #[test]
 fn the_manager_behind_a_cache_recalls_what_it_was_asked(rt: HostRuntime) {
-    let hit = [
-        ("a", Some(1), 2, Served::New(1)),
-        ("a", Some(1), 9, Served::Hit(1)),
-    ];
-    let expired = [
-        ("a", Some(1), 2, Served::New(1)),
-        ("a", Some(1), 12, Served::New(2)),
-    ];
-    assert!(rt; moment_recalled(rt.alloc(), &hit) == Some(2));
-    assert!(rt; moment_recalled(rt.alloc(), &expired) == Some(12));
+    assert!(rt; moment_recalled(rt.alloc(), 9, Served::Hit(1)) == Some(2));
+    assert!(rt; moment_recalled(rt.alloc(), 12, Served::New(2)) == Some(12));
 }

@@ -1,10 +1,11 @@
-//! Steps of a sealer: how many bytes each uses and gives. What texts come to is shown by the program of cases over codecs.
+//! Steps of a sealer: how many bytes each uses and gives. What texts come to is shown by the
+//! program of cases over codecs.
 
 use crate::asking::{request_of, sealed};
-use crate::known_wraps::{RANDOM, known_ring};
+use crate::known_wraps::known_ring;
 use cmm_default::DefaultCmm;
 use esdk_fields::Refusal;
-use keyring_trait::EncMaterials;
+use keyring_trait::{EncMaterials, EncRequest};
 use std::alloc::Global;
 use stream_seal::{SealError, Sealer};
 
@@ -14,16 +15,24 @@ const LETTERS_A: &str = "aaaaaaaaaaaaaaaaaaaaaaaaaaaaaaaaaaaaaaaaaaaaaaaaaa";
 /// 50 letters b.
 const LETTERS_B: &str = "bbbbbbbbbbbbbbbbbbbbbbbbbbbbbbbbbbbbbbbbbbbbbbbbbb";
 
-/// The materials of a request without pairs.
-fn materials(alloc: Global) -> Option<EncMaterials> {
-    let request = request_of(alloc, &[], &[], None)?;
+/// The materials that the default manager of the known key gives at a request.
+fn materials_at(alloc: Global, request: &EncRequest) -> Option<EncMaterials> {
     match known_ring(alloc) {
-        Some(ring) => sealed(alloc, &mut DefaultCmm::new(ring), &request, 0, &RANDOM),
+        Some(ring) => sealed(alloc, &mut DefaultCmm::new(ring), request, 0),
         None => None,
     }
 }
 
-/// A sealer that has begun a message, of which so many bytes are declared, in frames of so many bytes, or of one.
+/// The materials of a request without pairs.
+fn materials(alloc: Global) -> Option<EncMaterials> {
+    match request_of(alloc, &[]) {
+        Some(request) => materials_at(alloc, &request),
+        None => None,
+    }
+}
+
+/// A sealer that has begun a message, of which so many bytes are declared, in frames of so many
+/// bytes, or of one.
 fn begun(alloc: Global, declared: Option<u64>, frame_length: u32) -> Option<Sealer> {
     let materials = materials(alloc)?;
     let frame = frame_length.max(1);
@@ -97,7 +106,8 @@ fn pieces_are_used_up_to_the_end_of_a_frame(rt: HostRuntime) {
     assert!(rt; new_steps_give(rt.alloc(), Some(101), 40, &longer, 60));
 }
 
-/// A frame is given once a byte comes behind it, also where that byte isn't taken then. Fewer bytes than declared are a message too.
+/// A frame is given once a byte comes behind it, also where that byte isn't taken then. Fewer bytes
+/// than declared are a message too.
 #[test]
 fn the_end_gives_what_is_held(rt: HostRuntime) {
     let given = [
@@ -117,7 +127,8 @@ fn is_over_three(answer: Result<usize, SealError>) -> bool {
     matches!(answer, Err(SealError::Refusal(Refusal::OverDeclared(3))))
 }
 
-/// Whether the byte after three declared ones is refused, and stops the sealer, which gives nothing.
+/// Whether the byte after three declared ones is refused, and stops the sealer, which gives
+/// nothing.
 fn stops_behind_three(alloc: Global) -> bool {
     match begun(alloc, Some(3), 4096) {
         Some(mut sealer) => {
