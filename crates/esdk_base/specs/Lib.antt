@@ -1,6 +1,7 @@
 pub mod Clock
 pub mod Entropy
 pub mod FileShelf
+pub mod KeptFiles
 pub mod RngEntropy
 pub mod Shelf
 pub mod Sink

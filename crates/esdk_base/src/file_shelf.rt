@@ -4,6 +4,7 @@ ghost use Rattle.std.specs.Prelude.{◌≡◌, ◌≤◌, None};
 ghost use Rattle.std.specs.Io.{ReadsAtMost};
 ghost use Rattle.esdk_fields.specs.Counts.{Rose};
 
+use crate::kept_files::KeptFiles;
 use crate::{Failed, Shelf};
 use std::fs::{File, OpenOptions};
 use std::io;
@@ -13,9 +14,15 @@ use std::os::unix::fs::FileExt;
 
 /// A shelf over the files of the system. A name is a path, as the user gave it. It tells no
 /// content.
+///
+/// A few files that were read or appended to last stay open, for the calls that go on with them. A
+/// read from a file's front opens the file that has the name then, and so does the first append
+/// after `create`.
 #[derive(Drop)]
 pub struct FileShelf {
     rt: HostRuntime,
+    read: KeptFiles,
+    appended: KeptFiles,
     given: u64,
     faults: u64,
 }
@@ -35,6 +42,8 @@ impl FileShelf {
     {
         FileShelf {
             rt,
+            read: KeptFiles::new(rt.alloc()),
+            appended: KeptFiles::new(rt.alloc()),
             given: 0,
             faults: 0,
         }
@@ -51,11 +60,24 @@ impl FileShelf {
     }
 }
 
-/// Reads from the offset of the file on, once.
-fn read_file(rt: HostRuntime, name: &str, at: u64, out: &mut [u8]) -> io::Result<usize>
+/// Reads from the offset of the file on, once. A file that was read from its front goes on, while
+/// it is kept.
+fn read_file(
+    rt: HostRuntime,
+    files: &mut KeptFiles,
+    name: &str,
+    at: u64,
+    out: &mut [u8],
+) -> io::Result<usize>
     ensures { ReadsAtMost result out.new }
 {
-    File::open(&rt, name)?.read_at(out, at)
+    let file = match files.take(name) {
+        Some(file) if at > 0 => file,
+        _ => File::open(&rt, name)?,
+    };
+    let count = file.read_at(out, at)?;
+    files.keep(name, file);
+    Ok(count)
 }
 
 /// Makes an empty file, or empties the one that is there.
@@ -65,16 +87,21 @@ fn create_file(rt: HostRuntime, name: &str) -> io::Result<()> {
 }
 
 /// Appends to a file that is there.
-fn append_file(rt: HostRuntime, name: &str, bytes: &[u8]) -> io::Result<()> {
-    let mut file = OpenOptions::new().append(true).open(&rt, name)?;
-    file.write_all(bytes)
+fn append_file(rt: HostRuntime, files: &mut KeptFiles, name: &str, bytes: &[u8]) -> io::Result<()> {
+    let mut file = match files.take(name) {
+        Some(file) => file,
+        None => OpenOptions::new().append(true).open(&rt, name)?,
+    };
+    file.write_all(bytes)?;
+    files.keep(name, file);
+    Ok(())
 }
 
 impl Shelf for FileShelf {
     ghost state = { λ s. record { files = None; given = s.given; faults = s.faults } };
 
     fn read_at(&mut self, name: &str, at: u64, out: &mut [u8]) -> Result<usize, Failed> {
-        match read_file(self.rt, name, at, out) {
+        match read_file(self.rt, &mut self.read, name, at, out) {
             Ok(count) => {
                 self.given = self.given.saturating_add(count as u64);
                 Ok(count)
@@ -84,6 +111,8 @@ impl Shelf for FileShelf {
     }
 
     fn create(&mut self, name: &str) -> Result<(), Failed> {
+        let _read = self.read.take(name);
+        let _appended = self.appended.take(name);
         match create_file(self.rt, name) {
             Ok(()) => Ok(()),
             Err(_) => Err(self.fault()),
@@ -91,7 +120,7 @@ impl Shelf for FileShelf {
     }
 
     fn append(&mut self, name: &str, bytes: &[u8]) -> Result<(), Failed> {
-        match append_file(self.rt, name, bytes) {
+        match append_file(self.rt, &mut self.appended, name, bytes) {
             Ok(()) => Ok(()),
             Err(_) => Err(self.fault()),
         }

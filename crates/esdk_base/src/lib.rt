@@ -12,6 +12,7 @@
 mod clock;
 mod entropy;
 mod file_shelf;
+mod kept_files;
 mod rng_entropy;
 mod shelf;
 mod sink;
