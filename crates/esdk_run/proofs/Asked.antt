@@ -8,12 +8,15 @@ use Rattle.esdk_args.specs.declared.request.MigrateWords.{MigrateWords}
 use Rattle.esdk_args.specs.declared.request.Request.{Request}
 use Rattle.esdk_args.specs.declared.request.Request.TheVariants as requests
 use Rattle.esdk_args.specs.declared.request.WordsFault.{WordsFault}
+use Rattle.esdk_run.specs.EachJob.{DoesWhatItMust, SaysEachJudgement}
 use Rattle.esdk_run.specs.Objects.{Objects, Unchanged, without_entropy}
 use Rattle.esdk_run.specs.Run.{BatchRuns, DecryptRuns, EncryptRuns, GenRuns, MigrateRuns, RunsAs}
 use Rattle.esdk_run.specs.Served.{Generates, KeepsLimits, KeepsOtherFiles, RunsWhatIsHeld}
 use Rattle.esdk_run.specs.Told.{ComesBack, DecryptsWholeMessages, MigratesWhatIsHeld, ReadsBack, SaysTheJudgement, SaysWhatItReads, keyring_asked}
 use Rattle.esdk_run.specs.Trees.{Trees}
 use Rattle.esdk_run.proofs.Batches.{generates, keeps_limits, keeps_other_files, runs_what_is_held}
+use Rattle.esdk_run.proofs.DoneJobs.{does_what_it_must}
+use Rattle.esdk_run.proofs.EachJob.{says_each_judgement}
 use Rattle.esdk_run.proofs.Decryption.{decrypts_whole_messages, reads_back, says_the_judgement, says_what_it_reads}
 use Rattle.esdk_run.proofs.Migration.{migrates_what_is_held}
 use Rattle.esdk_run.proofs.Encryption.{encrypt_comes_back}
@@ -112,7 +115,7 @@ limits_asked trees words name before after unchanged code is runs =
 
 pub others_asked : (trees : Trees) (words : Result Request WordsFault) (name : List ℕ) (before after : Objects) (unchanged : Unchanged) (code : ℕ)
     → words ≡ Ok (requests.Batch name) → RunsAs trees words before after unchanged code
-    → KeepsOtherFiles name before.shelf after.shelf code
+    → KeepsOtherFiles name before.shelf after.shelf
 others_asked trees words name before after unchanged code is runs =
     keeps_other_files trees name before after unchanged code (batch_asked trees words name before after unchanged code is runs)
 
@@ -121,6 +124,18 @@ pub jobs_asked : (trees : Trees) (words : Result Request WordsFault) (name : Lis
     → RunsWhatIsHeld trees name before.shelf after.shelf before.output after.output code
 jobs_asked trees words name before after unchanged code is runs =
     runs_what_is_held trees name before after unchanged code (batch_asked trees words name before after unchanged code is runs)
+
+pub judgements_asked : (trees : Trees) (words : Result Request WordsFault) (name : List ℕ) (before after : Objects) (unchanged : Unchanged) (code : ℕ)
+    → words ≡ Ok (requests.Batch name) → RunsAs trees words before after unchanged code
+    → SaysEachJudgement trees name before after code
+judgements_asked trees words name before after unchanged code is runs =
+    says_each_judgement trees name before after unchanged code (batch_asked trees words name before after unchanged code is runs)
+
+pub done_asked : (trees : Trees) (words : Result Request WordsFault) (name : List ℕ) (before after : Objects) (unchanged : Unchanged) (code : ℕ)
+    → words ≡ Ok (requests.Batch name) → RunsAs trees words before after unchanged code
+    → DoesWhatItMust trees name before after code
+done_asked trees words name before after unchanged code is runs =
+    does_what_it_must trees name before after unchanged code (batch_asked trees words name before after unchanged code is runs)
 
 pub line_asked : (trees : Trees) (words : Result Request WordsFault) (seed size : ℕ) (before after : Objects) (unchanged : Unchanged) (code : ℕ)
     → words ≡ Ok (requests.Gen seed size) → RunsAs trees words before after unchanged code

@@ -1,11 +1,11 @@
 -- What `batch` and `gen` leave, and when they must be done.
 use Rattle.std.proofs.Common.{◌≡◌, ◌⊎◌, ◌∙◌, ◌≤◌, ℕ, Bool, true, false, List, length, Ok, Err, inl, inr, refl, sym, ap, subst, arith}
-use Rattle.std.specs.Prelude.{if◌then◌else◌}
+use Rattle.std.specs.Prelude.{is_some, if◌then◌else◌}
 use Rattle.std.specs.List.{list_all}
 use Rattle.std.specs.declared.option.Option.{Option}
 use Rattle.std.specs.declared.result.Result.{Result}
 use Rattle.esdk_base.specs.Shelf.{Files, Holds}
-use Rattle.esdk_base.specs.Streams.{ShelfState, SinkState}
+use Rattle.esdk_base.specs.Streams.{EntropyState, ShelfState, SinkState}
 use Rattle.esdk_fields.specs.Counts.{Stayed}
 use Rattle.esdk_fields.specs.declared.refusals.FileRefusal.{FileRefusal}
 use Rattle.esdk_fields.specs.declared.refusals.Outside.TheVariants as outsides
@@ -20,12 +20,12 @@ use Rattle.esdk_batch.specs.Batch.{OnlyWritten}
 use Rattle.esdk_report.specs.declared.failure.Failure.{Failure}
 use Rattle.esdk_report.specs.declared.failure.Failure.TheVariants as failures
 use Rattle.esdk_report.specs.Report.{Reports}
-use Rattle.esdk_run.specs.Batch.{BatchFails, JobsAre, JobsHaveNoTree, RunsJobFile, jobs_in}
+use Rattle.esdk_run.specs.Batch.{BatchFails, ChangesOnlyWritten, JobsAre, JobsHaveNoTree, RunsJobFile, jobs_in}
 use Rattle.esdk_run.specs.FileReading.{FileFails, FileIsRefused}
 use Rattle.esdk_run.specs.Generate.{GenFails, WritesLineFront}
 use Rattle.esdk_run.specs.Objects.{Objects, Unchanged}
 use Rattle.esdk_run.specs.Run.{BatchRuns, Fails, GenRuns, RunsAllJobs, is_status}
-use Rattle.esdk_run.specs.Served.{ChangesOnlyWritten, Generates, HoldsJobs, KeepsLimits, KeepsOtherFiles, RunsWhatIsHeld, ShowsLimits}
+use Rattle.esdk_run.specs.Served.{Generates, HoldsJobs, KeepsLimits, KeepsOtherFiles, RunsWhatIsHeld, ShowsLimits}
 use Rattle.esdk_run.specs.Told.{HoldsTree, IsDoneOrMemory}
 use Rattle.esdk_run.specs.Trees.{Trees}
 use Rattle.esdk_run.proofs.Files.{held_is_read, held_is_taken, no_read_fails}
@@ -77,34 +77,34 @@ keeps_limits trees name before after unchanged code (inr fails) (inr seven) = ab
 
 -- ---- the files
 
-run_changes : {trees : Trees} {name : List ℕ} {lines : List JobLine} (before after : Objects) → RunsJobFile trees name before.shelf after.shelf before.entropy after.entropy lines
-    → ChangesOnlyWritten name before.shelf after.shelf
-run_changes before after runs = record {
+pub run_changes : {trees : Trees} {name : List ℕ} {old new : ShelfState} {entropy spent : EntropyState} {lines : List JobLine}
+    → RunsJobFile trees name old new entropy spent lines → ChangesOnlyWritten name old new
+run_changes {new = new} runs = record {
   file = runs.file;
   between = runs.has.between;
   jobs = runs.has.jobs;
-  others = subst (λ (files : Option Files). OnlyWritten runs.file.jobs files after.shelf.files) runs.has.stay runs.runs.runs.others;
+  others = subst (λ (files : Option Files). OnlyWritten runs.file.jobs files new.files) runs.has.stay runs.runs.runs.others;
+  told = runs.told ∙ ap is_some runs.has.stay;
 }
 
-failing_keeps : (trees : Trees) (name : List ℕ) (before after : Objects) (unwritten undrawn : Type 0) (code : ℕ) (failure : Failure)
-    → BatchFails trees name before after unwritten undrawn failure → Reports failure code before.report after.report → KeepsOtherFiles name before.shelf after.shelf code
-failing_keeps trees name before after unwritten undrawn code failures.NotRead fails said some = absurd fails.0
-failing_keeps trees name before after unwritten undrawn code (failures.BadNumber option) fails said some = absurd fails.0
-failing_keeps trees name before after unwritten undrawn code (failures.BadPair number) fails said some = absurd fails.0
-failing_keeps trees name before after unwritten undrawn code (failures.Fault fault) fails said some = absurd fails.0
-failing_keeps trees name before after unwritten undrawn code (failures.File refusal) fails said some = inl fails.0.0.stay
-failing_keeps trees name before after unwritten undrawn code (failures.Outside outsides.SinkFault) fails said some = inr (run_changes before after fails.runs)
-failing_keeps trees name before after unwritten undrawn code (failures.Outside outsides.ShelfFault) fails said some = inl fails.0.0.stay
-failing_keeps trees name before after unwritten undrawn code (failures.Outside outside) fails said some = absurd fails.0
-failing_keeps trees name before after unwritten undrawn code (failures.Refusal refusal) fails said some = absurd fails.0
-failing_keeps trees name before after unwritten undrawn code failures.Memory fails said some =
-    absurd (some (memory_status failures.Memory code before.report after.report refl said))
+failing_keeps : (trees : Trees) (name : List ℕ) (before after : Objects) (unwritten undrawn : Type 0) (failure : Failure)
+    → BatchFails trees name before after unwritten undrawn failure → KeepsOtherFiles name before.shelf after.shelf
+failing_keeps trees name before after unwritten undrawn failures.NotRead fails = absurd fails.0
+failing_keeps trees name before after unwritten undrawn (failures.BadNumber option) fails = absurd fails.0
+failing_keeps trees name before after unwritten undrawn (failures.BadPair number) fails = absurd fails.0
+failing_keeps trees name before after unwritten undrawn (failures.Fault fault) fails = absurd fails.0
+failing_keeps trees name before after unwritten undrawn (failures.File refusal) fails = inl fails.0.0.stay
+failing_keeps trees name before after unwritten undrawn (failures.Outside outsides.SinkFault) fails = inr (run_changes fails.runs)
+failing_keeps trees name before after unwritten undrawn (failures.Outside outsides.ShelfFault) fails = inl fails.0.0.stay
+failing_keeps trees name before after unwritten undrawn (failures.Outside outside) fails = absurd fails.0
+failing_keeps trees name before after unwritten undrawn (failures.Refusal refusal) fails = absurd fails.0
+failing_keeps trees name before after unwritten undrawn failures.Memory fails = fails.0.1
 
 pub keeps_other_files : (trees : Trees) (name : List ℕ) (before after : Objects) (unchanged : Unchanged) (code : ℕ)
-    → BatchRuns trees name before after unchanged code → KeepsOtherFiles name before.shelf after.shelf code
-keeps_other_files trees name before after unchanged code (inl runs) some = inr (run_changes before after runs.runs)
-keeps_other_files trees name before after unchanged code (inr fails) some =
-    failing_keeps trees name before after unchanged.output unchanged.entropy code fails.failure fails.because fails.said some
+    → BatchRuns trees name before after unchanged code → KeepsOtherFiles name before.shelf after.shelf
+keeps_other_files trees name before after unchanged code (inl runs) = inr (run_changes runs.runs)
+keeps_other_files trees name before after unchanged code (inr fails) =
+    failing_keeps trees name before after unchanged.output unchanged.entropy fails.failure fails.because
 
 -- ---- files that the shelf tells
 

@@ -9,20 +9,21 @@ use Rattle.esdk_args.specs.declared.request.DecryptWords.{DecryptWords}
 use Rattle.esdk_args.specs.declared.request.EncryptWords.{EncryptWords}
 use Rattle.context_codec.specs.Context.{IsContext, KeyValue}
 use Rattle.context_codec.specs.Parts.{whole_of}
+use Rattle.header_codec.specs.declared.settings.Settings.{Settings}
 use Rattle.keyring_trait.specs.declared.manager_errors.ManagerError.{ManagerError}
 use Rattle.keyring_trait.specs.declared.manager_errors.ManagerError.TheVariants as managers
 use Rattle.keyring_trait.specs.Keyring.{KeyringMeaning, OpensWith}
 use Rattle.keyring_trait.specs.Materials.{DecMaterialsValue, EncMaterialsValue}
 use Rattle.keyring_trait.specs.Requests.{DecRequestValue}
-use Rattle.keyring_trait.specs.Unlocking.{Unlocks}
+use Rattle.keyring_trait.specs.Unlocking.{Unlocks, unlock}
 use Rattle.keyring_trait.specs.Wrapping.{WrapKeyValue, active, ivs_of, made, unwrapped}
 use Rattle.esdk_encrypt.specs.Told.{NoneFor, asked_by, materials_of}
 use Rattle.esdk_encrypt.proofs.Fitting.{IsGranted, unrefused_memory}
 use Rattle.esdk_encrypt.proofs.Telling.{SaysMore}
-use Rattle.esdk_decrypt.specs.Told.{answering_by, unlocked_by}
+use Rattle.esdk_decrypt.specs.Told.{answering_by}
 use Rattle.esdk_decrypt.specs.Told.{NoneFor as NoneRead}
 use Rattle.esdk_decrypt.proofs.Told.{Allows, offence_unlocks, sound_unlocks}
-use Rattle.esdk_run.specs.Decrypt.{TreeFinds, TreeFindsNone, reader_of}
+use Rattle.esdk_run.specs.Decrypt.{TreeFinds, TreeFindsNone, limits_of, reader_of}
 use Rattle.esdk_run.specs.Encrypt.{TreeGives, asked_of, refusal_asked, writer_of}
 use Rattle.esdk_run.specs.Pairs.{required_in}
 use Rattle.esdk_run.specs.Trees.{IsLawful}
@@ -67,32 +68,39 @@ tree_grants asked context tree left is_context lawful unrefused allowed stayed =
 
 -- ---- to decrypt with
 
-keys_find : (asked : DecryptWords) (given : List KeyValue) (tree left : KeyringMeaning) (keys : List WrapKeyValue) (request : DecRequestValue) (m : DecMaterialsValue)
-    → tree.keys ≡ Some keys → Stayed tree.faults left.faults → TreeFinds (required_in asked.pairs) tree left request m
-    → unlocked_by (reader_of asked given keys) request ≡ Unlocks m.context m.only m.key
-keys_find asked given tree left keys request m told stayed finds =
+keys_find : (required : List (List ℕ)) (tree left : KeyringMeaning) (keys : List WrapKeyValue) (request : DecRequestValue) (m : DecMaterialsValue)
+    → tree.keys ≡ Some keys → Stayed tree.faults left.faults → TreeFinds required tree left request m
+    → unlock request.stored request.entries request.given required keys ≡ Unlocks m.context m.only m.key
+keys_find required tree left keys request m told stayed finds =
     let whole : List KeyValue = whole_of request.stored request.given in
     let opens : OpensWith keys request.entries whole (Stayed tree.faults left.faults) (Some m.key) =
     subst (λ (o : Option (List WrapKeyValue)). IfSome o (λ ws. OpensWith ws request.entries whole (Stayed tree.faults left.faults) (Some m.key))) told finds.opens in
-    rw (finds.context, finds.only) (sound_unlocks request.stored request.given request.entries (required_in asked.pairs) keys (Some m.key) finds.sound (sym (opens.first stayed)))
+    rw (finds.context, finds.only) (sound_unlocks request.stored request.given request.entries required keys (Some m.key) finds.sound (sym (opens.first stayed)))
 
-keys_find_none : (asked : DecryptWords) (given : List KeyValue) (tree left : KeyringMeaning) (keys : List WrapKeyValue) (request : DecRequestValue) (error : ManagerError)
-    → tree.keys ≡ Some keys → Stayed tree.faults left.faults → TreeFindsNone (required_in asked.pairs) tree left request error
-    → NoneRead (unlocked_by (reader_of asked given keys) request) error
-keys_find_none asked given tree left keys request (managers.Fault faults.NoKeyOpens) told stayed finds =
+keys_find_none : (required : List (List ℕ)) (tree left : KeyringMeaning) (keys : List WrapKeyValue) (request : DecRequestValue) (error : ManagerError)
+    → tree.keys ≡ Some keys → Stayed tree.faults left.faults → TreeFindsNone required tree left request error
+    → NoneRead (unlock request.stored request.entries request.given required keys) error
+keys_find_none required tree left keys request (managers.Fault faults.NoKeyOpens) told stayed finds =
     let whole : List KeyValue = whole_of request.stored request.given in
-    sound_unlocks request.stored request.given request.entries (required_in asked.pairs) keys None finds.sound
+    sound_unlocks request.stored request.given request.entries required keys None finds.sound
     (subst (λ (o : Option (List WrapKeyValue)). IfSome o (λ ws. unwrapped ws request.entries whole ≡ None)) told finds.none)
-keys_find_none asked given tree left keys request (managers.Fault fault) told stayed finds =
-    offence_unlocks request.stored request.given request.entries (required_in asked.pairs) keys fault finds
-keys_find_none asked given tree left keys request (managers.Refusal refusal) told stayed none = none
-keys_find_none asked given tree left keys request managers.KeyringFault told stayed failed = absurd (omega (arith, stayed, failed.1))
-keys_find_none asked given tree left keys request managers.Memory told stayed free = tt
+keys_find_none required tree left keys request (managers.Fault fault) told stayed finds =
+    offence_unlocks request.stored request.given request.entries required keys fault finds
+keys_find_none required tree left keys request (managers.Refusal refusal) told stayed none = none
+keys_find_none required tree left keys request managers.KeyringFault told stayed failed = absurd (omega (arith, stayed, failed.1))
+keys_find_none required tree left keys request managers.Memory told stayed free = tt
 
--- what the tree may answer, the reader with its keys answers, where no keyring failed
+-- what the tree may answer, a reader with its keys answers, where no keyring failed
+pub keys_allow : (settings : Settings) (given : List KeyValue) (required : List (List ℕ)) (tree left : KeyringMeaning) (keys : List WrapKeyValue)
+    → tree.keys ≡ Some keys → Stayed tree.faults left.faults
+    → Allows (record { finds = TreeFinds required tree left; finds_none = TreeFindsNone required tree left })
+    (answering_by (record { keys = keys; settings = settings; given = given; required = required }))
+keys_allow settings given required tree left keys told stayed = record {
+  finds = λ request m finds. keys_find required tree left keys request m told stayed finds;
+  finds_none = λ request error finds. keys_find_none required tree left keys request error told stayed finds;
+}
+
+-- so does the reader of a decryption
 pub reader_allows : (asked : DecryptWords) (given : List KeyValue) (tree left : KeyringMeaning) (keys : List WrapKeyValue) → tree.keys ≡ Some keys → Stayed tree.faults left.faults
     → Allows (record { finds = TreeFinds (required_in asked.pairs) tree left; finds_none = TreeFindsNone (required_in asked.pairs) tree left }) (answering_by (reader_of asked given keys))
-reader_allows asked given tree left keys told stayed = record {
-  finds = λ request m finds. keys_find asked given tree left keys request m told stayed finds;
-  finds_none = λ request error finds. keys_find_none asked given tree left keys request error told stayed finds;
-}
+reader_allows asked given tree left keys told stayed = keys_allow (limits_of asked) given (required_in asked.pairs) tree left keys told stayed

@@ -14,3 +14,6 @@ pub mod BatchMore
 pub mod Serving
 pub mod Showing
 pub mod Batches
+pub mod ReadJobs
+pub mod EachJob
+pub mod DoneJobs

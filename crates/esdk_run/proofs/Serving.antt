@@ -21,9 +21,11 @@ use Rattle.cmm_caching.specs.Journal.{KeepsWithin}
 use Rattle.cmm_caching.specs.Limits.{LimitsValue}
 use Rattle.cmm_caching.specs.Store.{Store}
 use Rattle.keyring_trait.specs.declared.journal.JournalLine.{JournalLine}
+use Rattle.job_file.specs.declared.job.Job.{Job}
 use Rattle.job_file.specs.JobFile.{JobFile}
 use Rattle.batch_report.specs.declared.job_lines.JobLine.{JobLine}
 use Rattle.esdk_batch.specs.Batch.{RunsBatch}
+use Rattle.esdk_batch.specs.Failures.{CountsFailures, tally_of}
 use Rattle.esdk_batch.specs.Managing.{Managing, managing_of}
 use Rattle.esdk_encrypt.specs.Told.{NoneFor}
 use Rattle.esdk_run.specs.Batch.{RunsWithin}
@@ -210,3 +212,14 @@ outlasts_over {N} meaning cache inner tree left made first last is_first is_made
     (subst (λ (v : N × Option Store). TellsOn (cached_tells v.1 (meaning v.0)) (cached_tells last.1 (meaning last.0))) is tells)
     (subst (λ (v : N × Option Store). (cached v.1 (meaning v.0)).plain ≡ true → TellsOn (cached_tells last.1 (meaning last.0)) (cached_tells v.1 (meaning v.0))) is same) in
     subst (λ (l : N). TreeOutlasts cache (meaning tree) (meaning l)) (sym is_left) lasts
+
+-- the manager fails as often as its tree
+pub counts_over : {N E : Type 0} (meaning : N → KeyringMeaning) (inner tree left : N) (made first last : N × Option Store) (jobs : List Job) (old new : ShelfState) (drawn spent : ℕ)
+    (r : Result (List JobLine) E) → first ≡ made → made.0 ≡ inner → inner ≡ tree → left ≡ last.0
+    → IfOk r (CountsFailures jobs (tally_of old drawn (cached first.1 (meaning first.0)).faults) (tally_of new spent (cached last.1 (meaning last.0)).faults))
+    → IfOk r (CountsFailures jobs (tally_of old drawn (meaning tree).faults) (tally_of new spent (meaning left).faults))
+counts_over meaning inner tree left made first last jobs old new drawn spent (Err error) is_first is_made is_inner is_left counts = tt
+counts_over {N} meaning inner tree left made first last jobs old new drawn spent (Ok lines) is_first is_made is_inner is_left counts =
+    let is : first.0 ≡ tree = (λ i. (is_first i).0) ∙ is_made ∙ is_inner in
+    subst (λ (l : N). CountsFailures jobs (tally_of old drawn (meaning tree).faults) (tally_of new spent (meaning l).faults) lines) (sym is_left)
+    (subst (λ (t : N). CountsFailures jobs (tally_of old drawn (meaning t).faults) (tally_of new spent (meaning last.0).faults) lines) is counts)

@@ -1,5 +1,5 @@
 -- What the command `batch` comes to.
-use Rattle.std.specs.Prelude.{◌≡◌, ◌⊎◌, ℕ, List, [], Some, Result, Ok, if◌then◌else◌}
+use Rattle.std.specs.Prelude.{◌≡◌, ◌⊎◌, ℕ, List, [], Some, is_some, Result, Ok, if◌then◌else◌}
 use Rattle.std.specs.List.{list_all}
 use Rattle.std.specs.Io.KnownBytes.{Appends}
 use Rattle.esdk_base.specs.Sink.{AppendsFront}
@@ -15,7 +15,8 @@ use Rattle.job_file.specs.Jobs.{jobs_of}
 use Rattle.whole_input.specs.File.{IsFile}
 use Rattle.batch_report.specs.declared.job_lines.JobLine.{JobLine}
 use Rattle.batch_report.specs.BatchReport.{is_done, report_of}
-use Rattle.esdk_batch.specs.Batch.{RunsBatch}
+use Rattle.esdk_batch.specs.Batch.{OnlyWritten, RunsBatch}
+use Rattle.esdk_batch.specs.Failures.{CountsFailures, tally_of}
 use Rattle.esdk_batch.specs.Managing.{Managing}
 use Rattle.esdk_report.specs.declared.failure.Failure.{Failure}
 use Rattle.esdk_report.specs.declared.failure.Failure.TheVariants as failures
@@ -69,7 +70,9 @@ pub record RunsWithin (manager : Managing) (file : JobFile) (old new : ShelfStat
   pub within : KeepsWithin file.cache journal
 
 -- The job file and the keyring file were read, what is left of the tree is given back, and the jobs
--- had their turns over it. `read` is the shelf once both files were read.
+-- had their turns over it. `read` is the shelf once both files were read; it tells its files at the
+-- end where it did then. Each line that says that the shelf, the entropy or a keyring failed is a
+-- failure more that it counted, but where the shelf tells that the job's file isn't there.
 pub record RunsJobFile (trees : Trees) (name : List ℕ) (old new : ShelfState) (entropy spent : EntropyState) (lines : List JobLine) : Type 0 where
   pub file : JobFile
   pub tree : KeyringMeaning
@@ -79,6 +82,8 @@ pub record RunsJobFile (trees : Trees) (name : List ℕ) (old new : ShelfState) 
   pub kept : trees.kept ≡ Some left
   pub goes : TreeOutlasts file.cache tree left
   pub runs : RunsWithin (managing_over file.cache tree left) file read new entropy spent lines
+  pub told : is_some new.files ≡ is_some read.files
+  pub failures : CountsFailures file.jobs (tally_of read entropy.faults tree.faults) (tally_of new spent.faults left.faults) lines
 
 -- The keyring file was read as a tree, of which this is left.
 pub record OutlastsJobs (trees : Trees) (name : List ℕ) (old : ShelfState) (left : KeyringMeaning) : Type 0 where
@@ -87,6 +92,15 @@ pub record OutlastsJobs (trees : Trees) (name : List ℕ) (old : ShelfState) (le
   pub read : ShelfState
   pub has : HasJobs trees name old read file tree
   pub goes : TreeOutlasts file.cache tree left
+
+-- The job file of this name was read, no file of the shelf changed but those that its jobs write,
+-- and the shelf tells its files where it did before.
+pub record ChangesOnlyWritten (name : List ℕ) (old new : ShelfState) : Type 0 where
+  pub file : JobFile
+  pub between : ShelfState
+  pub jobs : JobsAre old between name file
+  pub others : OnlyWritten file.jobs old.files new.files
+  pub told : is_some new.files ≡ is_some old.files
 
 -- ---- how it ends
 
@@ -118,14 +132,16 @@ pub record LosesReport (trees : Trees) (name : List ℕ) (before after : Objects
   pub front : WritesReportFront lines before.output after.output
 
 -- Why the jobs weren't run; `undrawn` says that the entropy is as before. Where memory ran out,
--- what is given back, if something is, is what is left of the tree that was read.
+-- what is given back, if something is, is what is left of the tree that was read; and the shelf
+-- keeps its files, or no others changed but those that the jobs write.
 abbrev pub JobsFail : Trees → List ℕ → ShelfState → ShelfState → Type 0 → Failure → Type 0
 JobsFail trees name old new undrawn (failures.File refusal) =
     HasNoJobs trees name old new (failures.File refusal) × IsUntouched trees undrawn
 JobsFail trees name old new undrawn (failures.Outside outsides.ShelfFault) =
     HasNoJobs trees name old new (failures.Outside outsides.ShelfFault) × IsUntouched trees undrawn
 JobsFail trees name old new undrawn failures.Memory =
-    (left : KeyringMeaning) → trees.kept ≡ Some left → OutlastsJobs trees name old left
+    ((left : KeyringMeaning) → trees.kept ≡ Some left → OutlastsJobs trees name old left)
+    × ((new.files ≡ old.files) ⊎ ChangesOnlyWritten name old new)
 JobsFail trees name old new undrawn failure = ⊥
 
 -- Why the jobs weren't run, or their report wasn't written. `unwritten` says that the output is as

@@ -12,3 +12,4 @@ pub mod Serving
 pub mod Batch
 pub mod Generate
 pub mod Served
+pub mod EachJob

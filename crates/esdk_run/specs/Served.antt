@@ -15,8 +15,8 @@ use Rattle.job_file.specs.JobFile.{JobFile}
 use Rattle.whole_input.specs.File.{most_file}
 use Rattle.batch_report.specs.declared.job_lines.JobLine.{JobLine}
 use Rattle.batch_report.specs.BatchReport.{report_of}
-use Rattle.esdk_batch.specs.Batch.{OnlyWritten, length_of}
-use Rattle.esdk_run.specs.Batch.{JobsAre, jobs_in}
+use Rattle.esdk_batch.specs.Batch.{length_of}
+use Rattle.esdk_run.specs.Batch.{ChangesOnlyWritten, JobsAre, jobs_in}
 use Rattle.esdk_run.specs.Generate.{WritesLine, WritesLineFront}
 use Rattle.esdk_run.specs.Objects.{Objects}
 use Rattle.esdk_run.specs.Told.{HoldsTree, IsDoneOrMemory}
@@ -69,18 +69,10 @@ KeepsLimits name before after code = (code ≡ 0) ⊎ (code ≡ 7) → ShowsLimi
 
 -- ---- the files
 
--- The job file of this name was read, and no file of the shelf changed but those that its jobs
--- write.
-pub record ChangesOnlyWritten (name : List ℕ) (old new : ShelfState) : Type 0 where
-  pub file : JobFile
-  pub between : ShelfState
-  pub jobs : JobsAre old between name file
-  pub others : OnlyWritten file.jobs old.files new.files
-
--- so it is, unless memory ran out; or the shelf keeps its files
-abbrev pub KeepsOtherFiles : List ℕ → ShelfState → ShelfState → ℕ → Type 0
-KeepsOtherFiles name old new code =
-    code ≢ 5 → (new.files ≡ old.files) ⊎ ChangesOnlyWritten name old new
+-- The shelf keeps its files, or no others changed but those that the jobs of the file of this name
+-- write. So it is however a batch ends.
+abbrev pub KeepsOtherFiles : List ℕ → ShelfState → ShelfState → Type 0
+KeepsOtherFiles name old new = (new.files ≡ old.files) ⊎ ChangesOnlyWritten name old new
 
 -- ---- a batch that must be run
 

@@ -1,6 +1,8 @@
 //! The command `batch`.
-ghost use Rattle.std.specs.Prelude.{◌≡◌, ◌<◌, ◌^◌, length, IfErr, IfOk, Ok};
+ghost use Rattle.std.specs.Prelude.{◌≡◌, ◌<◌, ◌^◌, is_some, length, IfErr, IfOk, Ok};
 ghost use Rattle.esdk_base.specs.Streams.{SinkState, SourceState};
+ghost use Rattle.esdk_batch.specs.Batch.{OnlyWritten};
+ghost use Rattle.esdk_batch.specs.Failures.{CountsFailures, tally_of};
 ghost use Rattle.esdk_run.specs.Batch.{BatchFails, JobsAre, JobsFail, ReportFails, RunsJobFile, RunsWithin, WritesReport, jobs_in, status_of};
 ghost use Rattle.esdk_run.specs.FileReading.{FileFails, ReadCause};
 ghost use Rattle.esdk_run.specs.Objects.{objects};
@@ -171,7 +173,7 @@ fn jobs_in(alloc: Global, bytes: &[u8], name: &str) -> Result<Jobs, Failure>
 }
 
 /// Runs the jobs over this tree, and gives back what is left of it. Fails, with nothing run, where
-/// memory for the cache isn't there.
+/// memory for the cache isn't there. Whatever comes, no file changes but those that jobs write.
 fn run_over<K: Keyring, F: Shelf, W: Entropy, C: Clock>(
     alloc: Global,
     jobs: &Jobs,
@@ -185,6 +187,12 @@ fn run_over<K: Keyring, F: Shelf, W: Entropy, C: Clock>(
         (F.state shelf.old) (F.state shelf.new) (W.state entropy.old) (W.state entropy.new))) }
     ensures goes { IfOk result (λ outcome.
         TreeOutlasts jobs.now.cache (K.meaning tree) (K.meaning outcome.tree)) }
+    ensures failures { IfOk result (λ outcome. IfOk outcome.ended (CountsFailures jobs.now.jobs
+        (tally_of (F.state shelf.old) (W.state entropy.old).faults (K.meaning tree).faults)
+        (tally_of (F.state shelf.new) (W.state entropy.new).faults
+        (K.meaning outcome.tree).faults))) }
+    ensures others { OnlyWritten jobs.now.jobs (F.state shelf.old).files (F.state shelf.new).files }
+    ensures told { is_some (F.state shelf.new).files ≡ is_some (F.state shelf.old).files }
     ensures lawful { IsLawful (K.meaning tree) }
 {
     // Called for its clauses alone, which say what every keyring keeps.

@@ -8,6 +8,7 @@ ghost use Rattle.esdk_args.specs.declared.request.Request.TheVariants as request
 ghost use Rattle.esdk_args.specs.Words.{words_of};
 ghost use Rattle.esdk_base.specs.Streams.{OnTold};
 ghost use Rattle.esdk_list.specs.List.{input_fault};
+ghost use Rattle.esdk_run.specs.EachJob.{DoesWhatItMust, SaysEachJudgement};
 ghost use Rattle.esdk_run.specs.Objects.{as_before, objects};
 ghost use Rattle.esdk_run.specs.Run.{AgreesWith, RunsAs, draws, is_status, reads_clock, reads_input, reads_shelf, writes_shelf};
 ghost use Rattle.esdk_run.specs.Served.{Generates, KeepsLimits, KeepsOtherFiles, RunsWhatIsHeld};
@@ -149,11 +150,27 @@ pub fn run<P: Keyring, S: Source, O: Sink, R: Sink, F: Shelf, W: Entropy, C: Clo
         (objects (S.state input.new) (O.state output.new) (F.state shelf.new)
         (W.state entropy.new) (R.state report.new)) result.status.code }
     ensures others { (name : List ℕ) → words_of words.now ≡ Ok (requests.Batch name)
-        → KeepsOtherFiles name (F.state shelf.old) (F.state shelf.new) result.status.code }
+        → KeepsOtherFiles name (F.state shelf.old) (F.state shelf.new) }
     ensures batch { (name : List ℕ) → words_of words.now ≡ Ok (requests.Batch name)
         → RunsWhatIsHeld (trees_of P.meaning plugs.items result.tree) name
         (F.state shelf.old) (F.state shelf.new)
         (O.state output.old) (O.state output.new) result.status.code }
+
+    // `batch`: what is read for each decrypt job, by the keys of a steady tree that tells them, with
+    // the job's given and required keys. Of jobs that the shelf tells each that must be is done,
+    // unless memory runs out or an object fails.
+    ensures judgements { (name : List ℕ) → words_of words.now ≡ Ok (requests.Batch name)
+        → SaysEachJudgement (trees_of P.meaning plugs.items result.tree) name
+        (objects (S.state input.old) (O.state output.old) (F.state shelf.old)
+        (W.state entropy.old) (R.state report.old))
+        (objects (S.state input.new) (O.state output.new) (F.state shelf.new)
+        (W.state entropy.new) (R.state report.new)) result.status.code }
+    ensures jobs { (name : List ℕ) → words_of words.now ≡ Ok (requests.Batch name)
+        → DoesWhatItMust (trees_of P.meaning plugs.items result.tree) name
+        (objects (S.state input.old) (O.state output.old) (F.state shelf.old)
+        (W.state entropy.old) (R.state report.old))
+        (objects (S.state input.new) (O.state output.new) (F.state shelf.new)
+        (W.state entropy.new) (R.state report.new)) result.status.code }
 
     // `gen`: the output gains the line of the seed and the size.
     ensures generator { (seed size : ℕ) → words_of words.now ≡ Ok (requests.Gen seed size)

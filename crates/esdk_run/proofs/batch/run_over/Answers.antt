@@ -1,6 +1,6 @@
 use Rattle.std.proofs.Common.{◌∙◌}
 use Rattle.desk_core.specs.Desk.{empty_desk}
-use Rattle.esdk_run.proofs.Serving.{Begins, outlasts_over, runs_over}
+use Rattle.esdk_run.proofs.Serving.{Begins, counts_over, outlasts_over, runs_over}
 use Rattle.esdk_run.proofs.batch.run_over.Goals as goal
 
 pub returns-clause-runs : goal.returns-clause-runs
@@ -22,3 +22,10 @@ returns-clause-goes g c =
     outlasts_over g.K.Keyring.meaning c.args.jobs.now.cache c.new.result c.args.tree c.into_ring.result c.in_ok-manager.manager c.new-desk.result.manager c.run_batch-ended.new.desk.manager
     c.new-desk.ensures.manager c.in_ok-manager.ensures.inner c.new.ensures (c.into_ring.ensures ∙ c.into_inner.ensures ∙ (λ i. (c.into_manager.ensures i).0)) begins
     c.run_batch-ended.ensures.goes c.run_batch-ended.ensures.tells c.run_batch-ended.ensures.same
+
+pub returns-clause-failures : goal.returns-clause-failures
+returns-clause-failures g c =
+    counts_over g.K.Keyring.meaning c.new.result c.args.tree c.into_ring.result c.in_ok-manager.manager c.new-desk.result.manager c.run_batch-ended.new.desk.manager c.args.jobs.now.jobs
+    (g.F.Shelf.state c.args.shelf.now) (g.F.Shelf.state c.run_batch-ended.new.shelf) (g.W.Entropy.state c.args.entropy.now).faults (g.W.Entropy.state c.run_batch-ended.new.entropy).faults
+    c.run_batch-ended.result
+    c.new-desk.ensures.manager c.in_ok-manager.ensures.inner c.new.ensures (c.into_ring.ensures ∙ c.into_inner.ensures ∙ (λ i. (c.into_manager.ensures i).0)) c.run_batch-ended.ensures.failures

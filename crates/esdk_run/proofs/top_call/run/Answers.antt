@@ -1,5 +1,5 @@
 use Rattle.std.proofs.Common.{ap}
-use Rattle.esdk_run.proofs.Asked.{comes_back, encrypt_asked, judgement_asked, jobs_asked, limits_asked, line_asked, migration_asked, others_asked, reads_asked, round_trip_asked, whole_asked}
+use Rattle.esdk_run.proofs.Asked.{comes_back, done_asked, encrypt_asked, judgement_asked, judgements_asked, jobs_asked, limits_asked, line_asked, migration_asked, others_asked, reads_asked, round_trip_asked, whole_asked}
 use Rattle.esdk_run.proofs.Encryption.{encrypts_what_fits, writes_the_message}
 use Rattle.esdk_run.proofs.top_call.run.Goals as goal
 
@@ -37,6 +37,12 @@ returns-clause-others g c = λ name is. others_asked _ _ name _ _ _ _ is c.carry
 
 pub returns-clause-batch : goal.returns-clause-batch
 returns-clause-batch g c = λ name is. jobs_asked _ _ name _ _ _ _ is c.carry_out.ensures.runs
+
+pub returns-clause-judgements : goal.returns-clause-judgements
+returns-clause-judgements g c = λ name is. judgements_asked _ _ name _ _ _ _ is c.carry_out.ensures.runs
+
+pub returns-clause-jobs : goal.returns-clause-jobs
+returns-clause-jobs g c = λ name is. done_asked _ _ name _ _ _ _ is c.carry_out.ensures.runs
 
 pub returns-clause-generator : goal.returns-clause-generator
 returns-clause-generator g c = λ seed size is. line_asked _ _ seed size _ _ _ _ is c.carry_out.ensures.runs
