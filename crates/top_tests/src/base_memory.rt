@@ -6,7 +6,7 @@ use esdk_memory::{ListClock, ListEntropy, MemShelf, MemSink, MemSource};
 use std::alloc::Global;
 
 /// Bytes that own themselves. None where memory runs out.
-fn blob(alloc: Global, bytes: &[u8]) -> Option<Blob> {
+pub(crate) fn blob(alloc: Global, bytes: &[u8]) -> Option<Blob> {
     let mut blob = Blob::new(alloc);
     match blob.push_all(bytes) {
         Ok(()) => Some(blob),
@@ -15,7 +15,7 @@ fn blob(alloc: Global, bytes: &[u8]) -> Option<Blob> {
 }
 
 /// These numbers in a row. None where memory runs out.
-fn numbers(alloc: Global, numbers: &[u64]) -> Option<Vec<u64>> {
+pub(crate) fn numbers(alloc: Global, numbers: &[u64]) -> Option<Vec<u64>> {
     match Vec::from_slice(alloc, numbers) {
         Ok(numbers) => Some(numbers),
         Err(_) => None,

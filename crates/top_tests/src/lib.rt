@@ -17,6 +17,8 @@ mod base_streams;
 #[cfg(test)]
 mod caching;
 #[cfg(test)]
+mod desk;
+#[cfg(test)]
 mod file_keyrings;
 #[cfg(test)]
 mod keyrings;
@@ -34,3 +36,5 @@ mod recalling;
 mod scratch_path;
 #[cfg(test)]
 mod sealing;
+#[cfg(test)]
+mod turns;

@@ -13,7 +13,7 @@ use stream_open::{OpenError, Opener};
 /// Nine bytes, `123456789`, in three frames of 4, under the known keyring: made by another
 /// implementation of the format over OpenSSL. The header ends at 169, the frames at 205, 241 and
 /// 282.
-const NINE_BYTES: &[u8] =
+pub(crate) const NINE_BYTES: &[u8] =
     b"\x02\x04\x78\x22\x22\x22\x22\x22\x22\x22\x22\x22\x22\x22\x22\x22\x22\x22\x22\x22\x22\x22\x22\x22\
     \x22\x22\x22\x22\x22\x22\x22\x22\x22\x22\x22\x00\x00\x00\x01\x00\x02\x6e\x73\x00\x15\x6b\x00\x00\
     \x00\x80\x00\x00\x00\x0c\x22\x22\x22\x22\x22\x22\x22\x22\x22\x22\x22\x22\x00\x30\x5f\x36\x1c\xe4\
@@ -28,7 +28,7 @@ const NINE_BYTES: &[u8] =
     \x01\xbd\x6f\xe3\x0c\x5c\x35\xcd\x3a\x7c\x2a\xb6\x0e\x6e\x1a\xfa\xe6\xdd";
 
 /// The manager of the known keyring. None where memory runs out.
-fn known_manager(alloc: Global) -> Option<DefaultCmm<RawAes>> {
+pub(crate) fn known_manager(alloc: Global) -> Option<DefaultCmm<RawAes>> {
     match known_ring(alloc) {
         Some(ring) => Some(DefaultCmm::new(ring)),
         None => None,
