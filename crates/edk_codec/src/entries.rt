@@ -1,6 +1,6 @@
 //! Encrypted data keys that own their bytes.
 
-ghost use Rattle.std.specs.Prelude.{◌≡◌, ◌≤◌, length, IfOk};
+ghost use Rattle.std.specs.Prelude.{◌≡◌, ◌≤◌, [], All, length, IfOk};
 ghost use Rattle.edk_codec.specs.Entry.{IsEntry};
 
 use std::alloc::{AllocError, Global};
@@ -83,5 +83,15 @@ impl DataKeyEntry {
         ensures { IfOk result (λ e. e ≡ self.now) }
     {
         DataKeyEntry::new(alloc, self.provider(), self.info(), self.cipher())
+    }
+}
+
+/// Says of entries what their type keeps: no part of one has more than 65,535 bytes. It is called
+/// for its clause alone.
+pub fn are_entries(entries: &[DataKeyEntry])
+    ensures { All IsEntry entries.now }
+{
+    for entry in entries {
+        let _provider = entry.provider();
     }
 }

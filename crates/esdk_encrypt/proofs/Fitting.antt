@@ -46,7 +46,7 @@ short_entries (e ∷ es) each =
     omega (arith, length-append (edk_text e) (flat_map edk_text es), entry_text_len e, is.provider, is.info, is.cipher, short_entries es (All-tail IsEntry e es each))
 
 -- so a message can begin with them
-few_begin : (m : EncMaterialsValue) (id : List ℕ) (max_keys : Option ℕ) → length id ≡ 32 → IsContext m.context → All IsEntry m.entries → length m.entries ≤ 64
+pub few_begin : (m : EncMaterialsValue) (id : List ℕ) (max_keys : Option ℕ) → length id ≡ 32 → IsContext m.context → All IsEntry m.entries → length m.entries ≤ 64
     → IfSome max_keys (λ most. length m.entries ≤ most) → start_refusal m max_keys id ≡ None
 few_begin m id max_keys long is_context each few allowed =
     let stored = stored_of m.required m.context in

@@ -9,7 +9,7 @@ ghost use Rattle.esdk_encrypt.specs.Feeding.{session_of};
 
 use crate::errors::EncryptError;
 use crate::options::EncryptOptions;
-use edk_codec::DataKeyEntry;
+use edk_codec::are_entries;
 use keyring_trait::EncMaterials;
 use std::alloc::Global;
 use stream_seal::{SealError, Sealer};
@@ -40,15 +40,5 @@ pub(crate) fn begin(
         Err(SealError::Memory) => Err(EncryptError::Memory),
         // A new sealer hasn't stopped.
         Err(SealError::Stopped) => unreachable!(),
-    }
-}
-
-/// Says of entries what their type keeps: no part of one has more than 65,535 bytes.
-fn are_entries(entries: &[DataKeyEntry])
-    ensures { All IsEntry entries.now }
-{
-    for entry in entries {
-        // Called for its clause alone.
-        let _provider = entry.provider();
     }
 }

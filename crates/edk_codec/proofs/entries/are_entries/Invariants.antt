@@ -2,7 +2,7 @@
 use Rattle.std.proofs.Common.{drop}
 use Rattle.std.specs.Prelude.{All}
 use Rattle.edk_codec.specs.Entry.{IsEntry}
-use Rattle.esdk_encrypt.proofs.beginning.are_entries.Given as goal
+use Rattle.edk_codec.proofs.entries.are_entries.Given as goal
 
 abbrev pub invariant-loop-entry : goal.invariant-loop-entry
 invariant-loop-entry l = All IsEntry (drop l.entry-index l.entries) → All IsEntry l.entries

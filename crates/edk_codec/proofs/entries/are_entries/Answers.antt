@@ -3,7 +3,7 @@ use Rattle.std.specs.Prelude.{All}
 use Rattle.std.proofs.lemmas.List.{drop_all, drop_more}
 use Rattle.std.proofs.lemmas.List.Elements.{All-cons, All-nil, All-same}
 use Rattle.edk_codec.specs.Entry.{Entry, IsEntry}
-use Rattle.esdk_encrypt.proofs.beginning.are_entries.Goals as goal
+use Rattle.edk_codec.proofs.entries.are_entries.Goals as goal
 
 pub loop-entry-preserved : goal.loop-entry-preserved
 loop-entry-preserved c = λ rest. c.loop-entry.invariant
