@@ -1,6 +1,7 @@
 -- What the beginning of a session that seals a message comes to.
 use Rattle.std.proofs.Common.{◌≡◌, ℕ, List, ◌++◌, true, false, Option, None, Result, Ok, Err, IfOk, IfErr, OnOk, refl, sym, subst, ◌∙◌}
 use Rattle.std.proofs.lemmas.List.{append-nil}
+use Rattle.std.specs.Global.{Box}
 use Rattle.esdk_fields.specs.declared.faults.Fault.{Fault}
 use Rattle.esdk_fields.specs.declared.refusals.Refusal.{Refusal}
 use Rattle.keyring_trait.specs.declared.journal.JournalLine.{JournalLine}
@@ -17,7 +18,7 @@ use Rattle.desk_core.specs.SealRequest.{SealRequestValue}
 use Rattle.desk_core.specs.Session.{NoReply, Gives, Refuses, Fails, begun, id_in, manager_error, seal_error}
 use Rattle.desk_core.specs.Desk.{seal_lines}
 use Rattle.desk_core.specs.Stands.{StandsFor}
-use Rattle.desk_core.specs.Calls.{Giving}
+use Rattle.desk_core.specs.Calls.{Giving, IsWritable}
 use Rattle.desk_core.specs.Beginning.{Begins, BeginsAs, NotBegun, begun_value}
 
 -- a sealer's reason is the desk's
@@ -44,18 +45,18 @@ begins_not manager request id now random managers.Memory lines none cause = begi
 
 -- ---- it gives materials
 
-pub begins_given : (manager : Giving) (request : SealRequestValue) (id now : ℕ) (random : List ℕ) (m : EncMaterialsValue) (result : Result Session DeskError) (before after : List JournalLine)
-    → manager.gives m → after ≡ before ++ seal_lines id now request (Gives m) → IfOk result (λ machine. StandsFor machine (begun_value m request (id_in random)))
+pub begins_given : (manager : Giving) (request : SealRequestValue) (id now : ℕ) (random : List ℕ) (m : EncMaterialsValue) (result : Result (Box Session) DeskError) (before after : List JournalLine)
+    → manager.gives m → IsWritable m → after ≡ before ++ seal_lines id now request (Gives m) → IfOk result (λ machine. StandsFor machine.value (begun_value m request (id_in random)))
     → OnOk result (start_refusal m request.max_keys (id_in random) ≡ None) → IfErr result (NotBegun (start_refusal m request.max_keys (id_in random)))
     → Begins manager request id now random result before after
-begins_given manager request id now random m (Ok machine) before after gives journal stands taken cause =
+begins_given manager request id now random m (Ok machine) before after gives writable journal stands taken cause =
     let begins : Option Refusal → Type 0 = λ o. BeginsAs (begun request random m id o) id (Ok machine) in
-    record { reply = Gives m; short = false; replies = gives; journal = journal; begins = subst begins (sym taken) (begun_value m request (id_in random), refl, refl, refl, stands, refl) }
-begins_given manager request id now random m (Err (errors.Refusal r)) before after gives journal stands taken cause =
+    record { reply = Gives m; short = false; replies = (gives, writable); journal = journal; begins = subst begins (sym taken) (begun_value m request (id_in random), refl, refl, refl, stands, refl) }
+begins_given manager request id now random m (Err (errors.Refusal r)) before after gives writable journal stands taken cause =
     let begins : Option Refusal → Type 0 = λ o. BeginsAs (begun request random m id o) id (Err (errors.Refusal r)) in
-    record { reply = Gives m; short = false; replies = gives; journal = journal; begins = subst begins (sym cause) (refl, refl, refl) }
-begins_given manager request id now random m (Err errors.Memory) before after gives journal stands taken cause =
-    record { reply = Gives m; short = true; replies = gives; journal = journal; begins = (refl, refl, refl) }
-begins_given manager request id now random m (Err errors.NotLive) before after gives journal stands taken cause = absurd cause
-begins_given manager request id now random m (Err (errors.Fault fault)) before after gives journal stands taken cause = absurd cause
-begins_given manager request id now random m (Err errors.KeyringFault) before after gives journal stands taken cause = absurd cause
+    record { reply = Gives m; short = false; replies = (gives, writable); journal = journal; begins = subst begins (sym cause) (refl, refl, refl) }
+begins_given manager request id now random m (Err errors.Memory) before after gives writable journal stands taken cause =
+    record { reply = Gives m; short = true; replies = (gives, writable); journal = journal; begins = (refl, refl, refl) }
+begins_given manager request id now random m (Err errors.NotLive) before after gives writable journal stands taken cause = absurd cause
+begins_given manager request id now random m (Err (errors.Fault fault)) before after gives writable journal stands taken cause = absurd cause
+begins_given manager request id now random m (Err errors.KeyringFault) before after gives writable journal stands taken cause = absurd cause

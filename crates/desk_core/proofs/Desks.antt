@@ -2,7 +2,9 @@
 use Rattle.std.proofs.Common.{◌≡◌, ℕ, ◌<◌, List, [], ◌++◌, true, false, cond, nat_eq, Option, Some, None, Result, Ok, Err, refl, sym, ap, subst, ◌∙◌}
 use Rattle.std.proofs.lemmas.Bool.{eqb-true}
 use Rattle.std.proofs.lemmas.List.{append-nil}
+use Rattle.std.specs.Prelude.{option_map, box_value}
 use Rattle.std.specs.BTreeMap.{BTreeMap, get, is_at}
+use Rattle.std.specs.Global.{Box}
 use Rattle.std.specs.Map.{update}
 use Rattle.std.specs.Ordering.{nat_cmp}
 use Rattle.keyring_trait.specs.declared.journal.JournalLine.{JournalLine}
@@ -14,7 +16,7 @@ use Rattle.desk_core.specs.declared.live_sessions.Lent.{Lent}
 use Rattle.desk_core.specs.declared.live_sessions.Lent.TheVariants as lents
 use Rattle.desk_core.specs.Session.{SessionValue, Turn, answered, out_of, ended, dropped, finish_answer, finished}
 use Rattle.desk_core.specs.Desk.{DeskValue, after_turn}
-use Rattle.desk_core.specs.Stands.{StandsFor, IsLive, StandsAt, AreLive, Lends, Stands}
+use Rattle.desk_core.specs.Stands.{StandsFor, IsLive, StandsAt, AreLive, machine_at, Lends, Stands}
 use Rattle.desk_core.proofs.Live.{answered_is, are_live_after}
 
 -- ---- numbers
@@ -51,33 +53,33 @@ stands_quiet next v id lines turn is gives above alive last journal lent =
 
 -- ---- which session has a number
 
-pub dead_at : (sessions : BTreeMap ℕ Session) (live : ℕ → Option SessionValue) (id : ℕ) → AreLive sessions live → None ≡ get nat_cmp sessions id → live id ≡ None
+pub dead_at : (sessions : BTreeMap ℕ (Box Session)) (live : ℕ → Option SessionValue) (id : ℕ) → AreLive sessions live → None ≡ get nat_cmp sessions id → live id ≡ None
 dead_at sessions live id alive none = by (live id) refl
   where
     by : (o : Option SessionValue) → live id ≡ o → live id ≡ None
     by None e = e
     by (Some s) e =
-        absurd (subst (λ (p : Option Session). StandsAt p (Some s)) (sym none) (subst (λ (o : Option SessionValue). StandsAt (get nat_cmp sessions id) o) e (alive id)))
+        absurd (subst (λ (p : Option (Box Session)). StandsAt (option_map box_value p) (Some s)) (sym none) (subst (λ (o : Option SessionValue). StandsAt (machine_at sessions id) o) e (alive id)))
 
 -- The machine of this number stands for its session.
-pub record LiveAt (live : ℕ → Option SessionValue) (id : ℕ) (machine : Session) : Type 0 where
+pub record LiveAt (live : ℕ → Option SessionValue) (id : ℕ) (machine : Box Session) : Type 0 where
   pub session : SessionValue
   pub there : live id ≡ Some session
-  pub stands : StandsFor machine session
+  pub stands : StandsFor machine.value session
   pub goes : IsLive session
 
-pub live_at : (sessions : BTreeMap ℕ Session) (live : ℕ → Option SessionValue) (id : ℕ) (machine : Session) → AreLive sessions live → Some machine ≡ get nat_cmp sessions id → LiveAt live id machine
+pub live_at : (sessions : BTreeMap ℕ (Box Session)) (live : ℕ → Option SessionValue) (id : ℕ) (machine : Box Session) → AreLive sessions live → Some machine ≡ get nat_cmp sessions id → LiveAt live id machine
 live_at sessions live id machine alive there = by (live id) refl
   where
-    at : (o : Option SessionValue) → live id ≡ o → StandsAt (Some machine) o
-    at o e = subst (λ (p : Option Session). StandsAt p o) (sym there) (subst (λ (p : Option SessionValue). StandsAt (get nat_cmp sessions id) p) e (alive id))
+    at : (o : Option SessionValue) → live id ≡ o → StandsAt (Some machine.value) o
+    at o e = subst (λ (p : Option (Box Session)). StandsAt (option_map box_value p) o) (sym there) (subst (λ (p : Option SessionValue). StandsAt (machine_at sessions id) p) e (alive id))
 
     by : (o : Option SessionValue) → live id ≡ o → LiveAt live id machine
     by None e = absurd (at None e)
     by (Some s) e = record { session = s; there = e; stands = (at (Some s) e).0; goes = (at (Some s) e).1 }
 
 -- the number is taken out
-pub removed : (old new : BTreeMap ℕ Session) (live : ℕ → Option SessionValue) (id : ℕ) → AreLive old live → ((q : ℕ) → get nat_cmp new q ≡ cond (is_at (nat_cmp id) q) None (get nat_cmp old q))
+pub removed : (old new : BTreeMap ℕ (Box Session)) (live : ℕ → Option SessionValue) (id : ℕ) → AreLive old live → ((q : ℕ) → get nat_cmp new q ≡ cond (is_at (nat_cmp id) q) None (get nat_cmp old q))
     → AreLive new (update nat_eq live id None)
 removed old new live id alive updates = are_live_after old new live id None None alive updates tt
 
@@ -96,7 +98,7 @@ ends_none next v id above alive last journal lent none = record {
       (journal ∙ sym (append-nil v.journal)) lent;
 }
 
-pub ends_err : {M : Type 0} (next : Desk M) (v : DeskValue) (id : ℕ) (machine : Session) (error : DeskError) → NoneAbove v.live v.last → AreLive next.sessions (update nat_eq v.live id None)
+pub ends_err : {M : Type 0} (next : Desk M) (v : DeskValue) (id : ℕ) (machine : Box Session) (error : DeskError) → NoneAbove v.live v.last → AreLive next.sessions (update nat_eq v.live id None)
     → next.last_id ≡ v.last → next.journal.items ≡ v.journal → next.lent ≡ lents.Nothing → (at : LiveAt v.live id machine) → finish_answer at.session ≡ Err error → EndsSo v id (Err error) next
 ends_err next v id machine error above alive last journal lent at fails =
     let s : SessionValue = at.session in
@@ -107,9 +109,9 @@ ends_err next v id machine error above alive last journal lent at fails =
           (ap (λ (o : Option SessionValue). (ended o).out) at.there ∙ ap (λ (r : Result (Unit {0}) DeskError). (turn r).out) fails) above alive last (journal ∙ sym (append-nil v.journal)) lent;
     }
 
-pub ends_ok : {M : Type 0} (next : Desk M) (v : DeskValue) (id : ℕ) (machine then : Session) → NoneAbove v.live v.last → AreLive next.sessions (update nat_eq v.live id None)
+pub ends_ok : {M : Type 0} (next : Desk M) (v : DeskValue) (id : ℕ) (machine then : Box Session) → NoneAbove v.live v.last → AreLive next.sessions (update nat_eq v.live id None)
     → next.last_id ≡ v.last → next.journal.items ≡ v.journal → next.lent ≡ lents.Ended then → (at : LiveAt v.live id machine) → finish_answer at.session ≡ Ok tt
-    → StandsFor then (finished at.session) → EndsSo v id (Ok tt) next
+    → StandsFor then.value (finished at.session) → EndsSo v id (Ok tt) next
 ends_ok next v id machine then above alive last journal lent at goes stands =
     let s : SessionValue = at.session in
     let turn : Result (Unit {0}) DeskError → Turn (Unit {0}) = λ r. answered r (finished s) None in
@@ -122,7 +124,7 @@ ends_ok next v id machine then above alive last journal lent at goes stands =
     }
 
 -- the answer alone
-pub ends_answer : (v : DeskValue) (id : ℕ) (machine : Session) (result : Result (Unit {0}) DeskError) → (at : LiveAt v.live id machine) → finish_answer at.session ≡ result
+pub ends_answer : (v : DeskValue) (id : ℕ) (machine : Box Session) (result : Result (Unit {0}) DeskError) → (at : LiveAt v.live id machine) → finish_answer at.session ≡ result
     → result ≡ (ended (v.live id)).answer
 ends_answer v id machine result at is =
     sym (ap (λ (o : Option SessionValue). (ended o).answer) at.there ∙ answered_is (finish_answer at.session) (finished at.session) None ∙ is)

@@ -1,6 +1,7 @@
 -- A session that is opened: the desk after it.
 use Rattle.std.proofs.Common.{◌≡◌, ℕ, ◌+◌, List, [], ◌++◌, Bool, true, false, nat_eq, Option, Some, None, Result, Ok, Err, IfOk, IfErr, OnOk, OnErr, refl, sym, ap, subst, ◌∙◌, arith}
 use Rattle.std.proofs.lemmas.List.{append-nil}
+use Rattle.std.specs.Global.{Box}
 use Rattle.std.specs.Map.{update}
 use Rattle.context_codec.specs.Context.{KeyValue}
 use Rattle.header_codec.specs.declared.settings.Settings.{Settings}
@@ -92,10 +93,10 @@ shortened manager request random (Gives m) short id number is e = record { repli
 shortened manager request random (Refuses refusal) short id number is e = absurd (cc)
 shortened manager request random Fails short id number is e = absurd (cc)
 
-pub opens_seal : {M : Type 0} (manager : Giving) (next : Desk M) (v : DeskValue) (request : SealRequestValue) (now : ℕ) (random : List ℕ) (machine : Session) (result : Result ℕ DeskError)
+pub opens_seal : {M : Type 0} (manager : Giving) (next : Desk M) (v : DeskValue) (request : SealRequestValue) (now : ℕ) (random : List ℕ) (machine : Box Session) (result : Result ℕ DeskError)
     (before : List JournalLine) → Begins manager request (v.last + 1) now random (Ok machine) before next.journal.items → before ≡ v.journal → NoneAbove v.live v.last → next.last_id ≡ v.last + 1
     → next.lent ≡ lents.Nothing → IfOk result (λ number. number ≡ v.last + 1) → IfErr result (λ error. error ≡ errors.Memory)
-    → ((s : SessionValue) → StandsFor machine s → IsLive s → OnOk result (AreLive next.sessions (update nat_eq v.live (v.last + 1) (Some s)))) → OnErr result (AreLive next.sessions v.live)
+    → ((s : SessionValue) → StandsFor machine.value s → IsLive s → OnOk result (AreLive next.sessions (update nat_eq v.live (v.last + 1) (Some s)))) → OnErr result (AreLive next.sessions v.live)
     → OpensSeal manager v request now random result next
 opens_seal manager next v request now random machine (Ok number) before begins same above last lent is memory alive err =
     let lines : List JournalLine = seal_lines (v.last + 1) now request begins.reply in
@@ -121,10 +122,10 @@ opens_seal manager next v request now random machine (Err error) before begins s
           (are_live_same next.sessions v.live (v.last + 1) err (none_next v above)) last (begins.journal ∙ ap (λ (l : List JournalLine). l ++ lines) same) lent;
     }
 
-pub opens_seal_at : {M : Type 0} (manager : Giving) (next : Desk M) (v : DeskValue) (request : SealRequestValue) (now : ℕ) (random : List ℕ) (machine : Session) (result : Result ℕ DeskError)
+pub opens_seal_at : {M : Type 0} (manager : Giving) (next : Desk M) (v : DeskValue) (request : SealRequestValue) (now : ℕ) (random : List ℕ) (machine : Box Session) (result : Result ℕ DeskError)
     (before : List JournalLine) (id : ℕ) → id ≡ v.last + 1 → Begins manager request id now random (Ok machine) before next.journal.items → before ≡ v.journal → NoneAbove v.live v.last
     → next.last_id ≡ id → next.lent ≡ lents.Nothing → IfOk result (λ number. number ≡ id) → IfErr result (λ error. error ≡ errors.Memory)
-    → ((s : SessionValue) → StandsFor machine s → IsLive s → OnOk result (AreLive next.sessions (update nat_eq v.live id (Some s)))) → OnErr result (AreLive next.sessions v.live)
+    → ((s : SessionValue) → StandsFor machine.value s → IsLive s → OnOk result (AreLive next.sessions (update nat_eq v.live id (Some s)))) → OnErr result (AreLive next.sessions v.live)
     → OpensSeal manager v request now random result next
 opens_seal_at manager next v request now random machine result before id e begins same above last lent is memory alive err =
     opens_seal manager next v request now random machine result before (subst (λ (i : ℕ). Begins manager request i now random (Ok machine) before next.journal.items) e begins) same above (last ∙ e) lent

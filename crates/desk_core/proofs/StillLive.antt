@@ -1,7 +1,7 @@
 -- A session that is live isn't said not to be.
 use Rattle.std.proofs.Common.{◌≡◌, ◌≢◌, ◌↔◌, ℕ, ◌+◌, ◌-◌, List, length, min, ◌==◌, if◌then◌else◌, Bool, true, false, Option, Some, None, Result, Ok, Err, refl, sym, subst, ◌∙◌}
-use Rattle.std.specs.BTreeMap.{BTreeMap, get}
-use Rattle.std.specs.Ordering.{nat_cmp}
+use Rattle.std.specs.BTreeMap.{BTreeMap}
+use Rattle.std.specs.Global.{Box}
 use Rattle.esdk_fields.specs.declared.refusals.Refusal.TheVariants as refusals
 use Rattle.body_format.specs.declared.verdicts.Verdict.{Verdict}
 use Rattle.body_format.specs.declared.verdicts.Verdict.TheVariants.{Going, Whole, Faulty}
@@ -20,7 +20,7 @@ use Rattle.desk_core.specs.declared.errors.DeskError.{DeskError}
 use Rattle.desk_core.specs.declared.errors.DeskError.TheVariants as errors
 use Rattle.desk_core.specs.declared.session.Session.{Session}
 use Rattle.desk_core.specs.Session.{SessionValue, Sealing, Opening, ended, fed, finish_answer, opener_answer, open_answer, seal_answer, step_answer}
-use Rattle.desk_core.specs.Stands.{IsLive, StandsAt, AreLive}
+use Rattle.desk_core.specs.Stands.{IsLive, StandsAt, AreLive, machine_at}
 use Rattle.desk_core.proofs.Live.{answered_is}
 
 -- ---- the machines' answers
@@ -112,16 +112,16 @@ live_goes : (machine : Option Session) (s : SessionValue) → StandsAt machine (
 live_goes None s at = absurd at
 live_goes (Some m) s at = at.1
 
-goes_at : (sessions : BTreeMap ℕ Session) (live : ℕ → Option SessionValue) (id : ℕ) → AreLive sessions live → (s : SessionValue) → live id ≡ Some s → IsLive s
-goes_at sessions live id alive s e = live_goes (get nat_cmp sessions id) s (subst (λ (o : Option SessionValue). StandsAt (get nat_cmp sessions id) o) e (alive id))
+goes_at : (sessions : BTreeMap ℕ (Box Session)) (live : ℕ → Option SessionValue) (id : ℕ) → AreLive sessions live → (s : SessionValue) → live id ≡ Some s → IsLive s
+goes_at sessions live id alive s e = live_goes (machine_at sessions id) s (subst (λ (o : Option SessionValue). StandsAt (machine_at sessions id) o) e (alive id))
 
-pub fed_not_live : (sessions : BTreeMap ℕ Session) (live : ℕ → Option SessionValue) (id : ℕ) (piece : List ℕ) (heard : Heard) (short : Bool) (result : Result ℕ DeskError) → AreLive sessions live
+pub fed_not_live : (sessions : BTreeMap ℕ (Box Session)) (live : ℕ → Option SessionValue) (id : ℕ) (piece : List ℕ) (heard : Heard) (short : Bool) (result : Result ℕ DeskError) → AreLive sessions live
     → result ≡ (fed (live id) piece heard short).answer → (result ≡ Err errors.NotLive) ↔ (live id ≡ None)
 fed_not_live sessions live id piece heard short result alive e =
     not_live (live id) (λ o. (fed o piece heard short).answer) result e refl
     (λ s there h. step_named s piece heard short (goes_at sessions live id alive s there) (sym (answered_is (step_answer s piece heard short) _ _) ∙ h))
 
-pub ended_not_live : (sessions : BTreeMap ℕ Session) (live : ℕ → Option SessionValue) (id : ℕ) (result : Result (Unit {0}) DeskError) → AreLive sessions live
+pub ended_not_live : (sessions : BTreeMap ℕ (Box Session)) (live : ℕ → Option SessionValue) (id : ℕ) (result : Result (Unit {0}) DeskError) → AreLive sessions live
     → result ≡ (ended (live id)).answer → (result ≡ Err errors.NotLive) ↔ (live id ≡ None)
 ended_not_live sessions live id result alive e =
     not_live (live id) (λ o. (ended o).answer) result e refl

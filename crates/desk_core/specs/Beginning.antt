@@ -1,5 +1,6 @@
 -- The beginning of a session that seals a message, and what is recorded of it.
 use Rattle.std.specs.Prelude.{◌≡◌, ℕ, ◌++◌, List, [], Bool, Option, Some, None, ⊤, Result, Ok, Err}
+use Rattle.std.specs.Global.{Box}
 use Rattle.esdk_fields.specs.declared.refusals.Refusal.{Refusal}
 use Rattle.keyring_trait.specs.declared.journal.JournalLine.{JournalLine}
 use Rattle.keyring_trait.specs.Materials.{EncMaterialsValue}
@@ -26,12 +27,12 @@ abbrev pub begun_value : EncMaterialsValue → SealRequestValue → List ℕ →
 begun_value m request id = Sealing (opened m request.wish.declared request.size id)
 
 -- the machine is that of the session that is left; or there is an error, and none is left
-abbrev pub BeginsAs : Turn ℕ → ℕ → Result Session DeskError → Type 0
-BeginsAs turn id (Ok machine) = (s : SessionValue) × (turn.answer ≡ Ok id) × (turn.left ≡ Some s) × (turn.out ≡ []) × StandsFor machine s × IsLive s
+abbrev pub BeginsAs : Turn ℕ → ℕ → Result (Box Session) DeskError → Type 0
+BeginsAs turn id (Ok machine) = (s : SessionValue) × (turn.answer ≡ Ok id) × (turn.left ≡ Some s) × (turn.out ≡ []) × StandsFor machine.value s × IsLive s
 BeginsAs turn id (Err error) = (turn.answer ≡ Err error) × (turn.left ≡ None) × (turn.out ≡ [])
 
 -- The manager said this, and the journal has one line more where it gave materials.
-pub record Begins (manager : Giving) (request : SealRequestValue) (id now : ℕ) (random : List ℕ) (result : Result Session DeskError) (before after : List JournalLine) : Type 0 where
+pub record Begins (manager : Giving) (request : SealRequestValue) (id now : ℕ) (random : List ℕ) (result : Result (Box Session) DeskError) (before after : List JournalLine) : Type 0 where
   pub reply : Reply
   pub short : Bool
   pub replies : IsReply manager short reply

@@ -1,5 +1,5 @@
 -- What each call of a desk comes to, and what the manager may say in it.
-use Rattle.std.specs.Prelude.{◌≡◌, ℕ, ◌+◌, List, Bool, true, false, Option, Some, None, Result}
+use Rattle.std.specs.Prelude.{◌≡◌, ℕ, ◌+◌, ◌≤◌, List, All, length, Bool, true, false, Option, Some, None, Result}
 use Rattle.keyring_trait.specs.declared.manager_errors.ManagerError.{ManagerError}
 use Rattle.keyring_trait.specs.declared.manager_errors.ManagerError.TheVariants as managers
 use Rattle.keyring_trait.specs.Manager.{ManagerMeaning, GivesMaterials, GivesNone}
@@ -7,7 +7,8 @@ use Rattle.keyring_trait.specs.Materials.{EncMaterialsValue}
 use Rattle.keyring_trait.specs.Requests.{EncRequestValue}
 use Rattle.keyring_trait.specs.Wrapping.{WrapKeyValue}
 use Rattle.header_codec.specs.declared.settings.Settings.{Settings}
-use Rattle.context_codec.specs.Context.{KeyValue}
+use Rattle.context_codec.specs.Context.{IsContext, KeyValue}
+use Rattle.edk_codec.specs.Entry.{IsEntry}
 use Rattle.stream_open.specs.Asking.{Asking, Heard, Nothing, IsHeard, served_in}
 use Rattle.stream_open.specs.Session.{asked_of, MayRunOut}
 use Rattle.desk_core.specs.declared.errors.DeskError.{DeskError}
@@ -31,10 +32,16 @@ giving_of old new tells exact gave request now random = record {
   gives_none = GivesNone old new exact request;
 }
 
+-- Materials of which a header can always be made, as those of the type `EncMaterials` are: their context is one, and their entries are at most 64, with no part that is too long.
+pub record IsWritable (materials : EncMaterialsValue) : Type 0 where
+  pub context : IsContext materials.context
+  pub few : length materials.entries ≤ 64
+  pub each : All IsEntry materials.entries
+
 -- The manager says so; `short` says that memory ran out, before it answered or behind that.
 abbrev pub IsReply : Giving → Bool → Reply → Type 0
 IsReply manager short NoReply = short ≡ true
-IsReply manager short (Gives materials) = manager.gives materials
+IsReply manager short (Gives materials) = manager.gives materials × IsWritable materials
 IsReply manager short (Refuses refusal) = manager.gives_none (managers.Refusal refusal) × (short ≡ false)
 IsReply manager short Fails = manager.gives_none managers.KeyringFault × (short ≡ false)
 

@@ -1,6 +1,7 @@
 -- When a desk stands for the sessions that are live at it.
-use Rattle.std.specs.Prelude.{◌≡◌, ℕ, ◌<◌, List, [], ⊤, false, Option, Some, None}
+use Rattle.std.specs.Prelude.{◌≡◌, ℕ, ◌<◌, List, [], ⊤, false, Option, Some, None, option_map, box_value}
 use Rattle.std.specs.BTreeMap.{BTreeMap, get}
+use Rattle.std.specs.Global.{Box}
 use Rattle.std.specs.Ordering.{nat_cmp}
 use Rattle.keyring_trait.specs.declared.journal.JournalLine.{JournalLine}
 use Rattle.stream_seal.specs.Stands as seal
@@ -34,9 +35,13 @@ StandsAt None (Some s) = ⊥
 StandsAt (Some machine) None = ⊥
 StandsAt (Some machine) (Some s) = StandsFor machine s × IsLive s
 
+-- the machine of this number, if there is one, which is kept in a box
+abbrev pub machine_at : BTreeMap ℕ (Box Session) → ℕ → Option Session
+machine_at sessions id = option_map box_value (get nat_cmp sessions id)
+
 -- each number has a machine that stands for its session, where it is live, and else none
-abbrev pub AreLive : BTreeMap ℕ Session → (ℕ → Option SessionValue) → Type 0
-AreLive sessions live = (id : ℕ) → StandsAt (get nat_cmp sessions id) (live id)
+abbrev pub AreLive : BTreeMap ℕ (Box Session) → (ℕ → Option SessionValue) → Type 0
+AreLive sessions live = (id : ℕ) → StandsAt (machine_at sessions id) (live id)
 
 -- ---- the desk
 
@@ -55,7 +60,7 @@ last_of desk = desk.last_id
 abbrev pub Lends : Lent → (ℕ → Option SessionValue) → List ℕ → Type 0
 Lends lents.Nothing live out = out ≡ []
 Lends (lents.Live id) live out = (s : SessionValue) × (live id ≡ Some s) × (out ≡ out_of s)
-Lends (lents.Ended machine) live out = (s : SessionValue) × StandsFor machine s × (out ≡ out_of s)
+Lends (lents.Ended machine) live out = (s : SessionValue) × StandsFor machine.value s × (out ≡ out_of s)
 
 -- Its machines stand for the sessions that are live, none of whose numbers wasn't drawn; and its last number, its journal and what it gave last are those.
 pub record Stands {M : Type 0} (desk : Desk M) (v : DeskValue) : Type 0 where
@@ -75,4 +80,4 @@ work_in (Some (machines.Opening opener)) count = count
 
 -- the same, of the session of this number
 abbrev pub work_at : {M : Type 0} → Desk M → ℕ → ℕ → ℕ
-work_at desk id count = work_in (get nat_cmp desk.sessions id) count
+work_at desk id count = work_in (machine_at desk.sessions id) count

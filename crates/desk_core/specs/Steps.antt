@@ -1,6 +1,7 @@
 -- A step of one session over the manager, and what is recorded of it.
 use Rattle.std.specs.Prelude.{◌≡◌, ℕ, ◌++◌, List, Bool, Option, Some, IfOk, Result, nat_eq}
 use Rattle.std.specs.BTreeMap.{BTreeMap}
+use Rattle.std.specs.Global.{Box}
 use Rattle.std.specs.Map.{update}
 use Rattle.keyring_trait.specs.declared.journal.JournalLine.{JournalLine}
 use Rattle.stream_open.specs.Asking.{Asking, Heard, served_in}
@@ -34,7 +35,7 @@ pub record Steps (manager : Asking) (s : SessionValue) (id now : ℕ) (piece : L
   pub live : IfOk result (λ _. IsLive (stepped s piece heard short))
 
 -- The same of the session of this number, where it is live: what is live after it are the others, and what the step left of this one.
-pub record StepsAt (manager : Asking) (live : ℕ → Option SessionValue) (id now : ℕ) (piece : List ℕ) (result : Result ℕ DeskError) (sessions : BTreeMap ℕ Session) (before after : List JournalLine) : Type 0 where
+pub record StepsAt (manager : Asking) (live : ℕ → Option SessionValue) (id now : ℕ) (piece : List ℕ) (result : Result ℕ DeskError) (sessions : BTreeMap ℕ (Box Session)) (before after : List JournalLine) : Type 0 where
   pub heard : Heard
   pub short : Bool
   pub hears : MayHear manager (live id) piece heard short

@@ -9,11 +9,12 @@ ghost use Rattle.desk_core.specs.Session.{manager_error, rest_in};
 ghost use Rattle.desk_core.specs.Desk.{lines_of};
 ghost use Rattle.desk_core.specs.Stands.{StandsFor};
 ghost use Rattle.desk_core.specs.Beginning.{Begins, NotBegun, begun_value};
-ghost use Rattle.desk_core.specs.Calls.{giving_of};
+ghost use Rattle.desk_core.specs.Calls.{IsWritable, giving_of};
 
 use crate::errors::DeskError;
 use crate::seal_request::SealRequest;
-use crate::session::{Session, sealer_failed};
+use crate::session::{Session, boxed, sealer_failed};
+use edk_codec::are_entries;
 use keyring_trait::{EncMaterials, JournalLine, Kind, Manager, ManagerError};
 use std::alloc::Global;
 use stream_seal::Sealer;
@@ -28,7 +29,7 @@ pub(crate) fn begin_sealing<M: Manager>(
     id: u64,
     now: u64,
     random: &[u8],
-) -> Result<Session, DeskError>
+) -> Result<Box<Session>, DeskError>
     requires { length random.now ≡ 64 + 12 * (M.meaning manager.old).wraps }
     ensures begins { Begins
         (giving_of (M.meaning manager.old) (M.meaning manager.new) (M.tells manager.old)
@@ -60,7 +61,7 @@ fn begin_recorded<M: Manager>(
     id: u64,
     now: u64,
     random: &[u8],
-) -> Result<Session, DeskError>
+) -> Result<Box<Session>, DeskError>
     requires drawn { length random.now ≡ 64 + 12 * (M.meaning manager.old).wraps }
     requires room { vec_len journal.old < vec_capacity journal.old }
     ensures begins { Begins
@@ -116,15 +117,17 @@ fn begin(
     materials: &EncMaterials,
     request: &SealRequest,
     message_id: &[u8],
-) -> Result<Session, DeskError>
+) -> Result<Box<Session>, DeskError>
     requires { length message_id.now ≡ 32 }
-    ensures stands { IfOk result (λ machine. StandsFor machine
+    ensures stands { IfOk result (λ machine. StandsFor machine.value
         (begun_value materials.now request.now message_id.now)) }
     ensures taken { OnOk result (start_refusal materials.now request.now.max_keys message_id.now
         ≡ None) }
     ensures cause { IfErr result (NotBegun (start_refusal materials.now request.now.max_keys
         message_id.now)) }
+    ensures writable { IsWritable materials.now }
 {
+    are_writable(materials);
     let declared = request.wish().declared();
     let id = array_of(message_id);
     match Sealer::begin(
@@ -135,9 +138,18 @@ fn begin(
         request.max_keys(),
         &id,
     ) {
-        Ok(sealer) => Ok(Session::Sealing(sealer)),
+        Ok(sealer) => boxed(alloc, Session::Sealing(sealer)),
         Err(error) => Err(sealer_failed(error)),
     }
+}
+
+/// Says of materials what their type keeps: a header can always be made of them. It is called for
+/// its clause alone.
+fn are_writable(materials: &EncMaterials)
+    ensures { IsWritable materials.now }
+{
+    let _length = materials.context().length();
+    are_entries(materials.entries());
 }
 
 /// The bytes as an array of their number.

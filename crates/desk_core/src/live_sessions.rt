@@ -15,7 +15,7 @@ ghost use Rattle.desk_core.specs.Calls.{giving_of, OpensSeal, OpensOpen, Feeds};
 use crate::beginning::begin_sealing;
 use crate::errors::DeskError;
 use crate::seal_request::SealRequest;
-use crate::session::Session;
+use crate::session::{Session, boxed};
 use crate::steps::step_at;
 use context_codec::Context;
 use header_codec::Settings;
@@ -34,7 +34,7 @@ use stream_open::Opener;
 #[derive(Drop)]
 pub struct Desk<M> {
     manager: M,
-    sessions: BTreeMap<u64, Session>,
+    sessions: BTreeMap<u64, Box<Session>>,
     last_id: u64,
     journal: Vec<JournalLine>,
     lent: Lent,
@@ -48,7 +48,7 @@ pub(crate) enum Lent {
     /// In the buffer of the live session of this number.
     Live(u64),
     /// In the buffer of this session, which was ended.
-    Ended(Session),
+    Ended(Box<Session>),
 }
 
 impl<M: Manager> Desk<M> {
@@ -166,7 +166,10 @@ impl<M: Manager> Desk<M> {
         self.lent = Lent::Nothing;
         self.last_id += 1;
         let opener = Opener::new(alloc, settings, given);
-        insert(&mut self.sessions, self.last_id, Session::Opening(opener))
+        match boxed(alloc, Session::Opening(opener)) {
+            Ok(session) => insert(&mut self.sessions, self.last_id, session),
+            Err(error) => Err(error),
+        }
     }
 
     /// The header of a message that is sealed, and its tag, with which the message begins; nothing,
@@ -358,12 +361,12 @@ impl<M: Manager> Desk<M> {
 /// Makes a session live under this number, which no other has. `Memory`: memory ran out, and the
 /// same sessions are live as before.
 fn insert(
-    sessions: &mut BTreeMap<u64, Session>,
+    sessions: &mut BTreeMap<u64, Box<Session>>,
     id: u64,
-    session: Session,
+    session: Box<Session>,
 ) -> Result<u64, DeskError>
     ensures ok { (live : ℕ → Option SessionValue) (s : SessionValue) → AreLive sessions.old live
-        → StandsFor session s → IsLive s
+        → StandsFor session.value s → IsLive s
         → OnOk result (AreLive sessions.new (update nat_eq live id (Some s))) }
     ensures number { IfOk result (λ number. number ≡ id) }
     ensures err { (live : ℕ → Option SessionValue) → AreLive sessions.old live
@@ -377,12 +380,12 @@ fn insert(
 }
 
 /// The session after its end, where it answers no error.
-fn after_end(session: Session) -> Result<Session, DeskError>
-    ensures ok { (s : SessionValue) → StandsFor session s
-        → IfOk result (λ machine. StandsFor machine (finished s)) }
-    ensures answer { (s : SessionValue) → StandsFor session s
+fn after_end(session: Box<Session>) -> Result<Box<Session>, DeskError>
+    ensures ok { (s : SessionValue) → StandsFor session.value s
+        → IfOk result (λ machine. StandsFor machine.value (finished s)) }
+    ensures answer { (s : SessionValue) → StandsFor session.value s
         → OnOk result (finish_answer s ≡ Ok tt) }
-    ensures err { (s : SessionValue) → StandsFor session s
+    ensures err { (s : SessionValue) → StandsFor session.value s
         → IfErr result (λ error. finish_answer s ≡ Err error) }
 {
     let mut session = session;

@@ -1,13 +1,15 @@
 //! One session: a machine that seals a message, or one that opens one.
 
-ghost use Rattle.std.specs.Prelude.{◌≡◌, ◌-◌, ◌<◌, ◌≤◌, List, length, IfOk};
+ghost use Rattle.std.specs.Prelude.{◌≡◌, ◌-◌, ◌<◌, ◌≤◌, List, length, IfOk, IfErr};
 ghost use Rattle.std.specs.Option.{option_copied};
 ghost use Rattle.stream_seal.specs.declared.errors.SealError.{SealError};
+ghost use Rattle.desk_core.specs.declared.errors.DeskError.TheVariants.{Memory};
 ghost use Rattle.desk_core.specs.Session.{SessionValue, out_of, header_of, context_of, finish_answer, finished, seal_error, open_error};
 ghost use Rattle.desk_core.specs.Stands.{StandsFor};
 
 use crate::errors::DeskError;
 use context_codec::Context;
+use std::alloc::Global;
 use stream_open::{OpenError, Opener};
 use stream_seal::{SealError, Sealer};
 
@@ -67,6 +69,17 @@ impl Session {
                 Err(error) => Err(opener_failed(error)),
             },
         }
+    }
+}
+
+/// The session on the heap, where it stays, since it is large. `Memory`: memory ran out.
+pub(crate) fn boxed(alloc: Global, session: Session) -> Result<Box<Session>, DeskError>
+    ensures value { IfOk result (λ machine. machine.value ≡ session) }
+    ensures memory { IfErr result (λ error. error ≡ Memory) }
+{
+    match Box::new(alloc, session) {
+        Ok(machine) => Ok(machine),
+        Err(_) => Err(DeskError::Memory),
     }
 }
 

@@ -1,8 +1,6 @@
 //! A step of one session, which is recorded where the manager answered in it.
 
 ghost use Rattle.std.specs.Prelude.{◌≡◌, ℕ, ◌++◌, ◌-◌, ◌<◌, ◌≤◌, true, List, length, vec_len, vec_capacity, Option, Some, None, IfOk};
-ghost use Rattle.std.specs.BTreeMap.{get};
-ghost use Rattle.std.specs.Ordering.{nat_cmp};
 ghost use Rattle.keyring_trait.specs.declared.journal.JournalLine.{JournalLine};
 ghost use Rattle.keyring_trait.specs.declared.journal.Kind.TheVariants.{Unseal};
 ghost use Rattle.keyring_trait.specs.Manager.{ManagerGoes, TellsOn};
@@ -11,7 +9,7 @@ ghost use Rattle.stream_open.specs.Session.{OpeningValue, asked_of};
 ghost use Rattle.stream_open.specs.Stands.{Stands};
 ghost use Rattle.desk_core.specs.Session.{SessionValue, Opening, asked_by};
 ghost use Rattle.desk_core.specs.Desk.{lines_of};
-ghost use Rattle.desk_core.specs.Stands.{StandsFor, IsLive, AreLive, work_in};
+ghost use Rattle.desk_core.specs.Stands.{StandsFor, IsLive, AreLive, machine_at, work_in};
 ghost use Rattle.desk_core.specs.Steps.{Steps, StepsAt, StepsOpener};
 
 use crate::errors::DeskError;
@@ -25,7 +23,7 @@ use stream_open::Opener;
 /// session.
 pub(crate) fn step_at<M: Manager>(
     alloc: Global,
-    sessions: &mut BTreeMap<u64, Session>,
+    sessions: &mut BTreeMap<u64, Box<Session>>,
     manager: &mut M,
     journal: &mut Vec<JournalLine>,
     id: u64,
@@ -40,8 +38,8 @@ pub(crate) fn step_at<M: Manager>(
         → IfOk result (λ used. used ≤ length piece.now) }
     ensures falls { (live : ℕ → Option SessionValue) → AreLive sessions.old live
         → IfOk result (λ used. 1 ≤ length piece.now
-        → work_in (get nat_cmp sessions.new id) (length piece.now - used) < work_in
-        (get nat_cmp sessions.old id) (length piece.now)) }
+        → work_in (machine_at sessions.new id) (length piece.now - used) < work_in
+        (machine_at sessions.old id) (length piece.now)) }
     ensures goes { ManagerGoes (M.meaning manager.old) (M.meaning manager.new) }
     ensures tells { TellsOn (M.tells manager.old) (M.tells manager.new) }
     ensures same { (M.meaning manager.old).plain ≡ true

@@ -9,7 +9,7 @@ returns-in-Ok-clause-begins g c =
     let stands = rw c.split_at.ensures.front at c.begin.ensures.stands in
     let taken = rw c.split_at.ensures.front at c.begin.ensures.taken in
     let cause = rw c.split_at.ensures.front at c.begin.ensures.cause in
-    begins_given _ c.args.request.now c.args.id c.args.now c.args.random.now c.in-Ok.materials c.begin.result c.args.journal.now.items c.record.new.journal.items (gives, gave) c.record.ensures
+    begins_given _ c.args.request.now c.args.id c.args.now c.args.random.now c.in-Ok.materials c.begin.result c.args.journal.now.items c.record.new.journal.items (gives, gave) c.begin.ensures.writable c.record.ensures
     stands taken cause
 
 pub returns-in-Err-clause-begins : goal.returns-in-Err-clause-begins
