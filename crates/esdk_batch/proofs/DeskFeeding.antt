@@ -1,7 +1,5 @@
 -- The desk at which a piece is fed to a session, step by step.
 use Rattle.std.proofs.Common.{◌≡◌, ◌∙◌, ℕ, ◌≤◌, Bool, false, List, [], ◌++◌, length, drop, take, Option, Some, None, Result, Ok, Err, refl, sym, ap, subst, append_assoc, append-nil}
-use Rattle.std.specs.BTreeMap.{get}
-use Rattle.std.specs.Ordering.{nat_cmp}
 use Rattle.std.specs.declared.alloc.AllocError.{AllocError}
 use Rattle.std.proofs.lemmas.Map.{update_apart, update_here}
 use Rattle.esdk_fields.specs.declared.refusals.Outside.TheVariants as outsides
@@ -15,7 +13,7 @@ use Rattle.desk_core.specs.declared.session.Session.{Session}
 use Rattle.desk_core.specs.Calls.{Feeds, MayHear}
 use Rattle.desk_core.specs.Desk.{DeskValue, DropSession, Feed, after_call, open_lines}
 use Rattle.desk_core.specs.Session.{SessionValue, dropped, fed, step_answer, stepped}
-use Rattle.desk_core.specs.Stands.{IsLive, Stands, StandsAt}
+use Rattle.desk_core.specs.Stands.{IsLive, Stands, StandsAt, machine_at}
 use Rattle.batch_report.specs.declared.job_lines.JobEnd.{JobEnd}
 use Rattle.batch_report.specs.declared.job_lines.JobEnd.TheVariants as ends
 use Rattle.esdk_batch.specs.Ending.{EndsFor, FeedsPiece, GoesOnAs, KeepsDesk}
@@ -139,7 +137,7 @@ module _ {M : Type 0} (manager : Managing) (asking : Asking) (session now : ℕ)
   }
 
   is_going : IsLive on.now
-  is_going = lives_at (get nat_cmp old.sessions session) on.now (subst (λ (o : Option SessionValue). StandsAt (get nat_cmp old.sessions session) o) on.live (on.stands.sessions session))
+  is_going = lives_at (machine_at old.sessions session) on.now (subst (λ (o : Option SessionValue). StandsAt (machine_at old.sessions session) o) on.live (on.stands.sessions session))
 
   hears_now : (result : Result ℕ DeskError) (feeds : Feeds asking on.worth session now left result new) → MayHear asking (Some on.now) left feeds.heard feeds.short
   hears_now result feeds = subst (λ (o : Option SessionValue). MayHear asking o left feeds.heard feeds.short) on.live feeds.hears

@@ -1,8 +1,6 @@
 -- Two values that one desk is worth: what a job knows of its session at one it knows at the other.
 use Rattle.std.proofs.Common.{◌≡◌, ◌++◌, ℕ, List, refl, sym, ap, subst, ◌∙◌}
 use Rattle.std.specs.Prelude.{Option, Some, None}
-use Rattle.std.specs.BTreeMap.{get}
-use Rattle.std.specs.Ordering.{nat_cmp}
 use Rattle.keyring_trait.specs.declared.served.Served.{Served}
 use Rattle.stream_seal.specs.Session.{SealingValue}
 use Rattle.stream_open.specs.Session.{OpeningValue}
@@ -11,7 +9,7 @@ use Rattle.desk_core.specs.declared.session.Session.TheVariants as machines
 use Rattle.desk_core.specs.declared.live_sessions.Desk.{Desk}
 use Rattle.desk_core.specs.Session.{SessionValue, Sealing, Opening}
 use Rattle.desk_core.specs.Desk.{DeskValue}
-use Rattle.desk_core.specs.Stands.{Stands, StandsAt}
+use Rattle.desk_core.specs.Stands.{Stands, StandsAt, machine_at}
 use Rattle.job_file.specs.declared.job.Job.{Job}
 use Rattle.job_file.specs.declared.job.Work.{Work}
 use Rattle.job_file.specs.declared.job.Work.TheVariants.{Encrypt, Decrypt}
@@ -43,9 +41,9 @@ module _ {M : Type 0} (desk : Desk M) (v w : DeskValue) (one : Stands desk v) (o
   knows_too : (work : Work) (progress : Progress) → Knows work progress v.live → Knows work progress w.live
   knows_too work stages.Waiting knows = tt
   knows_too (Encrypt length frame context required) (stages.Live now) knows =
-      seals_too (get nat_cmp desk.sessions now.session) (v.live now.session) (w.live now.session) knows.0 (one.sessions now.session) (other.sessions now.session) knows.1
+      seals_too (machine_at desk.sessions now.session) (v.live now.session) (w.live now.session) knows.0 (one.sessions now.session) (other.sessions now.session) knows.1
   knows_too (Decrypt given required) (stages.Live now) knows =
-      opens_too (get nat_cmp desk.sessions now.session) (v.live now.session) (w.live now.session) knows.0 now.served (one.sessions now.session) (other.sessions now.session) knows.1 knows.2
+      opens_too (machine_at desk.sessions now.session) (v.live now.session) (w.live now.session) knows.0 now.served (one.sessions now.session) (other.sessions now.session) knows.1 knows.2
   knows_too work (stages.Ended line) knows = tt
 
   -- the same lines

@@ -101,7 +101,7 @@ pub is_begun : (manager : Managing) (asked : SealAsked) (request : SealRequestVa
 is_begun manager asked request random reply short id session wraps served b same wide count same_wraps says serves = record {
   wide = subst (λ (r : SealRequestValue). 1 ≤ r.size) same wide;
   count = count ∙ ap draws same_wraps;
-  gives = subst (λ (r : Reply). Says manager asked random r) b.gives says;
+  gives = (subst (λ (r : Reply). Says manager asked random r) b.gives says).0;
   begins = b.begins;
   serves = serves ∙ ap (λ (r : Reply). served_by r) b.gives;
 }

@@ -1,16 +1,12 @@
 -- The first turn of an encrypt job.
-use Rattle.std.proofs.Common.{◌≡◌, ◌+◌, ℕ, Bool, true, false, List, length, refl, sym, ap, subst, ◌∙◌}
-use Rattle.std.specs.Prelude.{⊤, Option, Some, None, Result, Ok, Err, alloc_error, nat_eq, option_map, slice_get, nat_lt, if◌then◌else◌}
+use Rattle.std.proofs.Common.{◌≡◌, ◌+◌, ℕ, Bool, true, false, List, length, refl, sym, ap, subst, ◌∙◌, arith, length-take}
+use Rattle.std.specs.Prelude.{⊤, Option, Some, None, Result, Ok, Err, alloc_error, nat_eq, option_map, slice_get}
 use Rattle.std.specs.Map.{update}
 use Rattle.std.proofs.lemmas.Map.{update_here}
 use Rattle.esdk_fields.specs.declared.refusals.Outside.TheVariants as outsides
 use Rattle.esdk_fields.specs.declared.refusals.Refusal.{Refusal}
 use Rattle.esdk_fields.specs.declared.refusals.Refusal.TheVariants as refusals
 use Rattle.context_codec.specs.Context.{KeyValue}
-use Rattle.context_codec.specs.Parts.{stored_of}
-use Rattle.header_codec.specs.Header.{latest_end}
-use Rattle.header_codec.specs.Table.{is_over}
-use Rattle.header_codec.specs.Written.{committing, keys_end}
 use Rattle.keyring_trait.specs.declared.journal.JournalLine.{JournalLine}
 use Rattle.keyring_trait.specs.declared.journal.Kind.TheVariants.{Seal}
 use Rattle.keyring_trait.specs.declared.manager_errors.ManagerError.{ManagerError}
@@ -20,16 +16,16 @@ use Rattle.keyring_trait.specs.Manager.{ManagerMeaning, RefusalStands}
 use Rattle.keyring_trait.specs.Materials.{EncMaterialsValue}
 use Rattle.keyring_trait.specs.Requests.{EncRequestValue}
 use Rattle.stream_seal.specs.Session as seal
-use Rattle.stream_seal.specs.Session.{SealingValue, beginning, under_of}
 use Rattle.stream_seal.specs.Start.{start_refusal}
-use Rattle.esdk_encrypt.specs.Encrypt.{draws, drawn_id, drawn_rest}
+use Rattle.esdk_encrypt.specs.Encrypt.{draws, drawn_rest}
+use Rattle.esdk_encrypt.proofs.Fitting.{few_begin}
 use Rattle.desk_core.specs.declared.errors.DeskError.{DeskError}
 use Rattle.desk_core.specs.declared.errors.DeskError.TheVariants as errors
 use Rattle.desk_core.specs.SealRequest.{SealRequestValue}
 use Rattle.desk_core.specs.Session.{Fails, Gives, NoReply, Refuses, Reply, Sealing, SessionValue, begun, id_in, rest_in, seal_opened}
 use Rattle.desk_core.specs.Desk.{DeskValue, after_turn, drawn, lines_of, served_by}
 use Rattle.desk_core.specs.Stands.{Stands, journal_of, manager_of}
-use Rattle.desk_core.specs.Calls.{Giving, IsReply, OpensSeal, giving_of}
+use Rattle.desk_core.specs.Calls.{Giving, IsReply, IsWritable, OpensSeal, giving_of}
 use Rattle.desk_core.specs.declared.live_sessions.Desk.{Desk}
 use Rattle.batch_report.specs.declared.job_lines.JobEnd.{JobEnd}
 use Rattle.batch_report.specs.declared.job_lines.JobEnd.TheVariants as ends
@@ -50,10 +46,10 @@ IsOfManager refusals.NoGenerator = ⊤
 IsOfManager refusals.GeneratorHasKey = ⊤
 IsOfManager refusal = ⊥
 
--- it was said to the job's request, with these bytes
+-- it was said to the job's request, with these bytes; of what was given a header can be made
 abbrev pub Says : Managing → SealAsked → List ℕ → Reply → Type 0
 Says manager asked random NoReply = ⊤
-Says manager asked random (Gives m) = manager.gives (wish_of asked) (drawn_rest random) m
+Says manager asked random (Gives m) = manager.gives (wish_of asked) (drawn_rest random) m × IsWritable m
 Says manager asked random (Refuses refusal) = IsOfManager refusal × manager.gives_none (wish_of asked) (managers.Refusal refusal)
 Says manager asked random Fails = manager.gives_none (wish_of asked) managers.KeyringFault
 
@@ -67,24 +63,12 @@ of_manager meaning context refusal stands = absurd stands
 pub says : (manager : Managing) (old new : ManagerNow) (gave : EncRequestValue → ℕ → List ℕ → EncMaterialsValue → Type 0) (asked : SealAsked) (now : ℕ) (random : List ℕ) (short : Bool) (reply : Reply)
     → Admits manager old new → IsReply (giving_of old.meaning new.meaning old.tells old.exact gave (wish_of asked) now (rest_in random)) short reply → Says manager asked random reply
 says manager old new gave asked now random short NoReply admits replies = tt
-says manager old new gave asked now random short (Gives m) admits replies = admits.gives (wish_of asked) (drawn_rest random) m replies.0
+says manager old new gave asked now random short (Gives m) admits replies = (admits.gives (wish_of asked) (drawn_rest random) m replies.0.0, replies.1)
 says manager old new gave asked now random short (Refuses refusal) admits replies =
     (of_manager old.meaning asked.context refusal replies.0.0, admits.gives_none (wish_of asked) (managers.Refusal refusal) replies.0)
 says manager old new gave asked now random short Fails admits replies = admits.gives_none (wish_of asked) managers.KeyringFault replies.0
 
 -- ---- no session began
-
--- the refusals that come of a header's parts
-abbrev IsOfHeader : Refusal → Type 0
-IsOfHeader (refusals.TooManyDataKeys n) = ⊤
-IsOfHeader (refusals.HeaderTooLong n) = ⊤
-IsOfHeader refusal = ⊥
-
-of_header : (over long : Bool) (count end : ℕ) (r : Refusal)
-    → (if over then Some (refusals.TooManyDataKeys count) else if long then Some (refusals.HeaderTooLong end) else None) ≡ Some r → IsOfHeader r
-of_header true long count end r is = let same : refusals.TooManyDataKeys count ≡ r = cc in subst IsOfHeader same tt
-of_header false true count end r is = let same : refusals.HeaderTooLong end ≡ r = cc in subst IsOfHeader same tt
-of_header false false count end r is = absurd cc
 
 -- Bytes were drawn and the manager said this; the file is as before the batch.
 pub record IsAnswered (manager : Managing) (asked : SealAsked) (seen : Seen) (random : List ℕ) (reply : Reply) : Type 0 where
@@ -110,12 +94,6 @@ given_none manager asked seen refusals.NoGenerator of none = none
 given_none manager asked seen refusals.GeneratorHasKey of none = none
 given_none manager asked seen refusal of none = absurd of
 
-begins_not : (manager : Managing) (asked : SealAsked) (seen : Seen) (m : EncMaterialsValue) (refusal : Refusal) → IsOfHeader refusal → IsGiven manager asked seen m
-    → start_refusal m None (drawn_id seen.drawn) ≡ Some refusal → seen.to ≡ seen.before → SealsSo manager asked seen (ends.Refusal refusal)
-begins_not manager asked seen m (refusals.TooManyDataKeys n) of given cause same = record { materials = m; given = given; cause = cause; same = same }
-begins_not manager asked seen m (refusals.HeaderTooLong n) of given cause same = record { materials = m; given = given; cause = cause; same = same }
-begins_not manager asked seen m refusal of given cause same = absurd of
-
 -- the error names how the job ends
 named : (error other : DeskError) (end : JobEnd) → error ≡ other → EndsFor error (Ok end) → EndsFor other (Ok end)
 named error other end same ends_for = subst (λ (e : DeskError). EndsFor e (Ok end)) same ends_for
@@ -123,19 +101,16 @@ named error other end same ends_for = subst (λ (e : DeskError). EndsFor e (Ok e
 no_memory : (error : DeskError) (end : JobEnd) → error ≡ errors.Memory → EndsFor error (Ok end) → ⊥
 no_memory error end same ends_for = let no : Ok end ≡ Err alloc_error = named error errors.Memory end same ends_for in absurd cc
 
-none_began : (manager : Managing) (asked : SealAsked) (seen : Seen) (random : List ℕ) (m : EncMaterialsValue) (id : ℕ) (error : DeskError) (end : JobEnd) (refusal : Option Refusal)
-    → IsAnswered manager asked seen random (Gives m) → start_refusal m None (id_in random) ≡ refusal → Err error ≡ (begun (request_of asked) random m id refusal).answer → EndsFor error (Ok end)
-    → SealsSo manager asked seen end
-none_began manager asked seen random m id error end None answered starts is ends_for = absurd cc
-none_began manager asked seen random m id error end (Some refusal) answered starts is ends_for =
-    let same : error ≡ errors.Refusal refusal = cc in
-    let ended : Ok end ≡ Ok (ends.Refusal refusal) = named error (errors.Refusal refusal) end same ends_for in
-    let last : end ≡ ends.Refusal refusal = cc in
-    let of : IsOfHeader refusal = of_header (is_over None (length m.entries)) (nat_lt latest_end (keys_end (committing (id_in random)) (stored_of m.required m.context) m.entries))
-    (length m.entries) (keys_end (committing (id_in random)) (stored_of m.required m.context) m.entries) refusal starts in
-    subst (λ (e : JobEnd). SealsSo manager asked seen e) (sym last)
-    (begins_not manager asked seen m refusal of (is_given manager asked seen random m answered.drawn answered.count answered.says answered.served)
-    (ap (λ (d : List ℕ). start_refusal m None (drawn_id d)) answered.drawn ∙ starts) answered.same)
+-- a message begins with what was given, since its header can be made
+given_begins : (random : List ℕ) (wraps : ℕ) (m : EncMaterialsValue) → length random ≡ draws wraps → IsWritable m → start_refusal m None (id_in random) ≡ None
+given_begins random wraps m count writable =
+    few_begin m (id_in random) None (omega (arith, length-take 32 random, count)) writable.context writable.each writable.few tt
+
+-- so that no error comes of them
+none_began : (asked : SealAsked) (random : List ℕ) (m : EncMaterialsValue) (id : ℕ) (error : DeskError) (refusal : Option Refusal) → refusal ≡ None
+    → Err error ≡ (begun (request_of asked) random m id refusal).answer → ⊥
+none_began asked random m id error None begins is = absurd cc
+none_began asked random m id error (Some refusal) begins is = absurd cc
 
 none_given : (manager : Managing) (asked : SealAsked) (seen : Seen) (random : List ℕ) (reply : Reply) (error : ManagerError) → IsAnswered manager asked seen random reply → served_by reply ≡ None
     → manager.gives_none (wish_of asked) error → IsGivenNone manager asked seen error
@@ -152,7 +127,7 @@ pub seals_none : (manager : Managing) (asked : SealAsked) (seen : Seen) (random 
 seals_none manager asked seen random NoReply short id error end answered is ends_for = absurd (no_memory error end (cc) ends_for)
 seals_none manager asked seen random (Gives m) true id error end answered is ends_for = absurd (no_memory error end (cc) ends_for)
 seals_none manager asked seen random (Gives m) false id error end answered is ends_for =
-    none_began manager asked seen random m id error end (start_refusal m None (id_in random)) answered refl is ends_for
+    absurd (none_began asked random m id error (start_refusal m None (id_in random)) (given_begins random manager.wraps m answered.count answered.says.1) is)
 seals_none manager asked seen random (Refuses refusal) short id error end answered is ends_for =
     let same : error ≡ errors.Refusal refusal = cc in
     let ended : Ok end ≡ Ok (ends.Refusal refusal) = named error (errors.Refusal refusal) end same ends_for in

@@ -82,13 +82,6 @@ pub record SealsTooMuch (manager : Managing) (asked : SealAsked) (seen : Seen) (
   pub over : most_sealed asked < length text
   pub cause : over_of asked.declared (most_text asked.frame) ≡ refusal
 
--- The manager gave materials of which no message can begin, and its file is as before.
-pub record BeginsNot (manager : Managing) (asked : SealAsked) (seen : Seen) (refusal : Refusal) : Type 0 where
-  pub materials : EncMaterialsValue
-  pub given : IsGiven manager asked seen materials
-  pub cause : start_refusal materials None (drawn_id seen.drawn) ≡ Some refusal
-  pub same : seen.to ≡ seen.before
-
 -- It drew its bytes, the manager gave nothing, for this reason, and its file is as before.
 pub record IsGivenNone (manager : Managing) (asked : SealAsked) (seen : Seen) (error : ManagerError) : Type 0 where
   pub count : length seen.drawn ≡ draws manager.wraps
@@ -113,13 +106,13 @@ pub record IsTooLong (manager : Managing) (asked : SealAsked) (seen : Seen) : Ty
   pub front : SealsFront manager asked seen
   pub long : most_input ≤ length (held seen.from)
 
--- what it comes to, by how it ended
+-- What it comes to, by how it ended. It ends neither with Q7 nor with Q8: a job sets no limit on the number of entries; and of what the manager gives a header can always be made, since there are at most 64 entries, none of whose parts is too long.
 abbrev pub SealsSo : Managing → SealAsked → Seen → JobEnd → Type 0
 SealsSo manager asked seen ends.Done = SealsWhole manager asked seen
 SealsSo manager asked seen (ends.Refusal (refusals.OverDeclared n)) = SealsTooMuch manager asked seen (refusals.OverDeclared n)
 SealsSo manager asked seen (ends.Refusal refusals.TooManyFrames) = SealsTooMuch manager asked seen refusals.TooManyFrames
-SealsSo manager asked seen (ends.Refusal (refusals.TooManyDataKeys n)) = BeginsNot manager asked seen (refusals.TooManyDataKeys n)
-SealsSo manager asked seen (ends.Refusal (refusals.HeaderTooLong n)) = BeginsNot manager asked seen (refusals.HeaderTooLong n)
+SealsSo manager asked seen (ends.Refusal (refusals.TooManyDataKeys n)) = ⊥
+SealsSo manager asked seen (ends.Refusal (refusals.HeaderTooLong n)) = ⊥
 SealsSo manager asked seen (ends.Refusal refusal) = IsGivenNone manager asked seen (managers.Refusal refusal)
 SealsSo manager asked seen (ends.Outside outsides.EntropyFault) = DrawsNone seen
 SealsSo manager asked seen (ends.Outside outsides.KeyringFault) = IsGivenNone manager asked seen managers.KeyringFault

@@ -135,13 +135,13 @@ module _ (key random : List ℕ) (new : WrapKeyValue) (long : length random ≡ 
   -- no message of its materials is refused
   never_refused : (m : EncMaterialsValue) → IsReply (giving (key_of key) new random) false (Gives m) → start_refusal m None (take 32 random) ≡ None
   never_refused m given =
-      ap (λ (x : EncMaterialsValue). start_refusal x None (take 32 random)) (gives key random m long given.0)
+      ap (λ (x : EncMaterialsValue). start_refusal x None (take 32 random)) (gives key random m long given.0.0)
       ∙ starts key (take 32 (drop 32 random)) (drop 64 random) (take 32 random) key_long iv_long id_long
 
   begun_so : (m : EncMaterialsValue) (id number : ℕ) → IsReply (giving (key_of key) new random) false (Gives m) → (refusal : Option Refusal) → refusal ≡ None
       → Ok id ≡ (begun gen_request random m number refusal).answer → (id ≡ number) × ((begun gen_request random m number refusal).left ≡ Some (Sealing (new_session key random)))
   begun_so m id number given (Some refusal) none is = absurd cc
-  begun_so m id number given None none is = (cc, ap (λ (x : EncMaterialsValue). Some (Sealing (opened x None 4096 (take 32 random)))) (gives key random m long given.0))
+  begun_so m id number given None none is = (cc, ap (λ (x : EncMaterialsValue). Some (Sealing (opened x None 4096 (take 32 random)))) (gives key random m long given.0.0))
 
   pub begins : (id number : ℕ) (reply : Reply) (short : Bool) → IsReply (giving (key_of key) new random) short reply
       → Ok id ≡ (seal_opened gen_request random reply short number).answer → Begins key random id reply short number

@@ -77,9 +77,6 @@ module _ (from to : Managing) (covers : Covers from to) (asked : SealAsked) (see
   too_much : (refusal : Refusal) → seals.SealsTooMuch from asked seen refusal → seals.SealsTooMuch to asked seen refusal
   too_much refusal is = record { front = sealed_front is.front; text = is.text; from = is.from; over = is.over; cause = is.cause }
 
-  begins_not : (refusal : Refusal) → seals.BeginsNot from asked seen refusal → seals.BeginsNot to asked seen refusal
-  begins_not refusal is = record { materials = is.materials; given = given_more is.materials is.given; cause = is.cause; same = is.same }
-
   none_given : (error : ManagerError) → seals.IsGivenNone from asked seen error → seals.IsGivenNone to asked seen error
   none_given error is = record { count = is.count ∙ ap draws covers.wraps; cause = covers.gives_none _ error is.cause; unserved = is.unserved; same = is.same }
 
@@ -94,8 +91,8 @@ module _ (from to : Managing) (covers : Covers from to) (asked : SealAsked) (see
   seals_more ends.Done so = sealed_whole so
   seals_more (ends.Refusal (refusals.OverDeclared n)) so = too_much (refusals.OverDeclared n) so
   seals_more (ends.Refusal refusals.TooManyFrames) so = too_much refusals.TooManyFrames so
-  seals_more (ends.Refusal (refusals.TooManyDataKeys n)) so = begins_not (refusals.TooManyDataKeys n) so
-  seals_more (ends.Refusal (refusals.HeaderTooLong n)) so = begins_not (refusals.HeaderTooLong n) so
+  seals_more (ends.Refusal (refusals.TooManyDataKeys n)) so = absurd so
+  seals_more (ends.Refusal (refusals.HeaderTooLong n)) so = absurd so
   seals_more (ends.Refusal refusal) so = none_given (managers.Refusal refusal) so
   seals_more (ends.Outside outsides.EntropyFault) so = so
   seals_more (ends.Outside outsides.KeyringFault) so = none_given managers.KeyringFault so

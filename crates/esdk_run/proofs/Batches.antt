@@ -116,13 +116,13 @@ not_refused read old new name bytes value refusal holds few is (inr refused) =
     let same : Ok value ≡ Err refusal = sym is ∙ ap read (refused.file.whole bytes holds) ∙ refused.is in absurd cc
 
 -- the jobs that were read are those that the shelf told
-jobs_are_held : (old between : ShelfState) (name bytes : List ℕ) (held read : JobFile) → Holds old.files name bytes → jobs_in name bytes ≡ Ok held → JobsAre old between name read
+pub jobs_are_held : (old between : ShelfState) (name bytes : List ℕ) (held read : JobFile) → Holds old.files name bytes → jobs_in name bytes ≡ Ok held → JobsAre old between name read
     → read ≡ held
 jobs_are_held old between name bytes held read holds is jobs =
     let same : Ok read ≡ Ok held = sym jobs.is ∙ ap (jobs_in name) (sym (jobs.read.whole bytes holds)) ∙ is in cc
 
 -- and so is the tree
-tree_still_held : (trees : Trees) (old between : ShelfState) (name : List ℕ) (held read : JobFile) (tree : KeyringMeaning) → read ≡ held → JobsAre old between name read
+pub tree_still_held : (trees : Trees) (old between : ShelfState) (name : List ℕ) (held read : JobFile) (tree : KeyringMeaning) → read ≡ held → JobsAre old between name read
     → HoldsTree trees old.files held.keyring tree → HoldsTree trees between.files read.keyring tree
 tree_still_held trees old between name held read tree same jobs holds =
     subst (λ (files : Option Files). HoldsTree trees files read.keyring tree) (sym jobs.stay)

@@ -1,6 +1,6 @@
 -- A job of a batch that must be done is done, unless memory runs out or an object fails.
-use Rattle.std.proofs.Common.{◌≡◌, ◌⊎◌, ◌∙◌, ℕ, Bool, true, false, List, [], ◌∷◌, length, None, Some, Ok, inl, inr, refl, sym, ap, subst, arith}
-use Rattle.std.specs.Prelude.{All, is_none, nat_lt, sum_by, zip, if◌then◌else◌}
+use Rattle.std.proofs.Common.{◌≡◌, ◌∙◌, ℕ, Bool, true, false, List, [], ◌∷◌, length, None, Some, inl, inr, refl, sym, ap, subst, arith}
+use Rattle.std.specs.Prelude.{All, is_none, sum_by, zip, if◌then◌else◌}
 use Rattle.std.specs.declared.option.Option.{Option}
 use Rattle.std.specs.List.{AllZip}
 use Rattle.std.proofs.lemmas.List.Elements.{All-head, All-tail}
@@ -13,11 +13,7 @@ use Rattle.esdk_fields.specs.declared.refusals.Outside.TheVariants as outsides
 use Rattle.esdk_fields.specs.declared.refusals.Refusal.{Refusal}
 use Rattle.esdk_fields.specs.declared.refusals.Refusal.TheVariants as refusals
 use Rattle.context_codec.specs.Context.{KeyValue}
-use Rattle.context_codec.specs.Parts.{stored_of}
-use Rattle.header_codec.specs.Header.{latest_end}
-use Rattle.header_codec.specs.Written.{committing, keys_end}
 use Rattle.keyring_trait.specs.Keyring.{KeyringMeaning}
-use Rattle.esdk_encrypt.specs.Encrypt.{drawn_id, drawn_rest}
 use Rattle.esdk_decrypt.specs.Decrypt.{fault_at_end}
 use Rattle.esdk_decrypt.specs.Told.{judged_by}
 use Rattle.job_file.specs.declared.job.Job.{Job}
@@ -33,14 +29,14 @@ use Rattle.esdk_batch.specs.Batch.{AllCome, ComesTo, OnlyWritten, WorksSo}
 use Rattle.esdk_batch.specs.Failures.{entropy_fails, keyring_fails, shelf_fails, shelf_fails_of}
 use Rattle.esdk_batch.specs.Managing.{Managing}
 use Rattle.esdk_batch.specs.SealStory.{SealAsked, SealsSo, Seen, held}
-use Rattle.esdk_run.specs.Batch.{HasJobs, JobsAre, jobs_in}
-use Rattle.esdk_run.specs.EachJob.{DoesJob, DoesJobs, DoesWhatItMust, HasNoHeader, MustOpen, MustSeal, NothingFails, ReadsSo, WorksIfItMust, reader_for}
+use Rattle.esdk_run.specs.Batch.{HasJobs}
+use Rattle.esdk_run.specs.EachJob.{DoesJob, DoesJobs, DoesWhatItMust, MustOpen, MustSeal, NothingFails, ReadsSo, WorksIfItMust, reader_for}
 use Rattle.esdk_run.specs.Objects.{Objects, Unchanged}
 use Rattle.esdk_run.specs.Run.{BatchRuns, RunsAllJobs}
 use Rattle.esdk_run.specs.Serving.{managing_over, refusal_over}
 use Rattle.esdk_run.specs.Told.{HoldsTree}
 use Rattle.esdk_run.specs.Trees.{Trees}
-use Rattle.esdk_run.proofs.Batches.{runs_what_is_held}
+use Rattle.esdk_run.proofs.Batches.{jobs_are_held, runs_what_is_held, tree_still_held}
 use Rattle.esdk_run.proofs.EachJob.{reads_so, seen_with}
 use Rattle.esdk_run.proofs.Files.{tree_is_held}
 use Rattle.esdk_run.proofs.ReadJobs.{RequiresGiven, read_jobs_keep}
@@ -60,11 +56,6 @@ shelf_is_sound (Some files) from bytes end holds none =
 
 -- ---- an encrypt job
 
--- where no limit on entries is set none is passed
-no_limit_passed : (test : Bool) (size n : ℕ) → (if test then Some (refusals.HeaderTooLong size) else None) ≡ Some (refusals.TooManyDataKeys n) → ⊥
-no_limit_passed true size n is = absurd cc
-no_limit_passed false size n is = absurd cc
-
 module _ (cache : Option LimitsValue) (tree left : KeyringMeaning) (asked : SealAsked) (seen : Seen) (must : MustSeal tree seen.from asked) where
   -- it reads what is held
   reads_held : (text : List ℕ) → seen.from ≡ Some text → length text ≡ length must.text
@@ -74,24 +65,12 @@ module _ (cache : Option LimitsValue) (tree left : KeyringMeaning) (asked : Seal
   isnt_refused refusal refused = let same : None ≡ Some refusal = sym must.unrefused ∙ refused in absurd cc
 
   sealing_done : (end : JobEnd) → entropy_fails end ≡ 0 → keyring_fails end ≡ 0 → shelf_fails end ≡ 0 → SealsSo (managing_over cache tree left) asked seen end
-      → (is_ended_well end ≡ true) ⊎ HasNoHeader tree asked end
-  sealing_done ends.Done drawing opening reading so = inl refl
+      → is_ended_well end ≡ true
+  sealing_done ends.Done drawing opening reading so = refl
   sealing_done (ends.Refusal (refusals.OverDeclared n)) drawing opening reading so = absurd (omega (arith, so.over, must.room, reads_held so.text so.from))
   sealing_done (ends.Refusal refusals.TooManyFrames) drawing opening reading so = absurd (omega (arith, so.over, must.room, reads_held so.text so.from))
-  sealing_done (ends.Refusal (refusals.TooManyDataKeys n)) drawing opening reading so =
-      let stored : List KeyValue = stored_of so.materials.required so.materials.context in
-      absurd (no_limit_passed (nat_lt latest_end (keys_end (committing (drawn_id seen.drawn)) stored so.materials.entries)) (keys_end (committing (drawn_id seen.drawn)) stored so.materials.entries) n so.cause)
-  sealing_done (ends.Refusal (refusals.HeaderTooLong n)) drawing opening reading so =
-      inr (record {
-        size = n;
-        said = refl;
-        cache = cache;
-        random = drawn_rest seen.drawn;
-        materials = so.materials;
-        given = so.given.given;
-        id = drawn_id seen.drawn;
-        cause = so.cause;
-      })
+  sealing_done (ends.Refusal (refusals.TooManyDataKeys n)) drawing opening reading so = absurd so
+  sealing_done (ends.Refusal (refusals.HeaderTooLong n)) drawing opening reading so = absurd so
   sealing_done (ends.Refusal refusal) drawing opening reading so = absurd (isnt_refused refusal so.cause)
   sealing_done (ends.Outside outsides.EntropyFault) drawing opening reading so = absurd (omega (arith, drawing))
   sealing_done (ends.Outside outsides.KeyringFault) drawing opening reading so = absurd (omega (arith, opening))
@@ -168,18 +147,11 @@ module _ (cache : Option LimitsValue) (tree left : KeyringMeaning) (stayed : Sta
 
 -- ---- the batch
 
--- the jobs that were read are those that the shelf told
-read_is_held : (old between : ShelfState) (name bytes : List ℕ) (read held : JobFile) → Holds old.files name bytes → jobs_in name bytes ≡ Ok held → JobsAre old between name read → read ≡ held
-read_is_held old between name bytes read held holds is jobs =
-    let same : Ok read ≡ Ok held = sym jobs.is ∙ ap (jobs_in name) (sym (jobs.read.whole bytes holds)) ∙ is in cc
-
--- and so is the tree
+-- the tree that was read is the one that the shelf told
 read_tree_is_held : (trees : Trees) (name : List ℕ) (old new : ShelfState) (read held : JobFile) (tree held_tree : KeyringMeaning) → read ≡ held → HoldsTree trees old.files held.keyring held_tree
     → HasJobs trees name old new read tree → tree ≡ held_tree
 read_tree_is_held trees name old new read held tree held_tree same holds has =
-    tree_is_held trees has.between new read.keyring tree held_tree
-    (subst (λ (files : Option Files). HoldsTree trees files read.keyring held_tree) (sym has.jobs.stay)
-    (subst (λ (f : JobFile). HoldsTree trees old.files f.keyring held_tree) (sym same) holds)) has.keyring
+    tree_is_held trees has.between new read.keyring tree held_tree (tree_still_held trees old has.between name held read held_tree same has.jobs holds) has.keyring
 
 -- no read of the two files failed
 read_faults : (trees : Trees) (name : List ℕ) (old new : ShelfState) (read : JobFile) (tree : KeyringMeaning) → HasJobs trees name old new read tree → new.faults ≡ old.faults
@@ -206,7 +178,7 @@ pub does_what_it_must : (trees : Trees) (name : List ℕ) (before after : Object
     → BatchRuns trees name before after unchanged code → DoesWhatItMust trees name before after code
 does_what_it_must trees name before after unchanged code (inl runs) file tree holds nothing =
     let has = runs.runs.has in
-    let same : runs.runs.file ≡ file = read_is_held before.shelf has.between name holds.bytes runs.runs.file file holds.holds holds.is has.jobs in
+    let same : runs.runs.file ≡ file = jobs_are_held before.shelf has.between name holds.bytes file runs.runs.file holds.holds holds.is has.jobs in
     let same_tree : runs.runs.tree ≡ tree =
     read_tree_is_held trees name before.shelf runs.runs.read runs.runs.file file runs.runs.tree tree same holds.keyring has in
     let nothing_read : NothingFails trees runs.runs.tree before after = subst (λ (t : KeyringMeaning). NothingFails trees t before after) (sym same_tree) nothing in

@@ -7,14 +7,9 @@ use Rattle.esdk_base.specs.Streams.{ShelfState, SinkState}
 use Rattle.esdk_fields.specs.Counts.{Stayed}
 use Rattle.esdk_fields.specs.declared.faults.Fault.{Fault}
 use Rattle.esdk_fields.specs.declared.refusals.Outside.TheVariants as outsides
-use Rattle.esdk_fields.specs.declared.refusals.Refusal.TheVariants as refusals
 use Rattle.context_codec.specs.Context.{KeyValue}
-use Rattle.context_codec.specs.Parts.{stored_of}
-use Rattle.header_codec.specs.Written.{header_refusal}
 use Rattle.keyring_trait.specs.Keyring.{KeyringMeaning}
-use Rattle.keyring_trait.specs.Materials.{EncMaterialsValue}
 use Rattle.keyring_trait.specs.Wrapping.{WrapKeyValue}
-use Rattle.cmm_caching.specs.Limits.{LimitsValue}
 use Rattle.body_format.specs.declared.verdicts.Verdict.TheVariants.{Whole}
 use Rattle.message_format.specs.Judgement.{content}
 use Rattle.esdk_decrypt.specs.Decrypt.{fault_at_end}
@@ -30,11 +25,11 @@ use Rattle.batch_report.specs.BatchReport.{is_done, report_of}
 use Rattle.esdk_batch.specs.Batch.{seen_of}
 use Rattle.esdk_batch.specs.Files.{most_input}
 use Rattle.esdk_batch.specs.Managing.{no_limits}
-use Rattle.esdk_batch.specs.SealStory.{SealAsked, Seen, held, most_sealed, wish_of}
+use Rattle.esdk_batch.specs.SealStory.{SealAsked, Seen, held, most_sealed}
 use Rattle.esdk_run.specs.Batch.{HasJobs}
 use Rattle.esdk_run.specs.Objects.{Objects}
 use Rattle.esdk_run.specs.Served.{HoldsJobs}
-use Rattle.esdk_run.specs.Serving.{TreeServes, refusal_over}
+use Rattle.esdk_run.specs.Serving.{refusal_over}
 use Rattle.esdk_run.specs.Trees.{Trees}
 
 -- ---- what is read for a decrypt job
@@ -129,24 +124,9 @@ pub record MustOpen (tree : KeyringMeaning) (from : Option (List ℕ)) (given : 
   pub few : length bytes < most_input
   pub whole : (judged_by (reader_for keys given required) bytes).verdict ≡ Whole
 
--- The job ended with Q8: of the materials that the tree served for what it asks, whose entries are
--- one for each wrap of the tree, no header can be made. (Of at most 64 entries one can, unless a part
--- of an entry has over 65,535 bytes.)
-pub record HasNoHeader (tree : KeyringMeaning) (asked : SealAsked) (end : JobEnd) : Type 0 where
-  pub size : ℕ
-  pub said : end ≡ ends.Refusal (refusals.HeaderTooLong size)
-  pub cache : Option LimitsValue
-  pub random : List ℕ
-  pub materials : EncMaterialsValue
-  pub given : TreeServes cache tree (wish_of asked) random materials
-  pub id : List ℕ
-  pub cause : header_refusal id (stored_of materials.required materials.context) materials.entries None
-      ≡ Some (refusals.HeaderTooLong size)
-
--- an encrypt job is done, or has no header, if it must be done
+-- an encrypt job is done, if it must be
 abbrev pub SealsIfItMust : KeyringMeaning → SealAsked → Option (List ℕ) → JobLine → Type 0
-SealsIfItMust tree asked from line =
-    MustSeal tree from asked → (is_done line ≡ true) ⊎ HasNoHeader tree asked line.end
+SealsIfItMust tree asked from line = MustSeal tree from asked → is_done line ≡ true
 
 -- a job is done that must be, by its work and what the file holds that it reads
 abbrev pub WorksIfItMust : KeyringMeaning → Work → Option (List ℕ) → JobLine → Type 0
