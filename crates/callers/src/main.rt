@@ -18,13 +18,10 @@ use std::io;
 /// Prints of each caller whether it did what it is for.
 fn main(rt: HostRuntime) -> io::Result<()> {
     let alloc = rt.alloc();
-    println!(rt; "seal_pieces: {}", shown::seals(alloc).unwrap_or(false))?;
-    println!(rt; "open_pieces: {}", shown::opens(alloc).unwrap_or(false))?;
-    println!(rt; "CountedRing: {}", shown::counts(alloc).unwrap_or(false))?;
-    println!(rt; "cached_manager: {}", shown::caches(alloc).unwrap_or(false))?;
-    println!(rt;
-        "file_manager: {}",
-        shown::reads_a_file(alloc).unwrap_or(false)
-    )?;
+    println!(rt; "seal_pieces: {}", shown::seals(alloc))?;
+    println!(rt; "open_pieces: {}", shown::opens(alloc))?;
+    println!(rt; "CountedRing: {}", shown::counts(alloc))?;
+    println!(rt; "cached_manager: {}", shown::caches(alloc))?;
+    println!(rt; "file_manager: {}", shown::reads_a_file(alloc))?;
     Ok(())
 }

@@ -2,19 +2,22 @@
 //! OpenSSL.
 
 use crate::cached_manager::cached_manager;
-use crate::errors::CallError;
 use crate::file_manager::file_manager;
 use crate::opening::open_pieces;
 use crate::own_keyring::CountedRing;
 use crate::sealing::{materials_for, seal_pieces};
+use cmm_caching::CachingCmm;
 use cmm_default::DefaultCmm;
 use context_codec::{Context, KeySet};
 use esdk_fields::Text;
 use esdk_memory::MemSink;
 use keyring_file::Plug;
-use keyring_trait::{Keyring, Manager};
+use keyring_trait::{EncMaterials, Keyring, Manager};
 use raw_aes_keyring::RawAes;
 use std::alloc::Global;
+
+/// The manager of a counted keyring, with a cache.
+type Cached = CachingCmm<DefaultCmm<CountedRing<RawAes>>>;
 
 /// Nine bytes, `123456789`, in three frames of 4. The header ends at 169. The key has the namespace
 /// `ns`, the name `k` and the bytes 00 to 1f; the message id, the data key and its initialization
@@ -37,66 +40,179 @@ const NINE_BYTES: &[u8] =
 const KEY: [u8; 32] =
     *b"\x00\x01\x02\x03\x04\x05\x06\x07\x08\x09\x0a\x0b\x0c\x0d\x0e\x0f\x10\x11\x12\x13\x14\x15\x16\x17\x18\x19\x1a\x1b\x1c\x1d\x1e\x1f";
 
-/// The keyring of the key.
-fn known_ring(alloc: Global) -> Result<RawAes, CallError> {
-    Ok(RawAes::new(alloc, "ns", "k", KEY)?)
-}
-
-/// An empty sink with room for the message.
-fn sink(alloc: Global) -> Result<MemSink, CallError> {
-    Ok(MemSink::new(alloc, 512, Vec::new(alloc))?)
-}
-
-/// Whether the text, sealed in two pieces, is the message.
-pub(crate) fn seals(alloc: Global) -> Result<bool, CallError> {
-    let ring = known_ring(alloc)?;
-    if ring.wraps() != 1 {
-        return Ok(false);
+/// The keyring of the key. None where memory runs out.
+fn known_ring(alloc: Global) -> Option<RawAes> {
+    match RawAes::new(alloc, "ns", "k", KEY) {
+        Ok(ring) => Some(ring),
+        Err(_) => None,
     }
-    let materials = materials_for(alloc, ring, Context::new(alloc), &[0x22; 44])?;
-    let mut output = sink(alloc)?;
-    let pieces = [b"123".as_slice(), b"456789".as_slice()];
-    seal_pieces(alloc, &materials, 4, &[0x22; 32], &pieces, &mut output)?;
-    Ok(output.written() == NINE_BYTES)
 }
 
-/// Whether the message, opened in two pieces with this manager, is the text, and has no pairs.
-fn opens_with<M: Manager>(alloc: Global, manager: &mut M) -> Result<bool, CallError> {
+/// The same, counted.
+fn counted_ring(alloc: Global) -> Option<CountedRing<RawAes>> {
+    match known_ring(alloc) {
+        Some(ring) => Some(CountedRing::new(ring)),
+        None => None,
+    }
+}
+
+/// An empty sink with room for the message. None where memory runs out.
+fn sink(alloc: Global) -> Option<MemSink> {
+    match MemSink::new(alloc, 512, Vec::new(alloc)) {
+        Ok(sink) => Some(sink),
+        Err(_) => None,
+    }
+}
+
+/// The materials that a keyring of one wrap gives without pairs.
+fn materials_of(alloc: Global, ring: RawAes) -> Option<EncMaterials> {
+    if ring.wraps() != 1 {
+        return None;
+    }
+    match materials_for(alloc, ring, Context::new(alloc), &[0x22; 44]) {
+        Ok(materials) => Some(materials),
+        Err(_) => None,
+    }
+}
+
+/// Those of the known keyring.
+fn known_materials(alloc: Global) -> Option<EncMaterials> {
+    match known_ring(alloc) {
+        Some(ring) => materials_of(alloc, ring),
+        None => None,
+    }
+}
+
+/// Whether the text, sealed in two pieces into an empty sink, is the message.
+fn seals_into(alloc: Global, materials: &EncMaterials, output: &mut MemSink) -> bool {
+    let pieces = [b"123".as_slice(), b"456789".as_slice()];
+    match seal_pieces(alloc, materials, 4, &[0x22; 32], &pieces, output) {
+        Ok(()) => output.written() == NINE_BYTES,
+        Err(_) => false,
+    }
+}
+
+/// Whether it is with these materials.
+fn seals_with(alloc: Global, materials: &EncMaterials) -> bool {
+    match sink(alloc) {
+        Some(mut output) => seals_into(alloc, materials, &mut output),
+        None => false,
+    }
+}
+
+/// Whether it is with those of the known keyring.
+pub(crate) fn seals(alloc: Global) -> bool {
+    match known_materials(alloc) {
+        Some(materials) => seals_with(alloc, &materials),
+        None => false,
+    }
+}
+
+/// Whether the message, opened in two pieces with this manager into an empty sink, is the text, and
+/// has no pairs.
+fn opens_into<M: Manager>(alloc: Global, manager: &mut M, output: &mut MemSink) -> bool {
     let pieces = [
         NINE_BYTES.get(..100).unwrap_or(&[]),
         NINE_BYTES.get(100..).unwrap_or(&[]),
     ];
-    let mut output = sink(alloc)?;
-    let context = open_pieces(alloc, manager, Context::new(alloc), 0, &pieces, &mut output)?;
-    Ok(context.length() == 0 && output.written() == b"123456789".as_slice())
+    match open_pieces(alloc, manager, Context::new(alloc), 0, &pieces, output) {
+        Ok(context) => context.length() == 0 && output.written() == b"123456789".as_slice(),
+        Err(_) => false,
+    }
+}
+
+/// Whether it is with this manager.
+fn opens_with<M: Manager>(alloc: Global, manager: &mut M) -> bool {
+    match sink(alloc) {
+        Some(mut output) => opens_into(alloc, manager, &mut output),
+        None => false,
+    }
 }
 
 /// Whether it is with the default manager of the key.
-pub(crate) fn opens(alloc: Global) -> Result<bool, CallError> {
-    opens_with(alloc, &mut DefaultCmm::new(known_ring(alloc)?))
+pub(crate) fn opens(alloc: Global) -> bool {
+    match known_ring(alloc) {
+        Some(ring) => opens_with(alloc, &mut DefaultCmm::new(ring)),
+        None => false,
+    }
 }
 
-/// Whether it is with a counted keyring, which was asked once.
-pub(crate) fn counts(alloc: Global) -> Result<bool, CallError> {
-    let mut manager = DefaultCmm::new(CountedRing::new(known_ring(alloc)?));
-    let is_known = opens_with(alloc, &mut manager)?;
-    Ok(is_known && manager.into_ring().asked() == 1)
+/// Whether it is with the manager of a counted keyring, which was asked once.
+fn counts_once(alloc: Global, mut manager: DefaultCmm<CountedRing<RawAes>>) -> bool {
+    opens_with(alloc, &mut manager) && manager.into_ring().asked() == 1
+}
+
+/// Whether it is with that of the key.
+pub(crate) fn counts(alloc: Global) -> bool {
+    match counted_ring(alloc) {
+        Some(ring) => counts_once(alloc, DefaultCmm::new(ring)),
+        None => false,
+    }
+}
+
+/// Whether it is twice with a manager.
+fn opens_twice<M: Manager>(alloc: Global, manager: &mut M) -> bool {
+    opens_with(alloc, manager) && opens_with(alloc, manager)
 }
 
 /// Whether it is twice with a cache, whose keyring was asked once.
-pub(crate) fn caches(alloc: Global) -> Result<bool, CallError> {
-    let mut manager = cached_manager(alloc, CountedRing::new(known_ring(alloc)?))?;
-    let is_known = opens_with(alloc, &mut manager)? && opens_with(alloc, &mut manager)?;
-    Ok(is_known && manager.into_inner().into_ring().asked() == 1)
+fn caches_with(alloc: Global, mut manager: Cached) -> bool {
+    opens_twice(alloc, &mut manager) && manager.into_inner().into_ring().asked() == 1
+}
+
+/// The manager of a counted keyring, with a cache. None where memory runs out.
+fn cached(alloc: Global, ring: CountedRing<RawAes>) -> Option<Cached> {
+    match cached_manager(alloc, ring) {
+        Ok(manager) => Some(manager),
+        Err(_) => None,
+    }
+}
+
+/// That of the key. None where memory runs out.
+fn known_cached(alloc: Global) -> Option<Cached> {
+    match counted_ring(alloc) {
+        Some(ring) => cached(alloc, ring),
+        None => None,
+    }
+}
+
+/// Whether it is twice with that, whose keyring was asked once.
+pub(crate) fn caches(alloc: Global) -> bool {
+    match known_cached(alloc) {
+        Some(manager) => caches_with(alloc, manager),
+        None => false,
+    }
+}
+
+/// The keyring of the key as a plug. None where memory runs out.
+fn known_plug(alloc: Global, name: Text) -> Option<Plug<CountedRing<RawAes>>> {
+    match counted_ring(alloc) {
+        Some(keyring) => Some(Plug { name, keyring }),
+        None => None,
+    }
+}
+
+/// The same under the name `counted`.
+fn counted_plug(alloc: Global) -> Option<Plug<CountedRing<RawAes>>> {
+    match Text::new(alloc, "counted") {
+        Ok(name) => known_plug(alloc, name),
+        Err(_) => None,
+    }
+}
+
+/// Whether it is with the keys of a file, which names this plug.
+fn reads_a_file_with(alloc: Global, plug: Plug<CountedRing<RawAes>>) -> bool {
+    let file = b"{\"version\":1,\"ring\":{\"plug\":\"counted\"}}";
+    match file_manager(alloc, file, plug, KeySet::new(alloc)) {
+        Ok(mut manager) => opens_with(alloc, &mut manager),
+        Err(_) => false,
+    }
 }
 
 /// Whether it is with the keys of a file, which names the keyring of the key as a plug.
-pub(crate) fn reads_a_file(alloc: Global) -> Result<bool, CallError> {
-    let plug = Plug {
-        name: Text::new(alloc, "counted")?,
-        keyring: CountedRing::new(known_ring(alloc)?),
-    };
-    let file = b"{\"version\":1,\"ring\":{\"plug\":\"counted\"}}";
-    let mut manager = file_manager(alloc, file, plug, KeySet::new(alloc))?;
-    opens_with(alloc, &mut manager)
+pub(crate) fn reads_a_file(alloc: Global) -> bool {
+    match counted_plug(alloc) {
+        Some(plug) => reads_a_file_with(alloc, plug),
+        None => false,
+    }
 }

@@ -2,9 +2,7 @@
 
 use crate::scratch_path::scratch_path;
 use esdk_base::{FileShelf, Shelf};
-use std::alloc::AllocError;
 use std::fs;
-use std::test::Fail;
 
 /// Whether a read from this offset on, of at most four bytes, gives just these.
 fn gives(shelf: &mut FileShelf, path: &str, at: u64, want: &[u8]) -> bool {
@@ -93,44 +91,93 @@ fn grow_in_turns(shelf: &mut FileShelf, paths: &[String]) -> bool {
         && all_give(shelf, paths, 4, b"e")
 }
 
-/// More paths than a shelf keeps files open.
-fn many_paths(rt: &HostRuntime) -> Result<Vec<String>, AllocError> {
+/// Whether each of these files is taken away.
+fn all_removed(rt: &HostRuntime, paths: &[String]) -> bool {
+    for path in paths {
+        if fs::remove_file(rt, path.as_str()).is_err() {
+            return false;
+        }
+    }
+    true
+}
+
+/// Whether a file is made, read and emptied, and is missing once it is taken away.
+fn is_used(rt: HostRuntime, shelf: &mut FileShelf, path: &str) -> bool {
+    misses(shelf, path)
+        && grows(shelf, path)
+        && is_emptied(shelf, path)
+        && fs::remove_file(&rt, path).is_ok()
+        && shelf.read_at(path, 0, &mut [0]).is_err()
+}
+
+/// Whether a file at a path of this process is.
+fn new_file_is_used(rt: HostRuntime) -> bool {
+    match scratch_path(&rt, "files") {
+        Ok(path) => is_used(rt, &mut FileShelf::new(rt), path.as_str()),
+        Err(_) => false,
+    }
+}
+
+#[test]
+fn files_are_made_read_in_pieces_and_emptied(rt: HostRuntime) {
+    assert!(rt; new_file_is_used(rt));
+}
+
+/// Whether two files are used in turn, and are taken away.
+fn are_used_in_turn(rt: HostRuntime, one: &str, other: &str) -> bool {
+    are_apart(&mut FileShelf::new(rt), one, other)
+        && fs::remove_file(&rt, one).is_ok()
+        && fs::remove_file(&rt, other).is_ok()
+}
+
+/// Whether this file and another one at a path of this process are.
+fn is_used_beside_another(rt: HostRuntime, one: &str) -> bool {
+    match scratch_path(&rt, "other_file") {
+        Ok(other) => are_used_in_turn(rt, one, other.as_str()),
+        Err(_) => false,
+    }
+}
+
+/// Whether two files at paths of this process are.
+fn new_files_are_used_in_turn(rt: HostRuntime) -> bool {
+    match scratch_path(&rt, "one_file") {
+        Ok(one) => is_used_beside_another(rt, one.as_str()),
+        Err(_) => false,
+    }
+}
+
+#[test]
+fn files_that_are_used_in_turn_stay_apart(rt: HostRuntime) {
+    assert!(rt; new_files_are_used_in_turn(rt));
+}
+
+/// Whether a path of this process stands behind the others now.
+fn is_added(rt: &HostRuntime, paths: &mut Vec<String>, name: &str) -> bool {
+    match scratch_path(rt, name) {
+        Ok(path) => paths.push(path).is_ok(),
+        Err(_) => false,
+    }
+}
+
+/// Whether more paths are added than a shelf keeps files open.
+fn are_added(rt: &HostRuntime, paths: &mut Vec<String>) -> bool {
+    for name in ["a", "b", "c", "d", "e", "f"] {
+        if !is_added(rt, paths, name) {
+            return false;
+        }
+    }
+    true
+}
+
+/// Whether that many files are used in turns, and are taken away.
+fn many_are_used_in_turns(rt: HostRuntime) -> bool {
     let mut paths = Vec::new(rt.alloc());
-    for letter in ["a", "b", "c", "d", "e", "f"] {
-        paths.push(scratch_path(rt, letter)?)?;
-    }
-    Ok(paths)
+    are_added(&rt, &mut paths)
+        && grow_in_turns(&mut FileShelf::new(rt), &paths)
+        && all_removed(&rt, &paths)
 }
 
 #[test]
-fn files_are_made_read_in_pieces_and_emptied(rt: HostRuntime) -> Result<(), Fail> {
-    let path = scratch_path(&rt, "files")?;
-    let mut shelf = FileShelf::new(rt);
-    assert!(rt; misses(&mut shelf, path.as_str()));
-    assert!(rt; grows(&mut shelf, path.as_str()));
-    assert!(rt; is_emptied(&mut shelf, path.as_str()));
-    fs::remove_file(&rt, path.as_str())?;
-    assert!(rt; shelf.read_at(path.as_str(), 0, &mut [0]).is_err());
-    Ok(())
-}
-
-#[test]
-fn files_that_are_used_in_turn_stay_apart(rt: HostRuntime) -> Result<(), Fail> {
-    let one = scratch_path(&rt, "one_file")?;
-    let other = scratch_path(&rt, "other_file")?;
-    let mut shelf = FileShelf::new(rt);
-    assert!(rt; are_apart(&mut shelf, one.as_str(), other.as_str()));
-    fs::remove_file(&rt, one.as_str())?;
-    fs::remove_file(&rt, other.as_str())?;
-    Ok(())
-}
-
-#[test]
-fn many_files_are_used_in_turns(rt: HostRuntime) -> Result<(), Fail> {
-    let paths = many_paths(&rt)?;
-    assert!(rt; grow_in_turns(&mut FileShelf::new(rt), &paths));
-    for path in &paths {
-        fs::remove_file(&rt, path.as_str())?;
-    }
-    Ok(())
+fn many_files_are_used_in_turns(rt: HostRuntime) {
+    assert!(rt; many_are_used_in_turns(rt));
 }

@@ -2,38 +2,48 @@
 //! serves one request after the other is shown by the batches of `cases`.
 
 use crate::asking::{COMMITTING, finds_known};
-use crate::known_wraps::known_ring;
+use crate::opening::known_manager;
 use cmm_caching::{CacheLimits, CachingCmm};
 use cmm_default::DefaultCmm;
 use keyring_trait::{Manager, Served};
 use raw_aes_keyring::RawAes;
 use std::alloc::Global;
 
-/// The manager with a cache, whose entries serve for ten seconds, over the default manager of the
-/// known key. None where memory runs out.
-pub(crate) fn caching(alloc: Global) -> Option<CachingCmm<DefaultCmm<RawAes>>> {
-    let inner = DefaultCmm::new(known_ring(alloc)?);
-    match CachingCmm::new(alloc, inner, CacheLimits::new(5, 10, 10, 1000)) {
+/// A manager with a cache, whose entries serve for ten seconds, over this one. None where memory
+/// runs out.
+pub(crate) fn behind_a_cache<M: Manager>(alloc: Global, manager: M) -> Option<CachingCmm<M>> {
+    match CachingCmm::new(alloc, manager, CacheLimits::new(5, 10, 10, 1000)) {
         Ok(manager) => Some(manager),
         Err(_) => None,
     }
 }
 
-/// Whether a manager keeps what it found for messages of the two suites apart.
+/// Such a manager over the default manager of the known key. None where memory runs out.
+pub(crate) fn caching(alloc: Global) -> Option<CachingCmm<DefaultCmm<RawAes>>> {
+    match known_manager(alloc) {
+        Some(manager) => behind_a_cache(alloc, manager),
+        None => None,
+    }
+}
+
+/// Whether a manager refuses nothing, and keeps what it found for messages of the two suites apart.
 fn keeps_suites_apart<M: Manager>(alloc: Global, manager: &mut M) -> bool {
-    finds_known(alloc, manager, COMMITTING, 0, Served::New(1))
+    manager.refuses().is_none()
+        && finds_known(alloc, manager, COMMITTING, 0, Served::New(1))
         && finds_known(alloc, manager, 0x0178, 0, Served::New(2))
         && finds_known(alloc, manager, COMMITTING, 0, Served::Hit(1))
 }
 
-/// Whether a new cache keeps them apart, and refuses nothing. That no line of a journal is within
-/// its limits is proved.
+/// Whether a cache does. That no line of a journal is within its limits is proved.
+fn is_apart<M: Manager>(alloc: Global, cache: &mut CachingCmm<M>) -> bool {
+    cache.journal_within(&[]);
+    keeps_suites_apart(alloc, cache)
+}
+
+/// Whether a new cache does.
 fn cache_keeps_suites_apart(alloc: Global) -> bool {
     match caching(alloc) {
-        Some(mut manager) => {
-            manager.journal_within(&[]);
-            manager.refuses().is_none() && keeps_suites_apart(alloc, &mut manager)
-        }
+        Some(mut manager) => is_apart(alloc, &mut manager),
         None => false,
     }
 }

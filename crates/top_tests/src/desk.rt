@@ -26,16 +26,26 @@ fn request(alloc: Global) -> SealRequest {
     SealRequest::new(EncRequest::new(alloc, Context::new(alloc), None), 4, None)
 }
 
-/// Opens a session that seals a text with these random bytes, and answers its number. None where
-/// that fails, or the manager makes another number of wraps than one.
-fn new_sealing<M: Manager>(alloc: Global, desk: &mut Desk<M>, random: &[u8; 76]) -> Option<u64> {
+/// Opens a session that seals at this request with these random bytes, and answers its number. None
+/// where that fails, or the manager makes another number of wraps than one.
+fn sealing_at<M: Manager>(
+    alloc: Global,
+    desk: &mut Desk<M>,
+    request: &SealRequest,
+    random: &[u8; 76],
+) -> Option<u64> {
     if desk.draws() != 76 || desk.last_id() > 9 {
         return None;
     }
-    match desk.open_seal(alloc, &request(alloc), 0, random) {
+    match desk.open_seal(alloc, request, 0, random) {
         Ok(id) => Some(id),
         Err(_) => None,
     }
+}
+
+/// The same at a request for a text without pairs.
+fn new_sealing<M: Manager>(alloc: Global, desk: &mut Desk<M>, random: &[u8; 76]) -> Option<u64> {
+    sealing_at(alloc, desk, &request(alloc), random)
 }
 
 /// Opens a session that opens a message, without limits and to which no pairs are given, and
@@ -50,82 +60,73 @@ fn new_opening<M: Manager>(alloc: Global, desk: &mut Desk<M>) -> Option<u64> {
     }
 }
 
-/// A call that names a session.
-#[derive(Clone, Copy)]
-enum Call<'a> {
-    /// It is fed this piece.
-    Feed(&'a [u8]),
-    /// It is ended.
-    End,
-    /// It is dropped.
-    Drop,
-}
-
-/// What such a call answers.
-#[derive(Clone, Copy, PartialEq, Eq)]
-enum Answer {
-    /// It is done, and so many bytes were used.
-    Used(usize),
-    /// The session isn't live.
-    NotLive,
-    /// The data key isn't the committed one (M16).
-    Commitment,
-    /// Anything else.
-    Other,
-}
-
-/// What this error is.
-fn told(error: &DeskError) -> Answer {
-    match error {
-        DeskError::NotLive => Answer::NotLive,
-        DeskError::Fault(Fault::Commitment) => Answer::Commitment,
-        _ => Answer::Other,
-    }
-}
-
-/// What a desk answers where a session is fed this piece.
-fn feed<M: Manager>(alloc: Global, desk: &mut Desk<M>, id: u64, piece: &[u8]) -> Answer {
-    match desk.feed(alloc, id, 0, piece) {
-        Ok(used) => Answer::Used(used),
-        Err(error) => told(&error),
-    }
-}
-
-/// What a call answers that uses no bytes.
-fn done(answer: Result<(), DeskError>) -> Answer {
-    match answer {
-        Ok(()) => Answer::Used(0),
-        Err(error) => told(&error),
-    }
-}
-
-/// What the desk answers to a call that names this session.
-fn answer_to<M: Manager>(alloc: Global, desk: &mut Desk<M>, id: u64, call: Call) -> Answer {
-    match call {
-        Call::Feed(piece) => feed(alloc, desk, id, piece),
-        Call::End => done(desk.end(id)),
-        Call::Drop => done(desk.drop_session(id)),
-    }
-}
-
-/// Whether it answers so, and gives these bytes then.
-fn answers<M: Manager>(
+/// Whether a session uses so many bytes of a piece, and gives these then.
+fn feeds<M: Manager>(
     alloc: Global,
     desk: &mut Desk<M>,
     id: u64,
-    call: Call,
-    want: Answer,
+    piece: &[u8],
+    used: usize,
     given: &[u8],
 ) -> bool {
-    answer_to(alloc, desk, id, call) == want && desk.out() == given
+    match desk.feed(alloc, id, 0, piece) {
+        Ok(count) => count == used && desk.out() == given,
+        Err(_) => false,
+    }
+}
+
+/// The session isn't live.
+fn is_not_live_error(error: &DeskError) -> bool {
+    matches!(error, DeskError::NotLive)
+}
+
+/// The data key isn't the committed one (M16).
+fn is_commitment(error: &DeskError) -> bool {
+    matches!(error, DeskError::Fault(Fault::Commitment))
+}
+
+/// Whether a session that is fed a piece isn't live, and the desk gives nothing.
+fn feeds_none<M: Manager>(alloc: Global, desk: &mut Desk<M>, id: u64, piece: &[u8]) -> bool {
+    match desk.feed(alloc, id, 0, piece) {
+        Ok(_) => false,
+        Err(error) => is_not_live_error(&error) && desk.out().is_empty(),
+    }
+}
+
+/// Whether a session is refused with a piece, since its data key isn't the committed one, and the
+/// desk gives nothing.
+fn refuses<M: Manager>(alloc: Global, desk: &mut Desk<M>, id: u64, piece: &[u8]) -> bool {
+    match desk.feed(alloc, id, 0, piece) {
+        Ok(_) => false,
+        Err(error) => is_commitment(&error) && desk.out().is_empty(),
+    }
+}
+
+/// Whether a session ends, and gives these bytes then.
+fn ends<M: Manager>(desk: &mut Desk<M>, id: u64, given: &[u8]) -> bool {
+    desk.end(id).is_ok() && desk.out() == given
+}
+
+/// Whether a session isn't ended, since it isn't live, and the desk gives nothing.
+fn ends_none<M: Manager>(desk: &mut Desk<M>, id: u64) -> bool {
+    match desk.end(id) {
+        Ok(()) => false,
+        Err(error) => is_not_live_error(&error) && desk.out().is_empty(),
+    }
+}
+
+/// Whether a session isn't dropped, since it isn't live, and the desk gives nothing.
+fn drops_none<M: Manager>(desk: &mut Desk<M>, id: u64) -> bool {
+    match desk.drop_session(id) {
+        Ok(()) => false,
+        Err(error) => is_not_live_error(&error) && desk.out().is_empty(),
+    }
 }
 
 /// Whether each call that names this session answers that it isn't live, and the desk gives
 /// nothing.
 fn is_not_live<M: Manager>(alloc: Global, desk: &mut Desk<M>, id: u64) -> bool {
-    answers(alloc, desk, id, Call::Feed(b"1"), Answer::NotLive, &[])
-        && answers(alloc, desk, id, Call::End, Answer::NotLive, &[])
-        && answers(alloc, desk, id, Call::Drop, Answer::NotLive, &[])
+    feeds_none(alloc, desk, id, b"1") && ends_none(desk, id) && drops_none(desk, id)
 }
 
 /// The final frame of the message of no bytes: made by another implementation of the format over
@@ -135,31 +136,37 @@ const NO_BYTES: &[u8] =
     \x3c\x21\x92\x86\x83\x40\x71\xbf\x9b\xa6\xb4\x48\x94\x1d\x9f\x85";
 
 /// Whether the first session of a desk gives the final frame at its end, and isn't live then.
-fn ends<M: Manager>(alloc: Global, desk: &mut Desk<M>) -> bool {
+fn one_ends<M: Manager>(alloc: Global, desk: &mut Desk<M>) -> bool {
     new_sealing(alloc, desk, &[0x22; 76]) == Some(1)
-        && answers(alloc, desk, 1, Call::End, Answer::Used(0), NO_BYTES)
+        && ends(desk, 1, NO_BYTES)
         && is_not_live(alloc, desk, 1)
 }
 
 /// Whether the second one isn't live once it is dropped, and no session has the third number.
-fn is_dropped<M: Manager>(alloc: Global, desk: &mut Desk<M>) -> bool {
+fn one_is_dropped<M: Manager>(alloc: Global, desk: &mut Desk<M>) -> bool {
     new_opening(alloc, desk) == Some(2)
-        && answers(alloc, desk, 2, Call::Drop, Answer::Used(0), &[])
+        && desk.drop_session(2).is_ok()
+        && desk.out().is_empty()
         && is_not_live(alloc, desk, 2)
         && is_not_live(alloc, desk, 3)
 }
 
+/// Whether both are so.
+fn one_ends_and_one_is_dropped<M: Manager>(alloc: Global, desk: &mut Desk<M>) -> bool {
+    one_ends(alloc, desk) && one_is_dropped(alloc, desk)
+}
+
 /// Whether both are so at a new desk.
-fn one_ends_and_one_is_dropped(alloc: Global) -> bool {
+fn both_are_not_live(alloc: Global) -> bool {
     match known_desk(alloc) {
-        Some(mut desk) => ends(alloc, &mut desk) && is_dropped(alloc, &mut desk),
+        Some(mut desk) => one_ends_and_one_is_dropped(alloc, &mut desk),
         None => false,
     }
 }
 
 #[test]
 fn a_session_that_ended_or_was_dropped_is_not_live(rt: HostRuntime) {
-    assert!(rt; one_ends_and_one_is_dropped(rt.alloc()));
+    assert!(rt; both_are_not_live(rt.alloc()));
 }
 
 /// The byte of this number, where the last one of the commitment is altered.
@@ -167,12 +174,14 @@ fn altered(number: usize, byte: u8) -> u8 {
     if number == 153 { byte ^ 1 } else { byte }
 }
 
-/// What is answered to it: with the last byte of the header's tag the message is refused.
-fn answer_with(number: usize) -> Answer {
+/// Whether the first session takes the byte of this number of the altered message: with the last
+/// byte of the header's tag the message is refused.
+fn first_takes<M: Manager>(alloc: Global, desk: &mut Desk<M>, number: usize, byte: u8) -> bool {
+    let piece = [altered(number, byte)];
     match number {
-        0..169 => Answer::Used(1),
-        169 => Answer::Commitment,
-        _ => Answer::NotLive,
+        0..169 => feeds(alloc, desk, 1, &piece, 1, &[]),
+        169 => refuses(alloc, desk, 1, &piece),
+        _ => feeds_none(alloc, desk, 1, &piece),
     }
 }
 
@@ -189,10 +198,7 @@ fn given_with(number: usize) -> &'static [u8] {
 /// Whether this byte of its own message comes to what it should at each of the first two sessions,
 /// of which the first opens the altered message and the second the known one.
 fn take_turns<M: Manager>(alloc: Global, desk: &mut Desk<M>, number: usize, byte: u8) -> bool {
-    let first = [altered(number, byte)];
-    let (want, given) = (answer_with(number), given_with(number));
-    answers(alloc, desk, 1, Call::Feed(&first), want, &[])
-        && answers(alloc, desk, 2, Call::Feed(&[byte]), Answer::Used(1), given)
+    first_takes(alloc, desk, number, byte) && feeds(alloc, desk, 2, &[byte], 1, given_with(number))
 }
 
 /// Whether all bytes do, in turn, and the second session ends.
@@ -204,17 +210,20 @@ fn all_take_turns<M: Manager>(alloc: Global, desk: &mut Desk<M>) -> bool {
             return false;
         }
     }
-    answers(alloc, desk, 2, Call::End, Answer::Used(0), &[])
+    ends(desk, 2, &[])
+}
+
+/// Whether they do where these two are opened.
+fn two_take_turns<M: Manager>(alloc: Global, desk: &mut Desk<M>) -> bool {
+    new_opening(alloc, desk) == Some(1)
+        && new_opening(alloc, desk) == Some(2)
+        && all_take_turns(alloc, desk)
 }
 
 /// Whether they do at a new desk.
 fn neighbour_is_opened(alloc: Global) -> bool {
     match known_desk(alloc) {
-        Some(mut desk) => {
-            new_opening(alloc, &mut desk) == Some(1)
-                && new_opening(alloc, &mut desk) == Some(2)
-                && all_take_turns(alloc, &mut desk)
-        }
+        Some(mut desk) => two_take_turns(alloc, &mut desk),
         None => false,
     }
 }
@@ -310,16 +319,18 @@ fn begun<M: Manager>(alloc: Global, desk: &mut Desk<M>, place: usize) -> Option<
     })
 }
 
-/// How many bytes a session uses of its next ones, at most so many, if it isn't refused.
+/// How many bytes a session uses of its next ones, at most so many, if it isn't refused; or it ends.
 fn used_of<M: Manager>(alloc: Global, desk: &mut Desk<M>, fed: &Fed, most: usize) -> Option<usize> {
-    let call = if most == 0 {
-        Call::End
-    } else {
-        Call::Feed(next_of(fed, most))
-    };
-    match answer_to(alloc, desk, fed.id, call) {
-        Answer::Used(used) => Some(used),
-        _ => None,
+    if most == 0 {
+        return if desk.end(fed.id).is_ok() {
+            Some(0)
+        } else {
+            None
+        };
+    }
+    match desk.feed(alloc, fed.id, 0, next_of(fed, most)) {
+        Ok(used) => Some(used),
+        Err(_) => None,
     }
 }
 

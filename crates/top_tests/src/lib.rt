@@ -1,6 +1,7 @@
 //! The tests of the library's calls that no data of a program of cases shows: calls over real
-//! objects, as files, streams of std, generators and the system's clock; the forms in memory one by
-//! one; and calls that no words of the program reach. The crates of these calls have no tests of
+//! objects, as files, streams of std, generators and the system's clock; a desk by its calls, and a
+//! batch of which one call fails; each step of a sealer and of an opener, and what they answer behind
+//! an error; and calls that no words of the program reach. The crates of these calls have no tests of
 //! their own, and so each is proved once.
 #![tactic(auto)]
 
@@ -28,8 +29,6 @@ mod known_wraps;
 mod managers;
 #[cfg(test)]
 mod opening;
-#[cfg(test)]
-mod parts;
 #[cfg(test)]
 mod recalling;
 #[cfg(test)]

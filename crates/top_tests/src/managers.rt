@@ -1,16 +1,17 @@
-//! The default manager and the manager that requires keys: over boxes, over each other, and over a
-//! cache.
+//! A manager in a box, and the manager that requires keys, over another of its kind and over a
+//! cache. What the program's managers give is shown by its cases, over keyrings in boxes.
 
 use crate::asking::{COMMITTING, finds_known, gives_known, request_of, request_to_open, sealed};
 use crate::caching::caching;
 use crate::known_wraps::known_ring;
+use crate::opening::known_manager;
 use cmm_caching::CachingCmm;
 use cmm_default::{DefaultCmm, HandedCmm};
 use cmm_required::RequiredCmm;
 use context_codec::KeySet;
 use esdk_fields::Fault;
 use keyring_trait::{
-    DecMaterials, EncMaterials, EncRequest, Keyring, Manager, ManagerError, Served,
+    DecMaterials, DecRequest, EncMaterials, EncRequest, Manager, ManagerError, Served,
 };
 use raw_aes_keyring::RawAes;
 use std::alloc::Global;
@@ -22,18 +23,7 @@ fn gives_directly<M: Manager>(alloc: Global, manager: &mut M) -> bool {
         && manager.refuses().is_none()
 }
 
-/// Whether the default manager over this keyring in a box does so.
-fn boxed_ring_gives(alloc: Global, ring: RawAes) -> bool {
-    match Box::new(alloc, ring) {
-        Ok(ring) => {
-            let boxed: Box<dyn Keyring> = ring;
-            gives_directly(alloc, &mut DefaultCmm::new(boxed))
-        }
-        Err(_) => false,
-    }
-}
-
-/// Whether the default manager of this keyring in a box does.
+/// Whether the default manager of this keyring does so in a box.
 fn boxed_manager_gives(alloc: Global, ring: RawAes) -> bool {
     match Box::new(alloc, DefaultCmm::new(ring)) {
         Ok(manager) => {
@@ -41,14 +31,6 @@ fn boxed_manager_gives(alloc: Global, ring: RawAes) -> bool {
             gives_directly(alloc, &mut HandedCmm::new(boxed))
         }
         Err(_) => false,
-    }
-}
-
-/// Whether it does so over the known keyring in a box.
-fn known_boxed_ring_gives(alloc: Global) -> bool {
-    match known_ring(alloc) {
-        Some(ring) => boxed_ring_gives(alloc, ring),
-        None => false,
     }
 }
 
@@ -61,8 +43,7 @@ fn known_boxed_manager_gives(alloc: Global) -> bool {
 }
 
 #[test]
-fn boxes_give_and_find_directly(rt: HostRuntime) {
-    assert!(rt; known_boxed_ring_gives(rt.alloc()));
+fn a_boxed_manager_gives_and_finds_directly(rt: HostRuntime) {
     assert!(rt; known_boxed_manager_gives(rt.alloc()));
 }
 
@@ -83,11 +64,21 @@ fn over<M: Drop>(alloc: Global, inner: M, key: &str) -> Option<RequiredCmm<M>> {
     }
 }
 
+/// The manager that requires `zone`, over the default manager of the known key.
+fn requires_zone(alloc: Global) -> Option<RequiredCmm<DefaultCmm<RawAes>>> {
+    match known_manager(alloc) {
+        Some(manager) => over(alloc, manager, "zone"),
+        None => None,
+    }
+}
+
 /// The manager that requires `region`, over the one that requires `zone`, over the default manager
 /// of the known key.
 fn requires_two(alloc: Global) -> Option<RequiredCmm<RequiredCmm<DefaultCmm<RawAes>>>> {
-    let inner = over(alloc, DefaultCmm::new(known_ring(alloc)?), "zone")?;
-    over(alloc, inner, "region")
+    match requires_zone(alloc) {
+        Some(inner) => over(alloc, inner, "region"),
+        None => None,
+    }
 }
 
 /// The set is that of `region`, `tenant` and `zone`.
@@ -108,11 +99,20 @@ fn requiring(alloc: Global, request: &EncRequest, keys: &KeySet) -> Option<EncRe
     }
 }
 
+/// The request, where `tenant` is required. None where memory runs out.
+fn requiring_tenant(alloc: Global, request: &EncRequest) -> Option<EncRequest> {
+    match set_of(alloc, "tenant") {
+        Some(keys) => requiring(alloc, request, &keys),
+        None => None,
+    }
+}
+
 /// A request over three pairs that requires `tenant`. None where memory runs out.
 fn request_requiring(alloc: Global) -> Option<EncRequest> {
-    let keys = set_of(alloc, "tenant")?;
-    let request = request_of(alloc, &[("region", "1"), ("tenant", "2"), ("zone", "3")])?;
-    requiring(alloc, &request, &keys)
+    match request_of(alloc, &[("region", "1"), ("tenant", "2"), ("zone", "3")]) {
+        Some(request) => requiring_tenant(alloc, &request),
+        None => None,
+    }
 }
 
 /// The materials that a manager gives at this request.
@@ -148,23 +148,29 @@ fn is_zone_missing(answer: Result<DecMaterials, ManagerError>) -> bool {
     }
 }
 
-/// Whether a manager refuses nothing to write, and names `zone` as missing where `region` alone is
-/// given.
+/// Whether a manager refuses nothing to write, and names `zone` as missing at this request.
+fn misses_zone_at<M: Manager>(alloc: Global, manager: &mut M, request: &DecRequest) -> bool {
+    manager.refuses().is_none() && is_zone_missing(manager.for_decryption(alloc, request, 0))
+}
+
+/// Whether it does where `region` alone is given.
 fn misses_zone<M: Manager>(alloc: Global, manager: &mut M) -> bool {
     match request_to_open(alloc, COMMITTING, &[("region", "1")]) {
-        Some(request) => {
-            manager.refuses().is_none()
-                && is_zone_missing(manager.for_decryption(alloc, &request, 0))
-        }
+        Some(request) => misses_zone_at(alloc, manager, &request),
         None => false,
     }
+}
+
+/// Whether a manager requires all three of who writes, and names `zone` to who reads.
+fn requires_and_misses<M: Manager>(alloc: Global, manager: &mut M) -> bool {
+    requires_all(alloc, manager) && misses_zone(alloc, manager)
 }
 
 /// Whether two managers require the keys of both beside the request's, of who writes and of who
 /// reads.
 fn requires_of_both(alloc: Global) -> bool {
     match requires_two(alloc) {
-        Some(mut outer) => requires_all(alloc, &mut outer) && misses_zone(alloc, &mut outer),
+        Some(mut outer) => requires_and_misses(alloc, &mut outer),
         None => false,
     }
 }
@@ -206,12 +212,15 @@ fn over_a_cache(alloc: Global) -> Option<RequiredCmm<CachingCmm<DefaultCmm<RawAe
     }
 }
 
-/// Whether the manager over a cache passes the moments on.
+/// Whether a manager passes the moments on to a cache below.
+fn passes_on<M: Manager>(alloc: Global, manager: &mut M) -> bool {
+    passes_on_to_encrypt(alloc, manager) && passes_on_to_decrypt(alloc, manager)
+}
+
+/// Whether the manager over a cache does.
 fn moments_are_passed_on(alloc: Global) -> bool {
     match over_a_cache(alloc) {
-        Some(mut manager) => {
-            passes_on_to_encrypt(alloc, &mut manager) && passes_on_to_decrypt(alloc, &mut manager)
-        }
+        Some(mut manager) => passes_on(alloc, &mut manager),
         None => false,
     }
 }

@@ -1,5 +1,6 @@
-//! Steps of an opener: how many bytes each takes and gives, and what is told by when. What messages
-//! come to is shown by the program of cases over codecs.
+//! Steps of an opener: how many bytes each takes and gives, what is told by when, and what is
+//! answered behind an error. What messages come to in any pieces, and when each content is given, is
+//! shown by the program of cases over codecs.
 
 use crate::known_wraps::known_ring;
 use cmm_default::DefaultCmm;
@@ -55,80 +56,9 @@ fn gives<M: Manager>(
     }
 }
 
-/// Whether a step over all that is left from this offset on takes so many bytes, and gives so many.
-fn gives_from<M: Manager>(
-    alloc: Global,
-    opener: &mut Opener,
-    manager: &mut M,
-    from: usize,
-    used: usize,
-    given: usize,
-) -> bool {
-    let left = NINE_BYTES.get(from..).unwrap_or(&[]);
-    gives(alloc, opener, manager, left, used, given)
-}
-
-/// Whether the message is whole, and its end gives nothing.
-fn ends_whole(opener: &mut Opener) -> bool {
-    opener.is_whole() && opener.finish().is_ok() && opener.out().is_empty()
-}
-
-/// Whether the steps of an opener over all that is left end with the header's tag and with each
-/// frame.
-fn is_opened_unit_by_unit<M: Manager>(alloc: Global, opener: &mut Opener, manager: &mut M) -> bool {
-    gives_from(alloc, opener, manager, 0, 169, 0)
-        && gives_from(alloc, opener, manager, 169, 36, 4)
-        && gives_from(alloc, opener, manager, 205, 36, 4)
-        && gives_from(alloc, opener, manager, 241, 41, 1)
-        && ends_whole(opener)
-}
-
-/// Whether a new opener does so.
-fn ends_with_each_unit(alloc: Global) -> bool {
-    match known_manager(alloc) {
-        Some(mut manager) => is_opened_unit_by_unit(alloc, &mut new_opener(alloc), &mut manager),
-        None => false,
-    }
-}
-
-#[test]
-fn a_step_ends_with_the_header_or_with_a_unit(rt: HostRuntime) {
-    assert!(rt; ends_with_each_unit(rt.alloc()));
-}
-
-/// How many bytes are given with the byte of this number, where the message comes byte by byte.
-fn given_with(number: usize) -> usize {
-    match number {
-        205 | 241 => 4,
-        282 => 1,
-        _ => 0,
-    }
-}
-
-/// Whether the message is opened so.
-fn is_opened_byte_by_byte<M: Manager>(alloc: Global, opener: &mut Opener, manager: &mut M) -> bool {
-    let mut number = 0usize;
-    for byte in NINE_BYTES.chunks(1) {
-        number = number.saturating_add(1);
-        if !gives(alloc, opener, manager, byte, 1, given_with(number)) {
-            return false;
-        }
-    }
-    ends_whole(opener)
-}
-
-/// Whether a new opener opens it so.
-fn gives_with_the_last_byte(alloc: Global) -> bool {
-    match known_manager(alloc) {
-        Some(mut manager) => { is_opened_byte_by_byte(alloc, &mut new_opener(alloc), &mut manager) }
-        None => false,
-    }
-}
-
-/// Of a slow input each content is there as soon as its unit is.
-#[test]
-fn a_content_is_given_with_the_last_byte_of_its_unit(rt: HostRuntime) {
-    assert!(rt; gives_with_the_last_byte(rt.alloc()));
+/// The known message from this offset on.
+fn left_from(from: usize) -> &'static [u8] {
+    NINE_BYTES.get(from..).unwrap_or(&[])
 }
 
 /// Nothing is told of the materials.
@@ -141,38 +71,76 @@ fn tells_all(opener: &Opener) -> bool {
     opener.context().is_some() && opener.only().is_some() && opener.served() == Some(Served::Direct)
 }
 
-/// Whether the last byte of the header's tag tells them.
+/// Whether a step over all that is left behind the last byte but one of the header's tag takes that
+/// last byte alone, and the materials are told with it.
 fn tells_with_the_tag<M: Manager>(alloc: Global, opener: &mut Opener, manager: &mut M) -> bool {
     let front = NINE_BYTES.get(..168).unwrap_or(&[]);
-    let last = NINE_BYTES.get(168..169).unwrap_or(&[]);
     gives(alloc, opener, manager, front, 168, 0)
         && tells_nothing(opener)
-        && gives(alloc, opener, manager, last, 1, 0)
+        && gives(alloc, opener, manager, left_from(168), 1, 0)
         && tells_all(opener)
 }
 
-/// Whether an opener tells them so, and hands the whole context out.
-fn hands_out<M: Manager>(alloc: Global, mut opener: Opener, manager: &mut M) -> bool {
-    tells_with_the_tag(alloc, &mut opener, manager) && opener.into_context().is_some()
+/// Whether each step over all that is left ends with a frame, and the message is whole then.
+fn ends_with_each_frame<M: Manager>(alloc: Global, opener: &mut Opener, manager: &mut M) -> bool {
+    gives(alloc, opener, manager, left_from(169), 36, 4)
+        && gives(alloc, opener, manager, left_from(205), 36, 4)
+        && gives(alloc, opener, manager, left_from(241), 41, 1)
+        && ends_whole(opener)
+}
+
+/// Whether the message is whole, and its end gives nothing.
+fn ends_whole(opener: &mut Opener) -> bool {
+    opener.is_whole() && opener.finish().is_ok() && opener.out().is_empty()
+}
+
+/// Whether an opener does all that.
+fn is_opened<M: Manager>(alloc: Global, opener: &mut Opener, manager: &mut M) -> bool {
+    tells_with_the_tag(alloc, opener, manager) && ends_with_each_frame(alloc, opener, manager)
+}
+
+/// Whether an opener does, and hands the whole context out.
+fn is_opened_unit_by_unit<M: Manager>(alloc: Global, mut opener: Opener, manager: &mut M) -> bool {
+    is_opened(alloc, &mut opener, manager) && opener.into_context().is_some()
 }
 
 /// Whether a new opener does so.
-fn tells_with_the_header(alloc: Global) -> bool {
+fn new_opener_ends_with_each_unit(alloc: Global) -> bool {
     match known_manager(alloc) {
-        Some(mut manager) => hands_out(alloc, new_opener(alloc), &mut manager),
+        Some(mut manager) => is_opened_unit_by_unit(alloc, new_opener(alloc), &mut manager),
         None => false,
     }
 }
 
 #[test]
-fn the_context_is_told_once_the_header_is_unlocked(rt: HostRuntime) {
-    assert!(rt; tells_with_the_header(rt.alloc()));
+fn a_step_ends_with_the_header_or_with_a_unit(rt: HostRuntime) {
+    assert!(rt; new_opener_ends_with_each_unit(rt.alloc()));
+}
+
+/// The opener was stopped before.
+fn is_stop(error: &OpenError) -> bool {
+    matches!(error, OpenError::Stopped)
+}
+
+/// Whether a step is stopped.
+fn step_is_stopped<M: Manager>(alloc: Global, opener: &mut Opener, manager: &mut M) -> bool {
+    match opener.step(alloc, manager, 0, NINE_BYTES) {
+        Ok(_) => false,
+        Err(error) => is_stop(&error),
+    }
+}
+
+/// Whether the end is stopped.
+fn end_is_stopped(opener: &mut Opener) -> bool {
+    match opener.finish() {
+        Ok(()) => false,
+        Err(error) => is_stop(&error),
+    }
 }
 
 /// Whether a step and the end are stopped.
 fn is_stopped<M: Manager>(alloc: Global, opener: &mut Opener, manager: &mut M) -> bool {
-    let step = opener.step(alloc, manager, 0, NINE_BYTES);
-    matches!(step, Err(OpenError::Stopped)) && matches!(opener.finish(), Err(OpenError::Stopped))
+    step_is_stopped(alloc, opener, manager) && end_is_stopped(opener)
 }
 
 /// Whether a message of the version 3 is refused, and stops the opener.
@@ -185,13 +153,25 @@ fn end_stops<M: Manager>(alloc: Global, opener: &mut Opener, manager: &mut M) ->
     opener.finish().is_err() && is_stopped(alloc, opener, manager)
 }
 
-/// Whether both stop a new opener.
+/// Whether a refusal stops a new opener.
+fn refusal_stops_a_new_one<M: Manager>(alloc: Global, manager: &mut M) -> bool {
+    refusal_stops(alloc, &mut new_opener(alloc), manager)
+}
+
+/// Whether the end does.
+fn end_stops_a_new_one<M: Manager>(alloc: Global, manager: &mut M) -> bool {
+    end_stops(alloc, &mut new_opener(alloc), manager)
+}
+
+/// Whether both do.
+fn both_stop<M: Manager>(alloc: Global, manager: &mut M) -> bool {
+    refusal_stops_a_new_one(alloc, manager) && end_stops_a_new_one(alloc, manager)
+}
+
+/// Whether both do under the known keyring.
 fn errors_stop(alloc: Global) -> bool {
     match known_manager(alloc) {
-        Some(mut manager) => {
-            refusal_stops(alloc, &mut new_opener(alloc), &mut manager)
-                && end_stops(alloc, &mut new_opener(alloc), &mut manager)
-        }
+        Some(mut manager) => both_stop(alloc, &mut manager),
         None => false,
     }
 }

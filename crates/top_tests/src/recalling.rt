@@ -2,8 +2,9 @@
 //! of this one it isn't.
 
 use crate::asking::gives_known;
-use crate::known_wraps::known_ring;
-use cmm_caching::{CacheLimits, CachingCmm};
+use crate::caching::behind_a_cache;
+use crate::opening::known_manager;
+use cmm_caching::CachingCmm;
 use cmm_default::DefaultCmm;
 use keyring_trait::{
     DataKey, DecMaterials, DecRequest, EncMaterials, EncRequest, Manager, ManagerError,
@@ -27,6 +28,9 @@ struct Recalling<M> {
     gave: Option<Recalled>,
     found: Option<Recalled>,
 }
+
+/// A recalling manager behind a cache.
+type Cached = CachingCmm<Recalling<DefaultCmm<RawAes>>>;
 
 impl<M: Manager> Manager for Recalling<M> {
     ghost use Rattle.std.specs.Prelude.{◌≡◌, Some};
@@ -87,15 +91,20 @@ impl<M: Manager> Manager for Recalling<M> {
 }
 
 /// The recalling manager behind a cache, whose entries serve for ten seconds.
-fn behind_a_cache(alloc: Global) -> Option<CachingCmm<Recalling<DefaultCmm<RawAes>>>> {
+fn cached_over(alloc: Global, manager: DefaultCmm<RawAes>) -> Option<Cached> {
     let inner = Recalling {
-        manager: DefaultCmm::new(known_ring(alloc)?),
+        manager,
         gave: None,
         found: None,
     };
-    match CachingCmm::new(alloc, inner, CacheLimits::new(5, 10, 10, 1000)) {
-        Ok(manager) => Some(manager),
-        Err(_) => None,
+    behind_a_cache(alloc, inner)
+}
+
+/// A new one.
+fn new_cached(alloc: Global) -> Option<Cached> {
+    match known_manager(alloc) {
+        Some(manager) => cached_over(alloc, manager),
+        None => None,
     }
 }
 
@@ -105,22 +114,34 @@ fn is_asked_twice<M: Manager>(alloc: Global, manager: &mut M, now: u64, served: 
     gives_known(alloc, manager, 2, Served::New(1)) && gives_known(alloc, manager, now, served)
 }
 
-/// The moment that the manager behind a cache recalls.
-fn moment_behind<M: Manager>(manager: CachingCmm<Recalling<M>>) -> Option<u64> {
-    Some(manager.into_inner().gave?.moment)
+/// Whether this moment was recalled.
+fn is_moment(gave: Option<Recalled>, moment: u64) -> bool {
+    match gave {
+        Some(gave) => gave.moment == moment,
+        None => false,
+    }
 }
 
-/// The moment that it recalls once it was asked twice.
-fn moment_recalled(alloc: Global, now: u64, served: Served) -> Option<u64> {
-    let mut manager = behind_a_cache(alloc)?;
-    if !is_asked_twice(alloc, &mut manager, now, served) {
-        return None;
+/// Whether the manager behind a cache recalls this moment.
+fn recalls_behind(manager: Cached, moment: u64) -> bool {
+    is_moment(manager.into_inner().gave, moment)
+}
+
+/// Whether it recalls it once it was asked twice.
+fn recalls(alloc: Global, mut manager: Cached, now: u64, served: Served, moment: u64) -> bool {
+    is_asked_twice(alloc, &mut manager, now, served) && recalls_behind(manager, moment)
+}
+
+/// Whether a new one does.
+fn new_recalls(alloc: Global, now: u64, served: Served, moment: u64) -> bool {
+    match new_cached(alloc) {
+        Some(manager) => recalls(alloc, manager, now, served, moment),
+        None => false,
     }
-    moment_behind(manager)
 }
 
 #[test]
 fn the_manager_behind_a_cache_recalls_what_it_was_asked(rt: HostRuntime) {
-    assert!(rt; moment_recalled(rt.alloc(), 9, Served::Hit(1)) == Some(2));
-    assert!(rt; moment_recalled(rt.alloc(), 12, Served::New(2)) == Some(12));
+    assert!(rt; new_recalls(rt.alloc(), 9, Served::Hit(1), 2));
+    assert!(rt; new_recalls(rt.alloc(), 12, Served::New(2), 12));
 }

@@ -1,5 +1,6 @@
-//! Steps of a sealer: how many bytes each uses and gives. What texts come to is shown by the
-//! program of cases over codecs.
+//! Steps of a sealer that no text alone shows: over no bytes, and behind the end or a refusal. What
+//! texts come to in any pieces, and when each frame is given, is shown by the program of cases over
+//! codecs.
 
 use crate::asking::{request_of, sealed};
 use crate::known_wraps::known_ring;
@@ -8,12 +9,6 @@ use esdk_fields::Refusal;
 use keyring_trait::{EncMaterials, EncRequest};
 use std::alloc::Global;
 use stream_seal::{SealError, Sealer};
-
-/// 50 letters a.
-const LETTERS_A: &str = "aaaaaaaaaaaaaaaaaaaaaaaaaaaaaaaaaaaaaaaaaaaaaaaaaa";
-
-/// 50 letters b.
-const LETTERS_B: &str = "bbbbbbbbbbbbbbbbbbbbbbbbbbbbbbbbbbbbbbbbbbbbbbbbbb";
 
 /// The materials that the default manager of the known key gives at a request.
 fn materials_at(alloc: Global, request: &EncRequest) -> Option<EncMaterials> {
@@ -31,112 +26,110 @@ fn materials(alloc: Global) -> Option<EncMaterials> {
     }
 }
 
-/// A sealer that has begun a message, of which so many bytes are declared, in frames of so many
-/// bytes, or of one.
-fn begun(alloc: Global, declared: Option<u64>, frame_length: u32) -> Option<Sealer> {
-    let materials = materials(alloc)?;
-    let frame = frame_length.max(1);
-    match Sealer::begin(alloc, &materials, declared, frame, Some(1), &[0x22; 32]) {
+/// A sealer that has begun a message with these materials, in frames of 4 bytes.
+fn begun_with(alloc: Global, materials: &EncMaterials, declared: Option<u64>) -> Option<Sealer> {
+    match Sealer::begin(alloc, materials, declared, 4, Some(1), &[0x22; 32]) {
         Ok(sealer) => Some(sealer),
         Err(_) => None,
     }
 }
 
-/// Whether each step uses so many bytes of its piece and gives so many.
-fn steps_give(sealer: &mut Sealer, steps: &[(&str, usize, usize)]) -> bool {
-    for (piece, used, given) in steps {
-        match sealer.step(piece.as_bytes()) {
-            Ok(count) if count == *used && sealer.out().len() == *given => {}
-            _ => return false,
-        }
+/// A sealer that has begun a message, of which so many bytes are declared, in frames of 4 bytes.
+fn begun(alloc: Global, declared: Option<u64>) -> Option<Sealer> {
+    match materials(alloc) {
+        Some(materials) => begun_with(alloc, &materials, declared),
+        None => None,
     }
-    true
 }
 
-/// Whether a step and an end are stopped, and give nothing.
+/// Whether a step uses so many bytes of its piece and gives so many.
+fn gives(sealer: &mut Sealer, piece: &[u8], used: usize, given: usize) -> bool {
+    match sealer.step(piece) {
+        Ok(count) => count == used && sealer.out().len() == given,
+        Err(_) => false,
+    }
+}
+
+/// The sealer was stopped before.
+fn is_stop(error: &SealError) -> bool {
+    matches!(error, SealError::Stopped)
+}
+
+/// Whether a step is stopped, and gives nothing.
+fn step_is_stopped(sealer: &mut Sealer) -> bool {
+    match sealer.step(b"1") {
+        Ok(_) => false,
+        Err(error) => is_stop(&error) && sealer.out().is_empty(),
+    }
+}
+
+/// Whether the end is stopped, and gives nothing.
+fn end_is_stopped(sealer: &mut Sealer) -> bool {
+    match sealer.finish() {
+        Ok(()) => false,
+        Err(error) => is_stop(&error) && sealer.out().is_empty(),
+    }
+}
+
+/// Whether a step and an end are stopped.
 fn is_stopped(sealer: &mut Sealer) -> bool {
-    matches!(sealer.step(b"1"), Err(SealError::Stopped))
-        && sealer.out().is_empty()
-        && matches!(sealer.finish(), Err(SealError::Stopped))
-        && sealer.out().is_empty()
+    step_is_stopped(sealer) && end_is_stopped(sealer)
 }
 
-/// Whether the end gives so many bytes, and stops the sealer.
-fn ends(sealer: &mut Sealer, given: usize) -> bool {
-    sealer.finish().is_ok() && sealer.out().len() == given && is_stopped(sealer)
+/// Whether the end gives a frame of one byte, and stops the sealer.
+fn ends(sealer: &mut Sealer) -> bool {
+    sealer.finish().is_ok() && sealer.out().len() == 41 && is_stopped(sealer)
 }
 
-/// Whether steps of a new message use and give so many bytes, and its end so many.
-fn new_steps_give(
-    alloc: Global,
-    declared: Option<u64>,
-    frame_length: u32,
-    steps: &[(&str, usize, usize)],
-    last: usize,
-) -> bool {
-    match begun(alloc, declared, frame_length) {
-        Some(mut sealer) => steps_give(&mut sealer, steps) && ends(&mut sealer, last),
+/// Whether a frame is given once a byte comes behind it, which isn't taken then, and a step over no
+/// bytes uses and gives none.
+fn steps_end_with_a_frame(sealer: &mut Sealer) -> bool {
+    gives(sealer, b"12345", 4, 0)
+        && gives(sealer, b"", 0, 0)
+        && gives(sealer, b"5", 0, 36)
+        && gives(sealer, b"5", 1, 0)
+}
+
+/// Whether it does so, and its end stops it.
+fn steps_end(sealer: &mut Sealer) -> bool {
+    steps_end_with_a_frame(sealer) && ends(sealer)
+}
+
+/// Whether a new sealer does so.
+fn new_steps_end(alloc: Global) -> bool {
+    match begun(alloc, None) {
+        Some(mut sealer) => steps_end(&mut sealer),
         None => false,
     }
 }
 
-/// Pieces end before, at and behind the ends of frames.
 #[test]
-fn pieces_are_used_up_to_the_end_of_a_frame(rt: HostRuntime) {
-    let across = [
-        ("12345", 4, 0),
-        ("", 0, 0),
-        ("5", 0, 36),
-        ("5", 1, 0),
-        ("6789", 3, 0),
-        ("9", 0, 36),
-        ("90123", 4, 0),
-        ("3", 0, 36),
-        ("3", 1, 0),
-    ];
-    let longer = [
-        (LETTERS_A, 40, 0),
-        ("aaaaaaaaaa", 0, 72),
-        ("aaaaaaaaaa", 10, 0),
-        (LETTERS_B, 30, 0),
-        ("bbbbbbbbbbbbbbbbbbbb", 0, 72),
-        ("bbbbbbbbbbbbbbbbbbbb", 20, 0),
-    ];
-    assert!(rt; new_steps_give(rt.alloc(), None, 4, &across, 41));
-    assert!(rt; new_steps_give(rt.alloc(), Some(101), 40, &longer, 60));
+fn a_step_uses_a_piece_up_to_the_end_of_a_frame(rt: HostRuntime) {
+    assert!(rt; new_steps_end(rt.alloc()));
 }
 
-/// A frame is given once a byte comes behind it, also where that byte isn't taken then. Fewer bytes
-/// than declared are a message too.
-#[test]
-fn the_end_gives_what_is_held(rt: HostRuntime) {
-    let given = [
-        ("1234", 4, 0),
-        ("5678", 0, 36),
-        ("5678", 4, 0),
-        ("9", 0, 36),
-    ];
-    let declared = [("1234", 4, 0), ("56789", 0, 36), ("56789", 4, 0)];
-    assert!(rt; new_steps_give(rt.alloc(), None, 4, &given, 40));
-    assert!(rt; new_steps_give(rt.alloc(), Some(8), 4, &declared, 44));
-    assert!(rt; new_steps_give(rt.alloc(), Some(3), 4096, &[("12", 2, 0)], 42));
+/// The error is Q10 with the number 3.
+fn is_over_three(error: &SealError) -> bool {
+    matches!(error, SealError::Refusal(Refusal::OverDeclared(3)))
 }
 
-/// The answer is Q10 with the number 3.
-fn is_over_three(answer: Result<usize, SealError>) -> bool {
-    matches!(answer, Err(SealError::Refusal(Refusal::OverDeclared(3))))
+/// Whether a step is refused as over three bytes, and gives nothing.
+fn step_is_refused(sealer: &mut Sealer) -> bool {
+    match sealer.step(b"4") {
+        Ok(_) => false,
+        Err(error) => is_over_three(&error) && sealer.out().is_empty(),
+    }
 }
 
-/// Whether the byte after three declared ones is refused, and stops the sealer, which gives
-/// nothing.
+/// Whether the byte after three declared ones is refused, and stops a sealer.
+fn stops(sealer: &mut Sealer) -> bool {
+    gives(sealer, b"1234", 3, 0) && step_is_refused(sealer) && is_stopped(sealer)
+}
+
+/// Whether it stops a new sealer.
 fn stops_behind_three(alloc: Global) -> bool {
-    match begun(alloc, Some(3), 4096) {
-        Some(mut sealer) => {
-            steps_give(&mut sealer, &[("1234", 3, 0)])
-                && is_over_three(sealer.step(b"4"))
-                && sealer.out().is_empty()
-                && is_stopped(&mut sealer)
-        }
+    match begun(alloc, Some(3)) {
+        Some(mut sealer) => stops(&mut sealer),
         None => false,
     }
 }

@@ -6,6 +6,7 @@ use crate::opening::known_manager;
 use desk_core::Desk;
 use esdk_base::{Entropy, Shelf};
 use esdk_batch::{BatchReport, Jobs, read_jobs, report_text, run_batch};
+use esdk_fields::Blob;
 use esdk_memory::{ListClock, ListEntropy, MemShelf};
 use keyring_trait::Manager;
 use std::alloc::Global;
@@ -31,17 +32,18 @@ fn takes_files(alloc: Global, shelf: &mut MemShelf) -> bool {
         && shelf.room(alloc, "d", 300).is_ok()
 }
 
-/// A shelf with them, whose call of this number fails alone.
-fn shelf_failing(alloc: Global, call: u64) -> Option<MemShelf> {
-    let mut shelf = MemShelf::new(alloc, numbers(alloc, &[call])?);
-    if takes_files(alloc, &mut shelf) {
-        Some(shelf)
-    } else {
-        None
+/// What is told of them where the second one fails alone.
+const SECOND_FAILED: &str = "job 1 encrypt done direct\njob 2 encrypt X3 ShelfFault direct\n";
+
+/// Whether a report tells that.
+fn tells_of_the_second(alloc: Global, report: &BatchReport) -> bool {
+    match report_text(alloc, report) {
+        Ok(told) => told.bytes() == SECOND_FAILED.as_bytes(),
+        Err(_) => false,
     }
 }
 
-/// The report of the jobs over a desk of this manager.
+/// The report of the jobs over a new desk of this manager.
 fn report_over<M: Manager, F: Shelf, W: Entropy>(
     alloc: Global,
     jobs: &Jobs,
@@ -57,37 +59,62 @@ fn report_over<M: Manager, F: Shelf, W: Entropy>(
     }
 }
 
-/// The report of the two jobs where the shelf's call of this number fails.
-fn report_failing(alloc: Global, call: u64) -> Option<BatchReport> {
-    let jobs = two_jobs(alloc)?;
-    let mut shelf = shelf_failing(alloc, call)?;
-    let mut entropy = ListEntropy::new(blob(alloc, &[0x22; 152])?, Vec::new(alloc));
-    report_over(
-        alloc,
-        &jobs,
-        known_manager(alloc)?,
-        &mut shelf,
-        &mut entropy,
-    )
+/// Whether the second of the jobs fails alone over a desk of this manager.
+fn second_fails_over<M: Manager, F: Shelf, W: Entropy>(
+    alloc: Global,
+    jobs: &Jobs,
+    manager: M,
+    shelf: &mut F,
+    entropy: &mut W,
+) -> bool {
+    match report_over(alloc, jobs, manager, shelf, entropy) {
+        Some(report) => tells_of_the_second(alloc, &report),
+        None => false,
+    }
 }
 
-/// Whether the text of the report is this.
-fn tells(alloc: Global, report: &BatchReport, text: &str) -> bool {
-    match report_text(alloc, report) {
-        Ok(told) => told.bytes() == text.as_bytes(),
-        Err(_) => false,
+/// Whether it does over that of the known keyring.
+fn second_fails_at_a_desk<F: Shelf, W: Entropy>(
+    alloc: Global,
+    jobs: &Jobs,
+    shelf: &mut F,
+    entropy: &mut W,
+) -> bool {
+    match known_manager(alloc) {
+        Some(manager) => second_fails_over(alloc, jobs, manager, shelf, entropy),
+        None => false,
     }
+}
+
+/// Whether it does where the files stand on this shelf.
+fn second_fails_with<W: Entropy>(
+    alloc: Global,
+    jobs: &Jobs,
+    shelf: &mut MemShelf,
+    entropy: &mut W,
+) -> bool {
+    takes_files(alloc, shelf) && second_fails_at_a_desk(alloc, jobs, shelf, entropy)
+}
+
+/// Whether the second of the two jobs does.
+fn second_of_two_fails<W: Entropy>(alloc: Global, shelf: &mut MemShelf, entropy: &mut W) -> bool {
+    match two_jobs(alloc) {
+        Some(jobs) => second_fails_with(alloc, &jobs, shelf, entropy),
+        None => false,
+    }
+}
+
+/// Whether it does over a shelf these of whose calls fail.
+fn second_fails_failing(alloc: Global, failing: Vec<u64>, bytes: Blob) -> bool {
+    let mut entropy = ListEntropy::new(bytes, Vec::new(alloc));
+    second_of_two_fails(alloc, &mut MemShelf::new(alloc, failing), &mut entropy)
 }
 
 /// Whether the second job fails alone where the shelf's call of this number does.
 fn second_fails(alloc: Global, call: u64) -> bool {
-    match report_failing(alloc, call) {
-        Some(report) => tells(
-            alloc,
-            &report,
-            "job 1 encrypt done direct\njob 2 encrypt X3 ShelfFault direct\n",
-        ),
-        None => false,
+    match (numbers(alloc, &[call]), blob(alloc, &[0x22; 152])) {
+        (Some(failing), Some(bytes)) => second_fails_failing(alloc, failing, bytes),
+        _ => false,
     }
 }
 
