@@ -83,3 +83,27 @@ stands_found reader next v piece bytes h had used end left stands on none had-is
   where
     some_found : (x : HeaderValue) → Some x ≡ None → ⊥
     some_found x e = cc
+
+-- while no header was found and more bytes are wanted, the whole piece is used, and nothing is ready
+pub answer_wanting : (reader : HeaderReader) (v : Session) (piece : List ℕ) → Stands reader v → reader.stopped ≡ false → false ≡ is_some reader.found
+    → header reader.intake.settings (start (reader.intake.taken ++ piece)) ≡ Wanting → answer v piece ≡ Ok (record { used = length piece; ready = false })
+answer_wanting reader v piece stands on none waits =
+    let off : v.stopped ≡ false = sym stands.stopped ∙ on in
+    let same : reader.intake.taken ≡ v.taken = stands.taken off (none_found reader.found none) in
+    let waiting : header v.settings (start (v.taken ++ piece)) ≡ Wanting = rw (stands.settings, same) at waits in
+    rw (off, waiting) refl
+
+-- what is shown doesn't tell whether the session is stopped
+shows_stopped : (v : Session) (o : Option HeaderValue) → ShowsHeader v o → ShowsHeader (record v { stopped = true }) o
+shows_stopped v None shows = shows
+shows_stopped v (Some h) shows = shows
+
+-- a reader that met an error stands for the session that it stopped
+pub stands_stopped : (reader next : HeaderReader) (v : Session) → Stands reader v → next.intake.settings ≡ reader.intake.settings → next.stopped ≡ true → next.found ≡ reader.found
+    → Stands next (record v { stopped = true })
+stands_stopped reader next v stands settings stopped found = record {
+  settings = settings ∙ stands.settings;
+  stopped = stopped;
+  taken = λ on none. absurd cc;
+  found = subst (λ (o : Option HeaderValue). ShowsHeader (record v { stopped = true }) o) (sym found) (shows_stopped v reader.found stands.found);
+}

@@ -1,5 +1,5 @@
 -- The entry of the request's name gives its materials, which fit the request.
-use Rattle.std.proofs.Common.{option_map, sym, ◌∙◌}
+use Rattle.std.proofs.Common.{option_map, refl, sym, ◌∙◌}
 use Rattle.keyring_trait.specs.declared.served.Served.TheVariants.{Hit}
 use Rattle.cmm_caching.specs.Names.{enc_name}
 use Rattle.cmm_caching.specs.Ask.{enc_handed, enc_wish}
@@ -22,3 +22,12 @@ returns-in-Some-clause-fits g c =
     enc_handed_so (FitsSeal (g.M.Manager.meaning c.args.inner.now).wraps (enc_name c.args.request.now)) c.into_sealing.result c.in-Some.given (Hit c.in-Some.number)
     c.into_sealing.ensures
     (name_fits _ c.args.cache.now c.args.request.now _ c.in-Some.given c.requires.within c.in_ok-name.ensures (rw c.in-Some.is at c.in_ok-given.ensures.fits))
+
+pub returns-in-Some-clause-spares : goal.returns-in-Some-clause-spares
+returns-in-Some-clause-spares g c = λ _ _ k _. refl
+
+pub returns-in-Some-clause-certain : goal.returns-in-Some-clause-certain
+returns-in-Some-clause-certain g c = λ _ _ k _. tt
+
+pub returns-in-Some-clause-cause : goal.returns-in-Some-clause-cause
+returns-in-Some-clause-cause g c = tt

@@ -1,4 +1,4 @@
-use Rattle.std.proofs.Common.{rules, arith}
+use Rattle.std.proofs.Common.{rules}
 use Rattle.esdk_batch.proofs.Named.{puts, puts_keep, puts_none}
 use Rattle.esdk_batch.proofs.files.put.Goals as goal
 

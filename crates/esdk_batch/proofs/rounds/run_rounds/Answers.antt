@@ -3,6 +3,9 @@ use Rattle.std.proofs.Common.{arith}
 use Rattle.esdk_batch.proofs.Windows.{rounds_more}
 use Rattle.esdk_batch.proofs.rounds.run_rounds.Goals as goal
 
+pub run_round-requires-clause-opened : goal.run_round-requires-clause-opened
+run_round-requires-clause-opened g c = c.loop-first.invariant.on.opened
+
 pub loop-first-preserved : goal.loop-first-preserved
 loop-first-preserved g c =
     let round = c.in_ok-run_round.ensures in

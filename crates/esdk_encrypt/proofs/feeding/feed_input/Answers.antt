@@ -5,7 +5,7 @@ use Rattle.stream_seal.specs.Feeding.{IsFed}
 use Rattle.stream_seal.specs.Session.{SealingValue}
 use Rattle.stream_seal.specs.Stands.{Stands}
 use Rattle.esdk_encrypt.specs.Feeding.{FeedsPiece}
-use Rattle.esdk_encrypt.proofs.Input.{fed_sealer, feeding_fails, feeding_more}
+use Rattle.esdk_encrypt.proofs.Input.{fed_sealer, feeding_fails, feeding_more, input_ends, input_fails, input_long}
 use Rattle.esdk_encrypt.proofs.feeding.feed_input.Goals as goal
 
 -- of the sealer that was handed in, where nothing is known of the bytes that the output has
@@ -35,3 +35,20 @@ returns-in_err-feed-in-Ok-clause-feeds g c = λ m size id first wide stands gain
     (subst (λ (piece : List ℕ). (v : SealingValue) → Stands c.loop-sealer.sealer v → IsFed v
     → FeedsPiece {T = Unit {0}} v piece (g.O.Sink.state c.loop-sealer.output) (g.O.Sink.state c.feed.new.output) c.feed.new.sealer (Err c.in_err-feed-in-Ok.field-0.0)) c.piece.ensures c.in_err-feed-in-Ok.ensures)
     )
+
+-- the input's end was seen, a read failed, or too many bytes came
+
+pub returns-in-Err-Seen-clause-feeds : goal.returns-in-Err-Seen-clause-feeds
+returns-in-Err-Seen-clause-feeds g c = λ m size id first wide stands gained kept.
+    let next = rw c.in-Err-Seen.field-0-is at c.in-Err-Seen.ensures.next in
+    input_ends m size id wide _ _ first _ _ _ (c.loop-sealer.invariant.feeds m size id first wide stands gained kept) _ next.0 next.1 next.2 next.3
+
+pub returns-in-Err-Failed-clause-feeds : goal.returns-in-Err-Failed-clause-feeds
+returns-in-Err-Failed-clause-feeds g c = λ m size id first wide stands gained kept.
+    let next = rw c.in-Err-Failed.field-0-is at c.in-Err-Failed.ensures.next in
+    input_fails m size id wide _ _ first _ _ _ (c.loop-sealer.invariant.feeds m size id first wide stands gained kept) _ next.0 next.1
+
+pub returns-in-Err-TooLong-clause-feeds : goal.returns-in-Err-TooLong-clause-feeds
+returns-in-Err-TooLong-clause-feeds g c = λ m size id first wide stands gained kept.
+    let next = rw c.in-Err-TooLong.field-0-is at c.in-Err-TooLong.ensures.next in
+    input_long m size id wide _ _ first _ _ _ (c.loop-sealer.invariant.feeds m size id first wide stands gained kept) _ next.0 next.1

@@ -25,3 +25,9 @@ returns-clause-output g c =
     let shows = c.in-Some.ensures (session_of limits holds.holds.taken) holds.holds.stands in
     lists_front c.args.uncommitted _ _ _ _ c.in-Some.header.now c.bytes.result.now (shows_came c.args.uncommitted c.in-Ok.reader _ _ holds c.in-Some.header.now shows) (c.bytes.ensures ∙ c.in_ok-text.ensures)
     c.in-Err-put.ensures.bytes
+
+pub returns-clause-done : goal.returns-clause-done
+returns-clause-done g c = tt
+
+pub returns-clause-cause : goal.returns-clause-cause
+returns-clause-cause g c = c.in-Err-put.ensures.cause.failed

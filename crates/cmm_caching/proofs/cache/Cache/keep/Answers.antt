@@ -8,3 +8,6 @@ pub invariant_of-self-2 : goal.invariant_of-self-2
 invariant_of-self-2 c =
     new_valid c.self.inside.limits c.self.inside.width c.self.inside.entries c.put_first.new.entries c.self.inside.next (asked_for c.args.name c.args.declared) c.args.now
     c.args.given c.new.result c.self.invariant (search rules) (search rules) c.new.ensures c.in_ok-put_first.ensures.ok
+
+pub returns-clause-ok : goal.returns-clause-ok
+returns-clause-ok c = search rules

@@ -1,5 +1,6 @@
 -- What the inner manager answers, where all keys are there; else Q4.
-use Rattle.std.proofs.Common.{rules}
+use Rattle.std.proofs.Common.{◌≡◌, Some, refl, rules}
+use Rattle.keyring_trait.specs.Requests.{required_absent}
 use Rattle.cmm_required.proofs.Encrypting.{refuses_absent, requires_own, gives_required, gives_none_required}
 use Rattle.cmm_required.proofs.required_cmm.RequiredCmmManager.for_encryption.Goals as goal
 
@@ -18,3 +19,29 @@ returns-in-Err-Refusal-clause-cause g c = refuses_absent c.args.self.now.1 (g.M.
 pub returns-in-Ok-clause-required : goal.returns-in-Ok-clause-required
 returns-in-Ok-clause-required g c =
     rw (← c.self.view_is) (requires_own c.self.inside.keys _ _ _ c.args.request.now _ _ c.for_encryption.result c.in-Ok.ensures.request c.for_encryption.ensures.gives)
+
+pub returns-in-Ok-clause-bears : goal.returns-in-Ok-clause-bears
+returns-in-Ok-clause-bears g c = rw (← c.self.view_is) (rw c.in-Ok.ensures.request at c.for_encryption.ensures.bears)
+
+pub returns-in-Ok-clause-gave : goal.returns-in-Ok-clause-gave
+returns-in-Ok-clause-gave g c = rw (← c.in-Ok.ensures.request) c.for_encryption.ensures.gave
+
+-- where a key is absent, there are no materials, and nobody was asked
+pub returns-in-Err-Refusal-clause-gives : goal.returns-in-Err-Refusal-clause-gives
+returns-in-Err-Refusal-clause-gives g c = tt
+
+pub returns-in-Err-Refusal-clause-gave : goal.returns-in-Err-Refusal-clause-gave
+returns-in-Err-Refusal-clause-gave g c = tt
+
+pub returns-in-Err-Refusal-clause-required : goal.returns-in-Err-Refusal-clause-required
+returns-in-Err-Refusal-clause-required g c = tt
+
+pub returns-in-Err-Refusal-clause-absent : goal.returns-in-Err-Refusal-clause-absent
+returns-in-Err-Refusal-clause-absent g c =
+    let absent : required_absent c.args.request.now.context c.args.self.now.1 ≡ Some c.in-Err-Refusal.refusal = search rules in
+    rw absent (search rules)
+
+pub returns-in-Err-Refusal-clause-unasked : goal.returns-in-Err-Refusal-clause-unasked
+returns-in-Err-Refusal-clause-unasked g c =
+    let absent : required_absent c.args.request.now.context c.args.self.now.1 ≡ Some c.in-Err-Refusal.refusal = search rules in
+    rw absent refl

@@ -1,0 +1,6 @@
+-- The name has the request's parts.
+use Rattle.std.proofs.Common.{rules}
+use Rattle.cmm_caching.proofs.names.Name.to_decrypt.Goals as goal
+
+pub returns : goal.returns
+returns c = search rules
