@@ -2,7 +2,7 @@
 use Rattle.std.proofs.Common.{◌≡◌, ◌≢◌, ◌<◌, ◌≤◌, ◌+◌, ◌-◌, ◌^◌, ℕ, zero, suc, Bool, true, false, List, [], length, take, get_or, set, refl, sym, ap, subst, ◌∙◌, inl, inr, arith, length-set, get_or-set_other, get_or-set_same}
 use Rattle.std.specs.Prelude.{◌⊎◌, All, Option, Some, None, is_some, sum_by}
 use Rattle.std.proofs.lemmas.Bool.{cases_eq, cases_lt}
-use Rattle.std.proofs.lemmas.List.{get_or_read}
+use Rattle.std.proofs.lemmas.List.{get_or_read, take-set-le}
 use Rattle.std.proofs.lemmas.List.Elements.{All-weaker}
 use Rattle.std.proofs.lemmas.List.Sums.{sum_by-set}
 use Rattle.esdk_base.specs.Shelf.{Files}
@@ -122,6 +122,7 @@ pub record RoundOn {M : Type 0} (now : Desk M → ManagerNow) (managing : M → 
   pub each : length progress ≡ length jobs
   pub whole : length old ≡ length jobs
   pub begun : HaveBegun at progress
+  pub past : All (λ one. is_ended one ≡ true) (take first progress)
   pub left : (k : ℕ) (one : Progress) → at ≤ k → get_or progress k one ≡ get_or old k one
   pub room : last_of desk + all_waits progress ≤ last_of before + all_waits old
   pub ready : AreReady desk jobs progress
@@ -144,6 +145,7 @@ round_starts now managing jobs width first desk progress files entropy each runn
   each = each;
   whole = each;
   begun = All-weaker (λ one. is_ended one ≡ true) (λ one. has_begun one ≡ true) begun_ended (take first progress) running.1;
+  past = running.1;
   left = λ k one from. refl;
   room = omega arith;
   ready = ready;
@@ -178,6 +180,7 @@ module _ {M : Type 0} (now : Desk M → ManagerNow) (managing : M → M → Mana
     each = on.each;
     whole = on.whole;
     begun = begun_more progress at one inside was (begun_ended one ended) on.begun;
+    past = on.past;
     left = λ k d from. on.left k d (omega (arith, from));
     room = on.room;
     ready = on.ready;
@@ -228,6 +231,7 @@ module _ {M : Type 0} (now : Desk M → ManagerNow) (managing : M → M → Mana
       whole = on.whole;
       begun = begun_more (set progress at new) at new (omega (arith, inside, length-set progress at new)) (sym (get_or-set_same progress at new new inside)) begun_new
           (front_set (λ one. has_begun one ≡ true) progress at new at inside begun_new on.begun);
+      past = subst (All (λ one. is_ended one ≡ true)) (sym (take-set-le first progress at new (omega (arith, on.slow)))) on.past;
       left = λ k d from. get_or-set_other progress at k new d (λ same. omega (arith, from, same)) ∙ on.left k d (omega (arith, from));
       room = omega (arith, on.room, room_after one new progress at (last_of mid) (last_of desk) spent drawn inside was t.numbers);
       ready = ready_after now managing jobs progress at job one new mid desk held put spent drawn inside on.each is was on.begun t (between mid desk) on.ready;

@@ -1,6 +1,6 @@
 //! How far the jobs of a batch are.
 
-ghost use Rattle.std.specs.Prelude.{◌≡◌, ◌<◌, IfOk, length, All, true, false};
+ghost use Rattle.std.specs.Prelude.{◌≡◌, ◌<◌, IfOk, length, take, All, true, false};
 ghost use Rattle.esdk_batch.specs.declared.progress.Progress.TheVariants.{Ended, Waiting};
 ghost use Rattle.esdk_batch.specs.Batch.{kind_of};
 ghost use Rattle.esdk_batch.specs.Progress.{IsFirstRunning, is_ended};
@@ -57,12 +57,13 @@ pub(crate) fn all_waiting(alloc: Global, count: usize) -> Result<Vec<Progress>, 
     Ok(progress)
 }
 
-/// The first job that hasn't ended. None where every job has.
-pub(crate) fn first_running(progress: &[Progress]) -> Option<usize>
+/// The first job that hasn't ended, where those before `from` have. None where every job has.
+pub(crate) fn first_running(progress: &[Progress], from: usize) -> Option<usize>
+    requires { All (λ one. is_ended one ≡ true) (take from progress.now) }
     ensures { IsFirstRunning progress.now result }
 {
-    for (at, one) in progress.iter().enumerate() {
-        if !one.is_ended() {
+    for at in from..progress.len() {
+        if !progress[at].is_ended() {
             return Some(at);
         }
     }

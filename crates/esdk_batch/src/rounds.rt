@@ -1,6 +1,6 @@
 //! The rounds of a batch.
 
-ghost use Rattle.std.specs.Prelude.{◌≡◌, ◌≤◌, ◌<◌, ◌+◌, ◌-◌, ◌^◌, true, All, length, is_some, List, Some, OnOk};
+ghost use Rattle.std.specs.Prelude.{◌≡◌, ◌≤◌, ◌<◌, ◌+◌, ◌-◌, ◌^◌, true, All, length, take, is_some, List, Some, OnOk};
 ghost use Rattle.job_file.specs.JobFile.{IsWork};
 ghost use Rattle.desk_core.specs.Desk.{DeskValue};
 ghost use Rattle.desk_core.specs.Stands.{Stands, manager_of, journal_of, last_of};
@@ -74,10 +74,12 @@ pub(crate) fn run_rounds<M: Manager, F: Shelf, W: Entropy, C: Clock>(
         (M.meaning (manager_of desk.new)).faults) progress.new) }
     ensures worth { IsWorth desk.new }
 {
-    while let Some(first) = first_running(progress) {
+    let mut past = 0;
+    while let Some(first) = first_running(progress, past) {
         run_round(
             alloc, jobs, first, width, progress, buffer, desk, shelf, entropy, clock,
         )?;
+        past = first;
     }
     Ok(())
 }
@@ -130,6 +132,7 @@ fn run_round<M: Manager, F: Shelf, W: Entropy, C: Clock>(
         (tally_of (F.state shelf.new) (W.state entropy.new).faults
         (M.meaning (manager_of desk.new)).faults) progress.new) }
     ensures worth { IsWorth desk.new }
+    ensures past { OnOk result (All (λ one. is_ended one ≡ true) (take first progress.new)) }
     ensures ready { OnOk result (AreReady desk.new jobs.now progress.new) }
     ensures opened { OnOk result (HaveBegun width progress.new) }
     ensures room { OnOk result

@@ -19,7 +19,7 @@ pub fn hmac512(key: &[u8], text: &[u8]) -> [u8; 64]
     let block = key_block(key);
     let mut inner = inner_hasher(&block);
     inner.update(text);
-    outer_digest(&block, inner)
+    outer_digest(outer_hasher(&block), inner)
 }
 
 /// The key as one block: a key longer than a block is hashed first (RFC 2104, section 2).
@@ -42,13 +42,30 @@ pub(crate) fn inner_hasher(block: &[u8; BLOCK]) -> Sha512
     hasher
 }
 
-/// The hash of the key's block with the outer pad and the digest of what the inner hasher took.
-pub(crate) fn outer_digest(block: &[u8; BLOCK], inner: Sha512) -> [u8; 64]
-    ensures { (m : List ℕ) → Holds512 inner m → result ≡ sha512
-        (pad_added OUTER_PAD block.now ++ sha512 m) }
+/// A hasher that has taken the key's block with the outer pad, and waits for the inner digest.
+pub(crate) fn outer_hasher(block: &[u8; BLOCK]) -> Sha512
+    ensures { Holds512 result (pad_added OUTER_PAD block.now) }
 {
     let mut hasher = Sha512::new();
     hasher.update(pad_added(OUTER_PAD, block));
-    hasher.update(inner.finalize());
-    hasher.finalize()
+    hasher
+}
+
+/// The hash of what the outer hasher took and the digest of what the inner hasher took.
+pub(crate) fn outer_digest(mut outer: Sha512, inner: Sha512) -> [u8; 64]
+    ensures { (k m : List ℕ) → Holds512 outer k → Holds512 inner m → result ≡ sha512
+        (k ++ sha512 m) }
+{
+    outer.update(inner.finalize());
+    outer.finalize()
+}
+
+/// A copy of the hasher, which takes no memory.
+pub(crate) fn copy_of(hasher: &Sha512) -> Sha512
+    ensures { result ≡ hasher.now }
+{
+    match hasher.clone() {
+        Ok(copy) => copy,
+        Err(_) => unreachable!(),
+    }
 }

@@ -10,6 +10,6 @@ mod hmac_sha256;
 mod hmac_sha512;
 
 pub use hkdf_sha256::hkdf256;
-pub use hkdf_sha512::hkdf512;
+pub use hkdf_sha512::{PseudorandomKey512, hkdf512};
 pub use hmac_sha256::hmac256;
 pub use hmac_sha512::hmac512;

@@ -1,5 +1,9 @@
 -- What the code finds, where it stands in the file.
-use Rattle.std.specs.Prelude.{◌≡◌, ◌≤◌, length, Bool, true, false, Option, Some, None, IfSome, Result, Ok, Err}
+use Rattle.std.specs.Prelude.{◌≡◌, ◌≤◌, ℕ, List, length, Bool, true, false, Option, Some, None, IfSome, Result, Ok, Err}
+use Rattle.std.specs.Borrow.{Bor}
+use Rattle.std.specs.BTreeSet.{BTreeSet, contains}
+use Rattle.std.specs.Cmp.Lexicographic.{slice_cmp}
+use Rattle.std.specs.Ordering.{nat_cmp}
 use Rattle.esdk_fields.specs.declared.refusals.FileRefusal.{FileRefusal}
 use Rattle.keyring_file.specs.declared.key_file.TreeError.{TreeError}
 use Rattle.keyring_file.specs.declared.key_file.TreeError.TheVariants.{File, Memory}
@@ -32,3 +36,7 @@ abbrev pub Reads : {A B : Type 0} → (A → B) → Result A TreeError → Resul
 Reads means (Ok x) reading = reading ≡ Ok (means x)
 Reads means (Err (File refusal)) reading = reading ≡ Err refusal
 Reads means (Err Memory) reading = Unit {0}
+
+-- The set has the names that pass this test, and no others.
+abbrev pub HasThose : BTreeSet (Bor (List ℕ)) → (List ℕ → Bool) → Type 0
+HasThose set test = (name : Bor (List ℕ)) → contains (λ one other. slice_cmp nat_cmp one.now other.now) set name ≡ test name.now

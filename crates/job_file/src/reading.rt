@@ -42,7 +42,7 @@ pub fn read_jobs(alloc: Global, bytes: &[u8], own_name: &str) -> Result<Jobs, Tr
         return Err(TreeError::File(FileRefusal::BadShape(0)));
     };
     let jobs = jobs_in(alloc, head.jobs)?;
-    match clash_among(own_name, head.keyring, &jobs) {
+    match clash_among(alloc, own_name, head.keyring, &jobs)? {
         Some(name) => {
             let name = Text::new(alloc, name)?;
             return Err(TreeError::File(FileRefusal::NamesClash(name)));

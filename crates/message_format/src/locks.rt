@@ -1,7 +1,7 @@
 //! The lock of a header: the key that is derived from the data key, the header's tag under it, and
 //! what unlocks a header.
 
-ghost use Rattle.std.specs.Prelude.{◌≡◌, ◌+◌, ◌^◌, ◌<◌, ◌≤◌, [], ◌++◌, length, IfOk};
+ghost use Rattle.std.specs.Prelude.{◌≡◌, ◌+◌, ◌^◌, ◌<◌, ◌≤◌, true, false, [], ◌++◌, length, IfOk, MatchOption};
 ghost use Rattle.cipher_spec.specs.Gcm.{sealed};
 ghost use Rattle.context_codec.specs.Context.{ctx_text};
 ghost use Rattle.suite_table.specs.Keys.{derived};
@@ -16,7 +16,7 @@ use gcm_core::GcmKey;
 use header_codec::Header;
 use keyring_trait::DataKey;
 use std::alloc::{AllocError, Global};
-use suite_table::{Suite, commitment, derived};
+use suite_table::{Suite, committed_keys, derived};
 
 /// The key of a message's header tag and units, ready for use: what the suite derives from the data
 /// key and the message id, which is as long as the suite says.
@@ -63,16 +63,25 @@ fn tag_of(message_key: &mut GcmKey, iv: &[u8; 12], raw: &[u8], only: &[u8]) -> [
     message_key.seal_in_place(iv, raw, only, &mut [])
 }
 
-/// Whether the header commits to the data key, where its suite asks for that.
-fn commits(header: &Header, key: &DataKey) -> bool
-    ensures { result ≡ commits header.now key.now }
+/// The key that is derived for the message of a header, where the header commits to the data key or
+/// its suite has no commitments; else none. Key and commitment are derived in one call.
+fn committed_key(header: &Header, key: &DataKey) -> Option<[u8; 32]>
+    ensures { MatchOption result (commits header.now key.now ≡ false) (λ derived_key.
+        (commits header.now key.now ≡ true)
+        × (derived_key ≡ derived header.now.suite key.now header.now.message_id)) }
 {
     match header.algorithm() {
         Suite::Committing => {
-            let due = commitment(key.bytes(), header.message_id());
-            same(header.commitment(), &due)
+            let due = committed_keys(key.bytes(), header.message_id());
+            if same(header.commitment(), &due.commitment) {
+                Some(due.key)
+            } else {
+                None
+            }
         }
-        Suite::Uncommitted => true,
+        Suite::Uncommitted => {
+            Some(derived(Suite::Uncommitted, key.bytes(), header.message_id()))
+        }
     }
 }
 
@@ -91,10 +100,10 @@ pub fn unlocked_key(
 ) -> Result<Result<GcmKey, Fault>, AllocError>
     ensures { IfOk result (UnlocksAs header.now only.now key.now) }
 {
-    if !commits(header, key) {
+    let Some(derived) = committed_key(header, key) else {
         return Ok(Err(Fault::Commitment));
-    }
-    let mut key = message_key(header.algorithm(), key, header.message_id());
+    };
+    let mut key = GcmKey::new(&derived);
     let tag = header_tag(alloc, &mut key, header.iv(), header.raw(), only)?;
     if !same(header.tag(), &tag) {
         return Ok(Err(Fault::HeaderTag));

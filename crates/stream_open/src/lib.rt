@@ -15,6 +15,7 @@
 
 mod asking;
 mod body;
+mod body_key;
 mod errors;
 mod laws;
 mod message_id;

@@ -4,8 +4,8 @@ ghost use Rattle.std.specs.Prelude.{◌≡◌, ◌+◌, ◌-◌, ◌<◌, ◌≤
 ghost use Rattle.frame_codec.specs.UnitHead.{longest_block};
 ghost use Rattle.stream_open.specs.UnitBuffer.{opened_of};
 
+use crate::body_key::BodyKey;
 use frame_codec::{UnitHead, unit_aad};
-use gcm_core::GcmKey;
 use std::alloc::{AllocError, Global};
 use std::marker::Model;
 
@@ -112,7 +112,7 @@ impl UnitBuffer {
     /// Opens the unit, which is whole, where it lies: whether its tag is right. If it is, its
     /// content is given; if it isn't, nothing is.
     #[tactic(auto, unfolding(frame_codec::specs::Unit::opened_unit))]
-    pub(crate) fn open(&mut self, key: &mut GcmKey, message_id: &[u8], head: &UnitHead) -> bool
+    pub(crate) fn open(&mut self, key: &mut BodyKey, message_id: &[u8], head: &UnitHead) -> bool
         requires id { length message_id.now ≤ 32 }
         requires whole { length self.old.held ≡ head.now.size + head.now.length + 16 }
         requires short { head.now.length ≤ longest_block }
@@ -129,7 +129,7 @@ impl UnitBuffer {
         let mut tag = [0; TAG];
         tag.copy_from_slice(&self.bytes[end..end + TAG]);
         let content = &mut self.bytes[begin..end];
-        if !key.open_in_place(&head.iv, aad.bytes(), &[], content, &tag) {
+        if !key.open_in_place(&head.iv, aad.bytes(), content, &tag) {
             return false;
         }
         self.opened = Some(Span { begin, end });

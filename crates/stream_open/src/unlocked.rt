@@ -7,6 +7,7 @@ ghost use Rattle.stream_open.specs.Stands.{IsUnlocked, StepsUnlocked};
 ghost use Rattle.stream_open.specs.Unlocking.{IsBegun, NotUnlocked};
 
 use crate::body::Body;
+use crate::body_key::BodyKey;
 use crate::errors::OpenError;
 use context_codec::Context;
 use header_codec::Header;
@@ -48,7 +49,7 @@ pub(crate) fn unlocked_by(
 {
     let (whole, only, key) = materials.into_parts();
     let key = match unlocked_key(alloc, header, &only, &key)? {
-        Ok(key) => key,
+        Ok(key) => BodyKey::new(alloc, key)?,
         Err(fault) => return Err(OpenError::Fault(fault)),
     };
     let body = Body::new(alloc, header, max_unit, key)?;

@@ -13,9 +13,8 @@ use esdk_fields::{Blob, Refusal};
 use frame_codec::number_after;
 use gcm_core::GcmKey;
 use keyring_trait::EncMaterials;
-use message_format::message_key;
-use std::alloc::Global;
-use suite_table::Suite;
+use std::alloc::{AllocError, Global};
+use suite_table::committed_keys;
 
 /// Seals a message piece by piece: the header, the regular frames as the text comes, and the final
 /// frame. It holds one frame, and takes memory at the start alone. AWS Encryption SDK
@@ -23,7 +22,7 @@ use suite_table::Suite;
 #[derive(Drop)]
 pub struct Sealer {
     header: Blob,
-    key: GcmKey,
+    key: Box<GcmKey>,
     message_id: [u8; 32],
     declared: Option<Declared>,
     number: u32,
@@ -54,14 +53,16 @@ impl Sealer {
         ensures cause { IfErr result (BeginsNot (start_refusal materials.now max_keys
             message_id.now)) }
     {
-        let mut key = message_key(Suite::Committing, materials.key(), message_id);
+        let keys = committed_keys(materials.key().bytes(), message_id);
+        let mut key = boxed(alloc, GcmKey::new(&keys.key))?;
         let header = match message_start(
             alloc,
             materials,
             frame_length,
             max_keys,
             message_id,
-            &mut key,
+            &keys.commitment,
+            &mut *key,
         ) {
             Ok(header) => header,
             Err(error) => return Err(unstarted(error)),
@@ -135,7 +136,7 @@ impl Sealer {
         match number_after(self.number) {
             Some(next) => {
                 self.frame
-                    .seal_regular(&mut self.key, &self.message_id, self.number);
+                    .seal_regular(&mut *self.key, &self.message_id, self.number);
                 self.number = next;
                 Ok(0)
             }
@@ -161,8 +162,15 @@ impl Sealer {
             return Err(SealError::Stopped);
         }
         self.frame
-            .seal_final(&mut self.key, &self.message_id, self.number);
+            .seal_final(&mut *self.key, &self.message_id, self.number);
         self.stopped = true;
         Ok(())
     }
+}
+
+/// The key on the heap, where it stays, since it is large. Fails only where memory runs out.
+fn boxed(alloc: Global, key: GcmKey) -> Result<Box<GcmKey>, AllocError>
+    ensures { IfOk result (λ boxed. boxed.value ≡ key) }
+{
+    Ok(Box::new(alloc, key)?)
 }

@@ -6,7 +6,7 @@ mod keys;
 mod laws;
 mod suite;
 
-pub use keys::{commitment, derived};
+pub use keys::{CommittedKeys, commitment, committed_keys, derived};
 pub use laws::{
     commitment_bytes, commitment_length, derived_bytes, derived_length, suites_are_found_by_id,
 };

@@ -13,4 +13,5 @@ loop-first-preserved g c =
       on = rounds_more _ _ c.args.jobs.now c.args.width c.args.desk.now c.loop-first.desk c.run_round.new.desk c.args.progress.now c.loop-first.progress c.run_round.new.progress _ _ _ _ _ _
           c.loop-first.invariant.on (omega (arith, c.run_round.auto.progress, c.loop-first.invariant.on.each)) round.room round.ready round.opened round.went round.others round.told round.stand;
       counts = λ began first. round.counts began (c.loop-first.invariant.counts began first);
+      past = round.past;
     }

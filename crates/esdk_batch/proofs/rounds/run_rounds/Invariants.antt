@@ -1,8 +1,10 @@
 -- The rounds so far.
+use Rattle.std.proofs.Common.{◌≡◌, true, take}
+use Rattle.std.specs.Prelude.{All}
 use Rattle.desk_core.specs.Stands.{journal_of, manager_of}
 use Rattle.esdk_batch.specs.Failures.{AllCounted, Tally, tally_of}
 use Rattle.esdk_batch.specs.Managing.{manager_now, managing_of}
-use Rattle.esdk_batch.specs.Progress.{all_turns_left}
+use Rattle.esdk_batch.specs.Progress.{all_turns_left, is_ended}
 use Rattle.esdk_batch.proofs.Windows.{RoundsOn}
 use Rattle.esdk_batch.proofs.rounds.run_rounds.Given as goal
 
@@ -16,6 +18,7 @@ invariant-loop-first g l = record {
       (g.W.Entropy.state l.fn.entropy) (g.W.Entropy.state l.entropy);
   counts : (began : Tally) → AllCounted l.jobs began (tally_of (g.F.Shelf.state l.fn.shelf) (g.W.Entropy.state l.fn.entropy).faults (g.M.Manager.meaning (manager_of l.fn.desk)).faults) l.fn.progress
       → AllCounted l.jobs began (tally_of (g.F.Shelf.state l.shelf) (g.W.Entropy.state l.entropy).faults (g.M.Manager.meaning (manager_of l.desk)).faults) l.progress;
+  past : All (λ one. is_ended one ≡ true) (take l.past l.progress);
 }
 
 abbrev pub decreases-loop-first : goal.decreases-loop-first

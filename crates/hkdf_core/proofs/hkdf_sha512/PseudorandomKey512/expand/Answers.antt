@@ -5,24 +5,26 @@ use Rattle.std.proofs.lemmas.Grind.{div_ceil_times}
 use Rattle.std.proofs.lemmas.List.{take_all}
 use Rattle.sha2.specs.Sha512.{sha512}
 use Rattle.sha2.proofs.Facts512.{length-sha512}
+use Rattle.cipher_spec.specs.Hmac.{hmac}
 use Rattle.cipher_spec.specs.Hkdf.{expand, output_block, output_blocks}
-use Rattle.cipher_spec.proofs.HmacLemmas.{length-keyed_digest}
+use Rattle.cipher_spec.proofs.HmacLemmas.{length-hmac}
 use Rattle.cipher_spec.proofs.HkdfLemmas.{length-output_blocks, output_block_next, output_blocks_next, written_more}
-use Rattle.hkdf_core.proofs.hkdf_sha512.expand.Goals as goal
+use Rattle.hkdf_core.proofs.hkdf_sha512.PseudorandomKey512.expand.Goals as goal
 
 pub each-init : goal.each-init
 unfolding output_block output_blocks
 each-init c = record { within = omega arith; held = refl; done = sym (take_all (length c.args.out.now) [] (omega arith)) }
 
 pub each-preserved : goal.each-preserved
+unfolding hmac
 each-preserved c =
-    let blocks = output_blocks sha512 128 c.args.key.now c.args.info.now c.each.i in
-    let next = output_block sha512 128 c.args.key.now c.args.info.now (c.each.i + 1) in
+    let blocks = output_blocks sha512 128 c.args.self.now c.args.info.now c.each.i in
+    let next = output_block sha512 128 c.args.self.now c.args.info.now (c.each.i + 1) in
     let is : c.output_block-last.result ≡ next =
     c.output_block-last.ensures ∙ rw c.each.invariant.held
-    (output_block_next sha512 128 c.args.key.now c.args.info.now _ c.each.i c.key_block-block.ensures) in
+    (output_block_next sha512 128 c.args.self.now c.args.info.now _ c.each.i refl) in
     let long : length c.output_block-last.result ≡ 64 =
-    ap length c.output_block-last.ensures ∙ length-keyed_digest sha512 64 length-sha512 _ _ in
+    ap length c.output_block-last.ensures ∙ length-hmac sha512 64 length-sha512 128 _ _ in
     let before : length blocks ≡ 64 * c.each.i =
     length-output_blocks sha512 64 length-sha512 128 _ _ c.each.i ∙ omega arith in
     let enough = div_ceil_times (length c.args.out.now) 64 (omega arith) in
