@@ -86,13 +86,13 @@ hasher key hash = record { key = key; hash = hash }
 taken : (key hash : ℕ) (bs : List ℕ) (s t : State) → s ≡ hasher key hash → t ≡ record { key = s.key; hash = ghash_from s.key s.hash bs } → t ≡ hasher key (ghash_from key hash bs)
 taken key hash bs s t is step = step ∙ ap (λ (x : State). hasher x.key (ghash_from x.key x.hash bs)) is
 
--- a new hasher under the hash subkey that took associated data and a ciphertext gives their tag
-pub tag-finished : (key iv aad cipher : List ℕ) (count : ℕ) (s t u : State) (tag : List ℕ) → s ≡ record { key = hash_key key; hash = 0 } → t ≡ record { key = s.key; hash = ghash_from s.key s.hash (blocks aad) } → u ≡ record { key = t.key; hash = ghash_from t.key t.hash (blocks cipher) } → count ≡ length aad → tag ≡ gctr key (pre_counter iv) (to_be_bytes w128 (ghash_from u.key u.hash (from_be_bytes w128 (to_be_bytes w64 (count * 8) ++ to_be_bytes w64 (length cipher * 8)) ∷ []))) → tag ≡ tag_of key iv aad cipher
+-- a hasher under the hash subkey that took associated data, and then a ciphertext, gives their tag
+pub tag-finished : (key iv aad cipher : List ℕ) (count : ℕ) (s t : State) (tag : List ℕ) → s ≡ record { key = hash_key key; hash = ghash (hash_key key) (blocks aad) } → t ≡ record { key = s.key; hash = ghash_from s.key s.hash (blocks cipher) } → count ≡ length aad → tag ≡ gctr key (pre_counter iv) (to_be_bytes w128 (ghash_from t.key t.hash (from_be_bytes w128 (to_be_bytes w64 (count * 8) ++ to_be_bytes w64 (length cipher * 8)) ∷ []))) → tag ≡ tag_of key iv aad cipher
 unfolding tag_of
-tag-finished key iv aad cipher count s t u tag start absorbed text long done =
+tag-finished key iv aad cipher count s t tag start text long done =
     let h = hash_key key in
     let last = lengths aad cipher in
     let joined : ghash h (blocks aad ++ blocks cipher ++ last ∷ []) ≡ ghash_from h (ghash_from h (ghash_from h 0 (blocks aad)) (blocks cipher)) (last ∷ []) = ghash_from-append h 0 (blocks aad ++ blocks cipher) (last ∷ []) ∙ ap (λ y. ghash_from h y (last ∷ [])) (ghash_from-append h 0 (blocks aad) (blocks cipher)) in
-    let state : u ≡ hasher h (ghash_from h (ghash_from h 0 (blocks aad)) (blocks cipher)) = taken h (ghash_from h 0 (blocks aad)) (blocks cipher) t u (taken h 0 (blocks aad) s t start absorbed) text in
+    let state : t ≡ hasher h (ghash_from h (ghash_from h 0 (blocks aad)) (blocks cipher)) = taken h (ghash_from h 0 (blocks aad)) (blocks cipher) s t start text in
     let sizes : from_be_bytes w128 (to_be_bytes w64 (count * 8) ++ to_be_bytes w64 (length cipher * 8)) ≡ last = ap (λ n. from_be_bytes w128 (to_be_bytes w64 (n * 8) ++ to_be_bytes w64 (length cipher * 8))) long in
     done ∙ ap (λ (x : State). gctr key (pre_counter iv) (to_be_bytes w128 (ghash_from x.key x.hash (from_be_bytes w128 (to_be_bytes w64 (count * 8) ++ to_be_bytes w64 (length cipher * 8)) ∷ [])))) state ∙ ap (λ b. gctr key (pre_counter iv) (to_be_bytes w128 (ghash_from h (ghash_from h (ghash_from h 0 (blocks aad)) (blocks cipher)) (b ∷ [])))) sizes ∙ ap (λ n. gctr key (pre_counter iv) (to_be_bytes w128 n)) (sym joined)

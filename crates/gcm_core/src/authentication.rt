@@ -2,8 +2,8 @@
 
 ghost use Rattle.std.specs.Prelude.{◌≡◌, ◌+◌, ◌-◌, ◌*◌, ◌^◌, ◌<◌, ◌≤◌, ◌∷◌, [], ◌++◌, length};
 ghost use Rattle.std.specs.Int.{w64, w128, from_be_bytes, to_be_bytes};
-ghost use Rattle.cipher_spec.specs.Ghash.{ghash_from};
-ghost use Rattle.cipher_spec.specs.Gcm.{gctr, hash_key, pre_counter, tag_of};
+ghost use Rattle.cipher_spec.specs.Ghash.{ghash, ghash_from};
+ghost use Rattle.cipher_spec.specs.Gcm.{blocks, gctr, hash_key, pre_counter, tag_of};
 
 use crate::absorbing::{absorb, absorb_two};
 use crate::counter_mode::{TAG_COUNT, gctr_by_blocks};
@@ -15,6 +15,20 @@ pub fn hasher_of(key: &Key256) -> Ghash
     ensures { result ≡ record { key = hash_key key.now; hash = 0 } }
 {
     Ghash::new(key.block([0; 16]))
+}
+
+/// Begins anew under the same hash subkey, and takes the associated data into the hash, which is
+/// `first` and then `second` (step 5).
+pub fn begin_over(hash: &mut Ghash, first: &[u8], second: &[u8])
+    requires { length first.now + length second.now ≤ 2 ^ 32 }
+    ensures { hash.new
+        ≡ record {
+          key = hash.old.key;
+          hash = ghash hash.old.key (blocks (first.now ++ second.now));
+        } }
+{
+    hash.restart();
+    absorb_two(hash, first, second);
 }
 
 /// The block of the lengths in bits, 64 bits each, of texts of so many bytes.
@@ -54,7 +68,7 @@ pub fn finished_tag(
 }
 
 /// The tag of associated data, `first` and then `second`, and a ciphertext, by a hasher that took
-/// no blocks.
+/// the associated data alone.
 pub fn authentication_tag(
     key: &Key256,
     hash: &mut Ghash,
@@ -65,11 +79,14 @@ pub fn authentication_tag(
 ) -> [u8; 16]
     requires short { length cipher.now ≤ 2 ^ 36 - 32 }
     requires few { length first.now + length second.now ≤ 2 ^ 32 }
-    requires begun { hash.old ≡ record { key = hash_key key.now; hash = 0 } }
+    requires begun { hash.old
+        ≡ record {
+          key = hash_key key.now;
+          hash = ghash (hash_key key.now) (blocks (first.now ++ second.now));
+        } }
     ensures tag { result ≡ tag_of key.now iv.now (first.now ++ second.now) cipher.now }
     ensures kept { hash.new.key ≡ hash.old.key }
 {
-    absorb_two(hash, first, second);
     absorb(hash, cipher);
     finished_tag(key, iv, hash, first.len() + second.len(), cipher.len())
 }

@@ -3,7 +3,7 @@
 ghost use Rattle.std.specs.Prelude.{◌≡◌, ◌+◌, ◌-◌, ◌^◌, ◌≤◌, ◌++◌, false, length, if◌then◌else◌, Some, None};
 ghost use Rattle.cipher_spec.specs.Gcm.{opened, sealed};
 
-use crate::authentication::hasher_of;
+use crate::authentication::{begin_over, hasher_of};
 use crate::seal::{open_hashing, seal_hashing};
 use aes_core::Key256;
 use ghash_core::Ghash;
@@ -55,7 +55,7 @@ impl GcmKey {
             (first.now ++ second.now) text.old }
         ensures same { self.new ≡ self.old }
     {
-        self.hash.restart();
+        begin_over(&mut self.hash, first, second);
         seal_hashing(&self.cipher, &mut self.hash, iv, first, second, text)
     }
 
@@ -77,7 +77,7 @@ impl GcmKey {
         ensures kept { result ≡ false → text.new ≡ text.old }
         ensures same { self.new ≡ self.old }
     {
-        self.hash.restart();
+        begin_over(&mut self.hash, first, second);
         open_hashing(&self.cipher, &mut self.hash, iv, first, second, text, tag)
     }
 }

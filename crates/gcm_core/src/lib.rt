@@ -6,7 +6,9 @@
 //! `by_blocks` do the same one block at a time: they serve the ends of texts.
 //!
 //! `GcmKey` is for many texts under one key, such as the frames of a message: it holds what is made
-//! of the key alone. `seal_in_place` and `open_in_place` are for one text, and make it in the call.
+//! of the key alone. A `GcmOpener` is for many texts under one key over the same associated data,
+//! such as the wraps of a data key: it holds the hash of that data as well. `seal_in_place` and
+//! `open_in_place` are for one text, and make all of it in the call.
 //!
 //! Nothing here takes memory or copies the text. The associated data is given as two slices, which
 //! count as one text, so that a caller need not join them. One key must never seal two texts under
@@ -17,9 +19,11 @@ mod absorbing;
 mod authentication;
 mod counter_mode;
 mod gcm_key;
+mod gcm_opener;
 mod masks;
 mod same;
 mod seal;
 
 pub use gcm_key::GcmKey;
+pub use gcm_opener::GcmOpener;
 pub use seal::{open_in_place, seal_in_place};

@@ -2,11 +2,11 @@
 
 ghost use Rattle.std.specs.Prelude.{◌≡◌, ◌↔◌, ◌+◌, ◌-◌, ◌^◌, ◌≤◌, List, ℕ, ◌++◌, true, false, length, if◌then◌else◌, Some, None};
 ghost use Rattle.std.specs.Int.{w32, to_be_bytes};
-ghost use Rattle.cipher_spec.specs.Ghash.{ghash_from};
+ghost use Rattle.cipher_spec.specs.Ghash.{ghash, ghash_from};
 ghost use Rattle.cipher_spec.specs.Gcm.{blocks, gctr, hash_key, opened, sealed};
 
-use crate::absorbing::{absorb, absorb_two};
-use crate::authentication::{authentication_tag, finished_tag, hasher_of};
+use crate::absorbing::absorb;
+use crate::authentication::{authentication_tag, begin_over, finished_tag, hasher_of};
 use crate::counter_mode::{TEXT_COUNT, gctr};
 use crate::same::same;
 use aes_core::Key256;
@@ -44,7 +44,7 @@ fn encipher_and_absorb(key: &Key256, iv: &[u8; 12], hash: &mut Ghash, text: &mut
 }
 
 /// Enciphers the text in place, and answers the tag, by a hasher under the key's hash subkey that
-/// took no blocks.
+/// took the associated data alone.
 pub fn seal_hashing(
     key: &Key256,
     hash: &mut Ghash,
@@ -55,11 +55,14 @@ pub fn seal_hashing(
 ) -> [u8; 16]
     requires short { length text.old ≤ 2 ^ 36 - 32 }
     requires few { length first.now + length second.now ≤ 2 ^ 32 }
-    requires begun { hash.old ≡ record { key = hash_key key.now; hash = 0 } }
+    requires begun { hash.old
+        ≡ record {
+          key = hash_key key.now;
+          hash = ghash (hash_key key.now) (blocks (first.now ++ second.now));
+        } }
     ensures sealed { (text.new, result) ≡ sealed key.now iv.now (first.now ++ second.now) text.old }
     ensures kept { hash.new.key ≡ hash.old.key }
 {
-    absorb_two(hash, first, second);
     encipher_and_absorb(key, iv, hash, text);
     finished_tag(key, iv, hash, first.len() + second.len(), text.len())
 }
@@ -78,11 +81,13 @@ pub fn seal_in_place(
     requires few { length first.now + length second.now ≤ 2 ^ 32 }
     ensures { (text.new, result) ≡ sealed key.now iv.now (first.now ++ second.now) text.old }
 {
-    seal_hashing(key, &mut hasher_of(key), iv, first, second, text)
+    let mut hash = hasher_of(key);
+    begin_over(&mut hash, first, second);
+    seal_hashing(key, &mut hash, iv, first, second, text)
 }
 
 /// Answers whether the tag is right, and deciphers the text in place if it is, by a hasher under
-/// the key's hash subkey that took no blocks.
+/// the key's hash subkey that took the associated data alone.
 pub fn open_hashing(
     key: &Key256,
     hash: &mut Ghash,
@@ -94,7 +99,11 @@ pub fn open_hashing(
 ) -> bool
     requires short { length text.old ≤ 2 ^ 36 - 32 }
     requires few { length first.now + length second.now ≤ 2 ^ 32 }
-    requires begun { hash.old ≡ record { key = hash_key key.now; hash = 0 } }
+    requires begun { hash.old
+        ≡ record {
+          key = hash_key key.now;
+          hash = ghash (hash_key key.now) (blocks (first.now ++ second.now));
+        } }
     ensures answer { opened key.now iv.now (first.now ++ second.now) text.old tag.now
         ≡ (if result then Some text.new else None) }
     ensures kept { result ≡ false → text.new ≡ text.old }
@@ -129,5 +138,7 @@ pub fn open_in_place(
         → (opened key.now iv.now (first.now ++ second.now) text.old tag.now ≡ Some t)
         ↔ (sealed key.now iv.now (first.now ++ second.now) t ≡ (text.old, tag.now)) }
 {
-    open_hashing(key, &mut hasher_of(key), iv, first, second, text, tag)
+    let mut hash = hasher_of(key);
+    begin_over(&mut hash, first, second);
+    open_hashing(key, &mut hash, iv, first, second, text, tag)
 }

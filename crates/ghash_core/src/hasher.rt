@@ -50,6 +50,17 @@ impl Ghash {
         self.hash = Sum { upper: 0, lower: 0 };
     }
 
+    /// Goes on from the hash that these or other blocks had under the same hash subkey.
+    #[inline(always)]
+    pub fn resume(&mut self, hash: u128)
+        ensures { self.new ≡ record { key = self.old.key; hash = hash } }
+    {
+        self.hash = Sum {
+            upper: hash,
+            lower: 0,
+        };
+    }
+
     /// Takes one more block into the hash.
     #[inline(always)]
     pub fn block(&mut self, block: [u8; 16])
@@ -92,6 +103,14 @@ impl Ghash {
             hash = times(hash.block() ^ u128::from_be_bytes(blocks[i]), &self.rows);
         }
         self.hash = hash;
+    }
+
+    /// The hash of the blocks so far, as a number, for `resume`.
+    #[inline(always)]
+    pub fn hash(&self) -> u128
+        ensures { result ≡ self.now.hash }
+    {
+        self.hash.block()
     }
 
     /// The hash of the blocks so far, as a block.

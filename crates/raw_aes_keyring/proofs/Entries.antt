@@ -1,15 +1,16 @@
 -- The entries of one wrapping key.
-use Rattle.std.proofs.Common.{◌≡◌, ◌≢◌, ℕ, ◌≤◌, List, [], ◌∷◌, ◌++◌, length, Option, Some, None, refl, sym, ap, ◌∙◌, arith}
-use Rattle.std.specs.Prelude.{IfSome, IfNone, IfOk, Result, Ok, Err}
+use Rattle.std.proofs.Common.{◌≡◌, ◌≢◌, ℕ, ◌+◌, ◌<◌, ◌≤◌, false, List, [], ◌∷◌, ◌++◌, length, drop, get_or, Option, Some, None, refl, sym, ap, ◌∙◌, arith}
+use Rattle.std.specs.Prelude.{is_some, IfSome, IfNone, IfOk, Result, Ok, Err}
 use Rattle.std.specs.Option.{option_or}
 use Rattle.std.proofs.lemmas.Bool.{false_from_ne_true}
+use Rattle.std.proofs.lemmas.List.{drop_all, drop_more}
 use Rattle.cipher_spec.specs.Gcm.{sealed}
 use Rattle.context_codec.specs.Context.{KeyValue, ctx_text}
 use Rattle.edk_codec.specs.Entry.{Entry}
 use Rattle.edk_codec.specs.RawInfo.{raw_info}
 use Rattle.edk_codec.proofs.Infos.{length-raw_info}
 use Rattle.keyring_trait.specs.Wrapping.{WrapKeyValue, wrap, iv_in, is_entry_of, unwrap, first_some, unwrapped}
-use Rattle.keyring_trait.proofs.Wrapping.{entry_fits, entry_parts}
+use Rattle.keyring_trait.proofs.Wrapping.{entry_fits, entry_parts, unwrap_other}
 use Rattle.raw_aes_keyring.specs.Finding.{FindsIv}
 
 -- what is made of these parts is a wrap
@@ -36,6 +37,31 @@ option_or-none (Some x) = refl
 pub unwrapped_one : (w : WrapKeyValue) (c : List KeyValue) (entries : List Entry) → unwrapped (w ∷ []) entries c ≡ first_some (unwrap w c) entries
 unfolding unwrapped
 unwrapped_one w c entries = option_or-none (first_some (unwrap w c) entries)
+
+-- in what is found of an entry that isn't one of the key there is no IV
+pub not_own : (w : WrapKeyValue) (e : Entry) (found : Option (List ℕ)) → FindsIv w e found → is_some found ≡ false → is_entry_of w e ≡ false
+not_own w e (Some iv) finds none = absurd cc
+not_own w e None finds none = finds
+
+-- What the key unwraps of the entries is what it unwraps of those from the index on.
+abbrev pub Passed : WrapKeyValue → List Entry → ℕ → Type 0
+Passed w entries i = (c : List KeyValue) → first_some (unwrap w c) entries ≡ first_some (unwrap w c) (drop i entries)
+
+-- one entry more that isn't one of the key
+pub passed_more : (w : WrapKeyValue) (entries : List Entry) (i : ℕ) (e : Entry) → i < length entries → e ≡ get_or entries i e → is_entry_of w e ≡ false → Passed w entries i → Passed w entries (i + 1)
+passed_more w entries i e inside at other so_far = λ c.
+    let rest = drop (i + 1) entries in
+    let split : drop i entries ≡ e ∷ rest = drop_more entries i e inside ∙ ap (λ (x : Entry). x ∷ rest) (sym at) in
+    so_far c ∙ ap (first_some (unwrap w c)) split ∙ ap (λ (o : Option (List ℕ)). option_or o (first_some (unwrap w c) rest)) (unwrap_other w c e other)
+
+-- what one key unwraps, where the entries before the index are passed over
+pub unwrapped_from : (w : WrapKeyValue) (c : List KeyValue) (entries : List Entry) (i : ℕ) → Passed w entries i → unwrapped (w ∷ []) entries c ≡ first_some (unwrap w c) (drop i entries)
+unwrapped_from w c entries i passed = unwrapped_one w c entries ∙ passed c
+
+-- where all are passed over, it unwraps none
+pub unwrapped_none : (w : WrapKeyValue) (c : List KeyValue) (entries : List Entry) (i : ℕ) → i ≡ length entries → Passed w entries i → unwrapped (w ∷ []) entries c ≡ None
+unwrapped_none w c entries i all passed =
+    unwrapped_from w c entries i passed ∙ ap (first_some (unwrap w c)) (drop_all i entries (omega (arith, all)))
 
 pub info_is_short : (info name iv : List ℕ) → info ≡ raw_info name iv → length name ≤ 1024 → length iv ≡ 12 → length info ≤ 65535
 info_is_short info name iv is short twelve = omega (arith, ap length is, length-raw_info name iv, short, twelve)

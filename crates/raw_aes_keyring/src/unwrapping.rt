@@ -8,10 +8,9 @@ ghost use Rattle.raw_aes_keyring.specs.Finding.{FindsIv};
 
 use crate::raw_aes::RawAes;
 use crate::wrapping::whole_text;
-use aes_core::Key256;
 use context_codec::Context;
 use edk_codec::{DataKeyEntry, info_parts};
-use gcm_core::open_in_place;
+use gcm_core::GcmOpener;
 use keyring_trait::{DataKey, WrapKey};
 use std::alloc::{AllocError, Global};
 
@@ -28,26 +27,41 @@ impl RawAes {
     ) -> Result<Option<DataKey>, AllocError>
         ensures { IfOk result (λ found. found ≡ unwrapped (self.now ∷ []) entries.now context.now) }
     {
+        let first = first_own(&self.key, entries);
+        if first == entries.len() {
+            return Ok(None);
+        }
         let aad = whole_text(alloc, context)?;
-        let cipher_key = Key256::new(&self.key.key);
-        Ok(first_unwrapped(&self.key, &cipher_key, aad.bytes(), entries))
+        let (_others, left) = entries.split_at(first);
+        Ok(first_unwrapped(&self.key, aad.bytes(), left))
     }
 }
 
-/// The data key of the first entry that opens.
-fn first_unwrapped(
-    key: &WrapKey,
-    cipher_key: &Key256,
-    aad: &[u8],
-    entries: &[DataKeyEntry],
-) -> Option<DataKey>
-    requires same { cipher_key.now ≡ key.now.key }
-    requires short { length aad.now ≤ 65535 }
+/// The index of the first entry that is one of this key, or the number of the entries.
+fn first_own(key: &WrapKey, entries: &[DataKeyEntry]) -> usize
+    ensures inside { result ≤ length entries.now }
+    ensures passed { (c : List KeyValue)
+        → first_some (unwrap key.now c) entries.now
+        ≡ first_some (unwrap key.now c) (drop result entries.now) }
+{
+    for (at, entry) in entries.iter().enumerate() {
+        if iv_of(key, entry).is_some() {
+            return at;
+        }
+    }
+    entries.len()
+}
+
+/// The data key of the first entry that opens. The text of the context is hashed once, whatever the
+/// number of the entries.
+fn first_unwrapped(key: &WrapKey, aad: &[u8], entries: &[DataKeyEntry]) -> Option<DataKey>
+    requires { length aad.now ≤ 65535 }
     ensures { (c : List KeyValue) → aad.now ≡ ctx_text c
         → result ≡ first_some (unwrap key.now c) entries.now }
 {
+    let mut opener = GcmOpener::new(&key.key, aad);
     for entry in entries {
-        let found = unwrapped_entry(key, cipher_key, aad, entry);
+        let found = unwrapped_entry(key, &mut opener, entry);
         if found.is_some() {
             return found;
         }
@@ -59,16 +73,16 @@ fn first_unwrapped(
 #[tactic(auto, unfolding(keyring_trait::specs::Wrapping::unwrap))]
 fn unwrapped_entry(
     key: &WrapKey,
-    cipher_key: &Key256,
-    aad: &[u8],
+    opener: &mut GcmOpener<'_>,
     entry: &DataKeyEntry,
 ) -> Option<DataKey>
-    requires same { cipher_key.now ≡ key.now.key }
-    requires short { length aad.now ≤ 65535 }
-    ensures { (c : List KeyValue) → aad.now ≡ ctx_text c → result ≡ unwrap key.now c entry.now }
+    requires { opener.old.key ≡ key.now.key }
+    ensures key { (c : List KeyValue) → opener.old.aad ≡ ctx_text c
+        → result ≡ unwrap key.now c entry.now }
+    ensures same { opener.new ≡ opener.old }
 {
     match iv_of(key, entry) {
-        Some(iv) => opened_key(cipher_key, &iv, aad, entry.cipher()),
+        Some(iv) => opened_key(opener, &iv, entry.cipher()),
         None => None,
     }
 }
@@ -89,18 +103,18 @@ fn iv_of(key: &WrapKey, entry: &DataKeyEntry) -> Option<[u8; 12]>
 }
 
 /// The data key that a ciphertext with its tag holds, where the tag is right.
-fn opened_key(cipher_key: &Key256, iv: &[u8; 12], aad: &[u8], cipher: &[u8]) -> Option<DataKey>
-    requires long { length cipher.now ≡ 48 }
-    requires short { length aad.now ≤ 65535 }
-    ensures { result
-        ≡ opened cipher_key.now iv.now aad.now (take 32 cipher.now) (drop 32 cipher.now) }
+fn opened_key(opener: &mut GcmOpener<'_>, iv: &[u8; 12], cipher: &[u8]) -> Option<DataKey>
+    requires { length cipher.now ≡ 48 }
+    ensures key { result
+        ≡ opened opener.old.key iv.now opener.old.aad (take 32 cipher.now) (drop 32 cipher.now) }
+    ensures same { opener.new ≡ opener.old }
 {
     let (sealed, tag) = cipher.split_at(32);
     let mut bytes = [0; 32];
     bytes.copy_from_slice(sealed);
     let mut right = [0; 16];
     right.copy_from_slice(tag);
-    if open_in_place(cipher_key, iv, aad, &[], &mut bytes, &right) {
+    if opener.open_in_place(iv, &mut bytes, &right) {
         Some(DataKey::new(bytes))
     } else {
         None
