@@ -112,7 +112,7 @@ sorted-with_key (k ∷ keys) key up = by_order (key_cmp key k) refl (sorted-with
     by_order Equal is rest = up
     by_order Greater is rest = (AllByRecursion-with_key (λ j. key_cmp k j ≡ Less) keys key up.0 (greater_less key k (sym is)), rest)
 
-sorted_keys : (keys : List (List ℕ)) → AreAscendingKeys keys → IsStrictlySortedBy key_cmp keys
+pub sorted_keys : (keys : List (List ℕ)) → AreAscendingKeys keys → IsStrictlySortedBy key_cmp keys
 sorted_keys keys up = sorted_from_all_adjacent nat_list_cmp_total keys [] (λ k lt. up k [] lt)
 
 pub AreAscendingKeys-with_key : (keys : List (List ℕ)) (key : List ℕ) → AreAscendingKeys keys → AreAscendingKeys (with_key keys key)

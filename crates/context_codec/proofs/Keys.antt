@@ -94,7 +94,7 @@ Ascends-insert key value (p ∷ ps) up = Ascends-placed key value p ps (key_cmp 
 pub IsAscending-insert : (key value : List ℕ) (ps : List KeyValue) → IsAscending ps → IsAscending (insert_entry key_cmp ps key value)
 IsAscending-insert key value ps up = ascending_from (insert_entry key_cmp ps key value) (Ascends-insert key value ps (ascends_from ps up))
 
--- ---- the place of a new key, as a loop finds it
+-- ---- the place of a new key
 
 -- All pairs before the index have keys below the key.
 pub record Passed (key : List ℕ) (ps : List KeyValue) (i : ℕ) : Type 0 where

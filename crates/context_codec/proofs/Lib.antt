@@ -15,7 +15,10 @@ pub mod Sorting
 pub mod Members
 pub mod Parts
 pub mod Stored
+pub mod Searches
+pub mod PairPlaces
 pub mod KeyPlaces
+pub mod ManyKeys
 pub mod KeySets
 pub mod JoinedPairs
 pub mod JoinFaults

@@ -60,3 +60,11 @@ is_some-map f (Some x) = refl
 -- There is a value exactly where the pairs hold the key.
 pub found_iff_holds : {V : Type 0} (view : V → List ℕ) (key : List ℕ) (ps : List KeyValue) (found : Option V) → option_map view found ≡ lookup (bytes_eq key) ps → is_some found ≡ holds ps key
 found_iff_holds view key ps found e = is_some-map view found ∙ ap is_some e ∙ found_holds key ps
+
+none_from : {V : Type 0} (o : Option V) → is_some o ≡ false → o ≡ None
+none_from None e = refl
+none_from (Some v) e = absurd cc
+
+-- There is no value where the pairs don't hold the key.
+pub lookup_absent : (key : List ℕ) (ps : List KeyValue) → holds ps key ≡ false → lookup (bytes_eq key) ps ≡ None
+lookup_absent key ps absent = none_from (lookup (bytes_eq key) ps) (found_holds key ps ∙ absent)

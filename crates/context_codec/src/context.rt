@@ -3,11 +3,12 @@
 ghost use Rattle.std.specs.Prelude.{◌≡◌, ◌≢◌, ◌↔◌, [], length, All, IsNone, IfOk, option_map};
 ghost use Rattle.std.specs.Map.{lookup};
 ghost use Rattle.std.specs.Str.{bytes_eq};
-ghost use Rattle.context_codec.specs.Context.{IsContext, ctx_text};
+ghost use Rattle.context_codec.specs.Context.{IsAscending, IsContext, ctx_text};
 ghost use Rattle.context_codec.specs.Parts.{holds};
 
 use crate::lengths::text_len;
 use crate::pair::Pair;
+use crate::places::pair_place;
 use std::alloc::{AllocError, Global};
 use std::marker::Model;
 
@@ -95,17 +96,15 @@ impl Context {
     }
 }
 
-/// The value of the first pair with that key, if there is one.
-#[tactic(auto, using(crate::proofs::Lookups::lookup_here, crate::proofs::Lookups::lookup_past))]
+/// The value of the pair with that key, if there is one.
 fn value_of<'a>(pairs: &'a [Pair], key: &str) -> Option<&'a str>
+    requires { IsAscending pairs.now }
     ensures { option_map (λ v. v.now) result ≡ lookup (bytes_eq key.now) pairs.now }
 {
-    for pair in pairs {
-        if key == pair.key() {
-            return Some(pair.value());
-        }
+    match pair_place(pairs, key) {
+        Ok(at) => Some(pairs[at].value()),
+        Err(_) => None,
     }
-    None
 }
 
 /// Equal pairs, in the same order.

@@ -1,19 +1,17 @@
 //! One more pair in a context.
 
-ghost use Rattle.std.specs.Prelude.{◌≡◌, true, ◌==◌, if◌then◌else◌, length, None, MatchOption, OnOk, OnErr, IfErr};
-ghost use Rattle.std.specs.List.{list_any};
+ghost use Rattle.std.specs.Prelude.{◌≡◌, ◌==◌, if◌then◌else◌, length, None, OnOk, OnErr, IfErr};
 ghost use Rattle.std.specs.BTreeMap.{insert_entry};
 ghost use Rattle.std.specs.Ordering.{nat_cmp};
 ghost use Rattle.std.specs.Cmp.Lexicographic.{slice_cmp};
-ghost use Rattle.context_codec.specs.Context.{IsAscending, ctx_text, has_key};
-ghost use Rattle.context_codec.specs.Placing.{IsPlace};
+ghost use Rattle.context_codec.specs.Context.{ctx_text};
 ghost use Rattle.context_codec.specs.Insert.{grown, refusal_of, RefusesAs};
 
 use crate::context::Context;
 use crate::pair::Pair;
+use crate::places::pair_place;
 use esdk_fields::{Refusal, Text};
 use std::alloc::{AllocError, AllocFailed, Global};
-use std::cmp::Ordering;
 use std::error::Error;
 use std::fmt;
 
@@ -78,7 +76,7 @@ impl Context {
         ensures cause { IfErr result (λ e. RefusesAs e (refusal_of self.old (key.now, value.now))) }
         ensures err { OnErr result (self.new ≡ self.old) }
     {
-        let Some(at) = place_of(&self.pairs, key) else {
+        let Err(at) = pair_place(&self.pairs, key) else {
             return Err(PairError::Refusal(Refusal::DuplicateKey(Text::new(alloc, key)?)));
         };
         let grown = grown_len(&self.pairs, self.text_len, key, value);
@@ -94,22 +92,6 @@ impl Context {
 
 /// The longest text that a length field of two bytes can stand before.
 pub(crate) const MAX_TEXT: u128 = 65535;
-
-/// Where a pair with this key belongs. None where the key is there already.
-fn place_of(pairs: &[Pair], key: &str) -> Option<usize>
-    requires { IsAscending pairs.now }
-    ensures { MatchOption result (list_any (has_key key.now) pairs.now ≡ true)
-        (IsPlace key.now pairs.now) }
-{
-    for (at, pair) in pairs.iter().enumerate() {
-        match key.cmp(pair.key()) {
-            Ordering::Less => return Some(at),
-            Ordering::Equal => return None,
-            Ordering::Greater => {}
-        }
-    }
-    Some(pairs.len())
-}
 
 /// How long the text is with one more pair. The empty context has no count of its pairs yet.
 fn grown_len(pairs: &[Pair], text_len: u32, key: &str, value: &str) -> u128

@@ -1,12 +1,13 @@
 //! Sets of context keys.
 
-ghost use Rattle.std.specs.Prelude.{◌≡◌, [], IfOk, OnOk, OnErr, MatchOption};
+ghost use Rattle.std.specs.Prelude.{◌≡◌, true, [], ◌++◌, IfOk, OnOk, OnErr};
+ghost use Rattle.std.specs.List.{list_all};
+ghost use Rattle.std.specs.Str.{is_utf8};
 ghost use Rattle.context_codec.specs.KeySet.{IsKeySet, has, with_key, with_keys};
-ghost use Rattle.context_codec.specs.Placing.{IsKeyPlace};
 
+use crate::places::key_place;
 use esdk_fields::Text;
 use std::alloc::{AllocError, Global};
-use std::cmp::Ordering;
 use std::marker::Model;
 
 /// Keys of encryption contexts, strictly ascending by their bytes. A contract sees the list of the
@@ -37,25 +38,38 @@ impl KeySet {
         }
     }
 
+    /// The set of these keys, in whatever order and however often each of them is given: O(n log n)
+    /// comparisons at n keys. Takes no memory.
+    pub fn of(mut keys: Vec<Text>) -> KeySet
+        ensures { result ≡ with_keys [] keys.items }
+    {
+        are_texts(&keys);
+        keys.sort_unstable();
+        keys.dedup();
+        KeySet { keys }
+    }
+
     /// Inserts a key at its place. A key that is there stays. Fails only where memory runs out, and
     /// leaves the set as it was then.
     pub fn insert(&mut self, alloc: Global, key: &str) -> Result<(), AllocError>
         ensures ok { OnOk result (self.new ≡ with_key self.old key.now) }
         ensures err { OnErr result (self.new ≡ self.old) }
     {
-        let Some(at) = place_of(&self.keys, key) else {
-            return Ok(());
-        };
-        let key = Text::new(alloc, key)?;
-        self.keys.insert(at, key)?;
-        Ok(())
+        match key_place(&self.keys, key) {
+            Ok(_) => Ok(()),
+            Err(at) => {
+                let key = Text::new(alloc, key)?;
+                self.keys.insert(at, key)?;
+                Ok(())
+            }
+        }
     }
 
     /// Whether the key is in the set.
     pub fn contains(&self, key: &str) -> bool
         ensures { result ≡ has self.now key.now }
     {
-        is_held(&self.keys, key)
+        key_place(&self.keys, key).is_ok()
     }
 
     /// The keys, in order.
@@ -78,39 +92,10 @@ impl KeySet {
     pub fn union(&self, alloc: Global, other: &KeySet) -> Result<KeySet, AllocError>
         ensures { IfOk result (λ made. made ≡ with_keys self.now other.now) }
     {
-        let mut made = self.copy(alloc)?;
-        for key in &other.keys {
-            made.insert(alloc, key.as_str())?;
-        }
-        Ok(made)
+        let mut keys = copied(alloc, &self.keys)?;
+        push_copies(&mut keys, &other.keys)?;
+        Ok(KeySet::of(keys))
     }
-}
-
-/// Where the key belongs. None where it is there already.
-fn place_of(keys: &[Text], key: &str) -> Option<usize>
-    ensures { MatchOption result (with_key keys.now key.now ≡ keys.now)
-        (IsKeyPlace key.now keys.now) }
-{
-    for (at, held) in keys.iter().enumerate() {
-        match key.cmp(held.as_str()) {
-            Ordering::Less => return Some(at),
-            Ordering::Equal => return None,
-            Ordering::Greater => {}
-        }
-    }
-    Some(keys.len())
-}
-
-/// Whether the key is one of these.
-fn is_held(keys: &[Text], key: &str) -> bool
-    ensures { result ≡ has keys.now key.now }
-{
-    for held in keys {
-        if key == held.as_str() {
-            return true;
-        }
-    }
-    false
 }
 
 /// Equal keys, in the same order.
@@ -118,8 +103,25 @@ fn copied(alloc: Global, keys: &[Text]) -> Result<Vec<Text>, AllocError>
     ensures { IfOk result (λ made. made.items ≡ keys.now) }
 {
     let mut made = Vec::new(alloc);
-    for key in keys {
-        made.push(key.copy()?)?;
-    }
+    push_copies(&mut made, keys)?;
     Ok(made)
+}
+
+/// Puts equal keys behind these, in the same order.
+fn push_copies(keys: &mut Vec<Text>, more: &[Text]) -> Result<(), AllocError>
+    ensures { OnOk result (keys.new.items ≡ keys.old.items ++ more.now) }
+{
+    for key in more {
+        keys.push(key.copy()?)?;
+    }
+    Ok(())
+}
+
+/// Does nothing; called for its clause, which holds of all texts.
+fn are_texts(keys: &[Text])
+    ensures { list_all is_utf8 keys.now ≡ true }
+{
+    for key in keys {
+        key.as_str();
+    }
 }

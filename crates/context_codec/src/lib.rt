@@ -15,6 +15,7 @@ mod key_set;
 mod laws;
 mod lengths;
 mod pair;
+mod places;
 mod raw;
 mod read;
 mod split;

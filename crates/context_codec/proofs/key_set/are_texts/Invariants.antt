@@ -1,0 +1,8 @@
+-- The keys before the index are texts.
+use Rattle.std.proofs.Common.{◌≡◌, true, take}
+use Rattle.std.specs.List.{list_all}
+use Rattle.std.specs.Str.{is_utf8}
+use Rattle.context_codec.proofs.key_set.are_texts.Given as goal
+
+abbrev pub invariant-loop-key : goal.invariant-loop-key
+invariant-loop-key l = list_all is_utf8 (take l.key-index l.keys) ≡ true

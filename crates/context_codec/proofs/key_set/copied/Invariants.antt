@@ -1,6 +1,0 @@
--- The keys before the index are copied.
-use Rattle.std.proofs.Common.{◌≡◌, take}
-use Rattle.context_codec.proofs.key_set.copied.Given as goal
-
-abbrev pub invariant-loop-key : goal.invariant-loop-key
-invariant-loop-key l = l.made.items ≡ take l.key-index l.keys
