@@ -44,7 +44,7 @@ fn put_unlocking(
     let mut message_key = message_key(header.algorithm(), key, header.message_id());
     let tag = header_tag(alloc, &mut message_key, header.iv(), header.raw(), only)?;
     line.bytes(&tag);
-    match unlocked_key(alloc, header, only, key)? {
+    match unlocked_key(alloc, header.lock(), only, key)? {
         Ok(_) => line.word("unlocked"),
         Err(fault) => line.fault(&fault),
     }

@@ -1,6 +1,7 @@
 pub mod CommittingHeaders
 pub mod Contents
 pub mod Followed
+pub mod FoundFronts
 pub mod Fronts
 pub mod Offences
 pub mod Offending

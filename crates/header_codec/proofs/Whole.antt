@@ -11,7 +11,7 @@ use Rattle.header_codec.specs.declared.settings.Settings.{Settings}
 use Rattle.context_codec.specs.Context.{KeyValue}
 use Rattle.context_codec.specs.Split.{SpellsContext}
 use Rattle.edk_codec.specs.Entry.{Entry}
-use Rattle.header_codec.specs.Header.{HeaderValue, IsKept}
+use Rattle.header_codec.specs.Header.{HeaderValue, IsKept, IsLock, lock_of}
 use Rattle.header_codec.specs.Table.{Head, header, header_iv, made_of, BeginsWith}
 use Rattle.header_codec.proofs.Steps.{header_is_read}
 use Rattle.header_codec.proofs.Spelled.{is_spelled}
@@ -63,3 +63,7 @@ begins_with settings b parts next stored end id entries commitment raw tag read 
 -- what was read keeps what the type of headers keeps
 pub kept : (settings : Settings) (b : List ℕ) (h : HeaderValue) (end : Place) → AreBytes b → BeginsWith settings b h end → IsKept h
 kept settings b h end fits begins = let s = is_spelled settings b h end fits begins in record { body = s.body; keys_end = s.within.keys_end }
+
+-- and so does what is left of it without its pairs and its encrypted data keys
+pub lock_kept : (h : HeaderValue) → IsKept h → IsLock (lock_of h)
+lock_kept h k = record { id = k.body.id; content = k.body.content; commitment = k.body.commitment; keys_end = k.keys_end }

@@ -133,3 +133,20 @@ pub record IsWithin (settings : Settings) (h : HeaderValue) : Type 0 where
 pub record IsKept (h : HeaderValue) : Type 0 where
   pub body : IsHeader h.raw h
   pub keys_end : length h.raw ≤ latest_end + behind_keys h.suite
+
+-- ---- a header without its stored pairs and its encrypted data keys
+
+abbrev pub lock_of : HeaderValue → HeaderValue
+lock_of h = record h { stored = []; entries = [] }
+
+-- What the type of headers keeps of its parts: the header has its own body, and the lock is the header without the other parts.
+pub record IsParted (h lock : HeaderValue) : Type 0 where
+  pub kept : IsKept h
+  pub bare : lock ≡ lock_of h
+
+-- What the type of locks keeps.
+pub record IsLock (h : HeaderValue) : Type 0 where
+  pub id : length h.message_id ≡ id_length h.suite
+  pub content : IsContent h.content
+  pub commitment : length h.commitment ≡ data_length h.suite
+  pub keys_end : length h.raw ≤ latest_end + behind_keys h.suite

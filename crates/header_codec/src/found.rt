@@ -3,7 +3,7 @@
 ghost use Rattle.header_codec.specs.Found.{FindsHeader};
 
 use crate::header::Header;
-use crate::progress::Progress;
+use crate::intake::Intake;
 use crate::settings::Settings;
 use esdk_fields::Stop;
 use std::alloc::Global;
@@ -25,6 +25,6 @@ pub struct Found {
 pub fn header_in(alloc: Global, settings: Settings, bytes: &[u8]) -> Result<Found, Stop>
     ensures { FindsHeader settings bytes.now result }
 {
-    let mut progress = Progress::new(alloc, settings);
-    progress.advance(alloc, bytes)
+    let mut intake = Intake::new(alloc, settings);
+    intake.take(alloc, bytes)
 }

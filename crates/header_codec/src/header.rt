@@ -1,9 +1,10 @@
 //! A header that was read.
 
 ghost use Rattle.std.specs.Prelude.{◌≡◌, ◌+◌, ◌<◌, ◌≤◌, ◌^◌, length};
-ghost use Rattle.header_codec.specs.Header.{IsContent, IsHeader, behind_keys, latest_end};
+ghost use Rattle.header_codec.specs.Header.{IsContent, IsHeader, behind_keys, latest_end, lock_of};
 ghost use Rattle.suite_table.specs.Suites.{data_length, format_version, id_length, suite_id};
 
+use crate::lock::HeaderLock;
 use context_codec::Context;
 use edk_codec::DataKeyEntry;
 use esdk_fields::Content;
@@ -13,45 +14,20 @@ use suite_table::Suite;
 /// The header of a message and its authentication. A contract sees a `HeaderValue`.
 #[derive(Drop)]
 pub struct Header {
-    pub(crate) algorithm: Suite,
-    pub(crate) id: Vec<u8>,
     pub(crate) context: Context,
     pub(crate) keys: Vec<DataKeyEntry>,
-    pub(crate) body: Content,
-    pub(crate) suite_data: Vec<u8>,
-    pub(crate) text: Vec<u8>,
-    pub(crate) vector: [u8; 12],
-    pub(crate) authentication: [u8; 16],
+    pub(crate) lock: HeaderLock,
 }
 
 impl Model for Header {
-    ghost use Rattle.header_codec.specs.Header.{HeaderValue, IsKept};
+    ghost use Rattle.header_codec.specs.Header.{HeaderValue, IsParted};
 
     ghost Value = { HeaderValue };
 
-    ghost view = { λ a. record {
-      suite = a.algorithm;
-      message_id = a.id.items;
-      stored = a.context;
-      entries = a.keys.items;
-      content = a.body;
-      commitment = a.suite_data.items;
-      raw = a.text.items;
-      iv = a.vector;
-      tag = a.authentication;
-    } };
+    ghost view = { λ a. record a.lock { stored = a.context; entries = a.keys.items } };
 
-    ghost invariant = { λ a. IsKept (record {
-      suite = a.algorithm;
-      message_id = a.id.items;
-      stored = a.context;
-      entries = a.keys.items;
-      content = a.body;
-      commitment = a.suite_data.items;
-      raw = a.text.items;
-      iv = a.vector;
-      tag = a.authentication;
-    }) };
+    ghost invariant = { λ a. IsParted
+        (record a.lock { stored = a.context; entries = a.keys.items }) a.lock };
 }
 
 impl Header {
@@ -59,21 +35,21 @@ impl Header {
     pub fn algorithm(&self) -> Suite
         ensures { result ≡ self.now.suite }
     {
-        self.algorithm
+        self.lock.algorithm()
     }
 
     /// The algorithm suite's id.
     pub fn suite(&self) -> u16
         ensures { result ≡ suite_id self.now.suite }
     {
-        self.algorithm.id()
+        self.lock.algorithm().id()
     }
 
     /// The version of the format, 1 or 2.
     pub fn version(&self) -> u8
         ensures { result ≡ format_version self.now.suite }
     {
-        self.algorithm.format_version()
+        self.lock.algorithm().format_version()
     }
 
     /// The message id, as long as the suite says: 32 bytes, or 16 in version 1.
@@ -81,7 +57,7 @@ impl Header {
         ensures id { result.now ≡ self.now.message_id }
         ensures len { length self.now.message_id ≡ id_length self.now.suite }
     {
-        &self.id
+        self.lock.message_id()
     }
 
     /// The pairs of the encryption context that the header stores.
@@ -105,7 +81,7 @@ impl Header {
         ensures content { result ≡ self.now.content }
         ensures is_content { IsContent self.now.content }
     {
-        self.body
+        self.lock.content()
     }
 
     /// The algorithm suite data: the commitment to the data key, 32 bytes; none in version 1.
@@ -113,7 +89,7 @@ impl Header {
         ensures commitment { result.now ≡ self.now.commitment }
         ensures len { length self.now.commitment ≡ data_length self.now.suite }
     {
-        &self.suite_data
+        self.lock.commitment()
     }
 
     /// The header body, byte for byte as it was read.
@@ -123,20 +99,37 @@ impl Header {
         ensures keys_end { length self.now.raw ≤ latest_end + behind_keys self.now.suite }
         ensures short { length self.now.raw < 2 ^ 25 }
     {
-        &self.text
+        self.lock.raw()
     }
 
     /// The header's initialization vector: twelve zeros in version 2, which stores none.
     pub fn iv(&self) -> &[u8; 12]
         ensures { result.now ≡ self.now.iv }
     {
-        &self.vector
+        self.lock.iv()
     }
 
     /// The header's authentication tag.
     pub fn tag(&self) -> &[u8; 16]
         ensures { result.now ≡ self.now.tag }
     {
-        &self.authentication
+        self.lock.tag()
+    }
+
+    /// The header without its stored pairs and its encrypted data keys, lent.
+    pub fn lock(&self) -> &HeaderLock
+        ensures { result.now ≡ lock_of self.now }
+    {
+        &self.lock
+    }
+
+    /// The stored pairs, the encrypted data keys and what else the header has, handed out: nothing
+    /// is copied.
+    pub fn into_parts(self) -> (Context, Vec<DataKeyEntry>, HeaderLock)
+        ensures stored { result.0 ≡ self.stored }
+        ensures entries { result.1.items ≡ self.entries }
+        ensures lock { result.2 ≡ lock_of self }
+    {
+        (self.context, self.keys, self.lock)
     }
 }

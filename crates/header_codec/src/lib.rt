@@ -9,6 +9,7 @@ mod found;
 mod header;
 mod intake;
 mod laws;
+mod lock;
 mod parts;
 mod progress;
 mod session;
@@ -23,6 +24,7 @@ pub use laws::{
     headers_are_judged_in_order, one_header_is_read, some_header_is_read, spelled_headers_are_read,
     the_first_offence_is_the_fault, written_headers_are_headers, written_headers_are_read,
 };
+pub use lock::HeaderLock;
 pub use session::{HeaderReader, HeaderStep};
 pub use settings::Settings;
 pub use suite_table::Suite;

@@ -1,4 +1,4 @@
-//! A header's fields as they are borrowed from its bytes.
+//! A header's fields as they are read from its bytes.
 
 ghost use Rattle.std.specs.Prelude.{◌≤◌, length};
 
@@ -24,12 +24,12 @@ pub(crate) struct RawOpening<'a> {
     pub(crate) id: &'a [u8],
 }
 
-/// What follows the encrypted data keys, where it stands in the bytes, and the size of the body.
-#[derive(Clone, Copy)]
-pub(crate) struct RawEnding<'a> {
+/// What follows the encrypted data keys, copied, and the size of the body.
+#[derive(Drop)]
+pub(crate) struct HeaderEnding {
     pub(crate) content: Content,
-    pub(crate) commitment: &'a [u8],
+    pub(crate) commitment: Vec<u8>,
     pub(crate) size: usize,
     pub(crate) iv: [u8; 12],
-    pub(crate) tag: &'a [u8],
+    pub(crate) tag: [u8; 16],
 }

@@ -1,6 +1,7 @@
 //! How far a header was read, while its bytes come.
 
 ghost use Rattle.std.specs.Prelude.{◌≡◌, ◌+◌, ◌-◌, ◌≤◌, [], length, Some, None, is_some, true, IfErr, OnErr, OnOk};
+ghost use Rattle.esdk_fields.specs.Bytes.{AreBytes};
 ghost use Rattle.esdk_fields.specs.Place.{start};
 ghost use Rattle.esdk_fields.specs.Gives.{StopsAt};
 ghost use Rattle.header_codec.specs.Found.{FindsHeader};
@@ -10,6 +11,7 @@ ghost use Rattle.header_codec.specs.Progress.{Holds};
 
 use crate::found::Found;
 use crate::header::Header;
+use crate::lock::HeaderLock;
 use crate::settings::Settings;
 use crate::table::{context_field_of, ending_of, entry_of, keys_count_of, opening_of};
 use context_codec::Context;
@@ -45,7 +47,8 @@ pub(crate) struct Progress {
 /// A cursor behind the first `at` bytes.
 fn cursor_at<'a>(bytes: &'a [u8], at: usize) -> Cursor<'a>
     requires { at ≤ length bytes.now }
-    ensures { result ≡ behind at bytes.entry.now }
+    ensures place { result ≡ behind at bytes.entry.now }
+    ensures bytes { AreBytes bytes.entry.now }
 {
     let mut cursor = Cursor::new(bytes);
     match cursor.take(at) {
@@ -160,54 +163,59 @@ impl Progress {
         Ok(())
     }
 
-    /// Reads what follows the encrypted data keys. Ok: the header, whose parts are given away.
-    fn read_ending(&mut self, alloc: Global, bytes: &[u8]) -> Result<Found, Stop>
-        requires holds { Holds bytes.now self.old }
+    /// Reads what follows the encrypted data keys. Ok: the header, whose parts are given away; the
+    /// bytes themselves are its body.
+    fn read_ending(&mut self, alloc: Global, bytes: &mut Vec<u8>) -> Result<Found, Stop>
+        requires holds { Holds bytes.old.items self.old }
         requires front { is_some self.old.front ≡ true }
         requires left { self.old.left ≡ Some 0 }
-        ensures holds { OnErr result (Holds bytes.now self.new) }
+        ensures holds { OnErr result (Holds bytes.new.items self.new) }
+        ensures bytes { OnErr result (bytes.new.items ≡ bytes.old.items) }
         ensures settings { self.new.settings ≡ self.old.settings }
-        ensures finds { FindsHeader self.old.settings bytes.now result }
+        ensures finds { FindsHeader self.old.settings bytes.old.items result }
     {
         let Some(front) = &self.front else {
             unreachable!()
         };
         let mut cursor = cursor_at(bytes, self.at);
-        let ending = ending_of(front.suite, self.settings.max_unit, &mut cursor)?;
-        let suite_data = Vec::from_slice(alloc, ending.commitment)?;
-        let text = Vec::from_slice(alloc, &bytes[..ending.size])?;
-        let mut tag = [0; 16];
-        tag.copy_from_slice(ending.tag);
+        let ending = ending_of(alloc, front.suite, self.settings.max_unit, &mut cursor)?;
+        let end = cursor.offset();
+        let vector = ending.iv;
+        let authentication = ending.tag;
         let Some(front) = self.front.take() else {
             unreachable!()
         };
-        let header = Header {
+        let mut text = mem::replace(bytes, Vec::new(alloc));
+        text.truncate(ending.size);
+        let lock = HeaderLock {
             algorithm: front.suite,
             id: front.id,
+            body: ending.content,
+            suite_data: ending.commitment,
+            text,
+            vector,
+            authentication,
+        };
+        let header = Header {
             context: front.stored,
             keys: mem::replace(&mut self.keys, Vec::new(alloc)),
-            body: ending.content,
-            suite_data,
-            text,
-            vector: ending.iv,
-            authentication: tag,
+            lock,
         };
-        Ok(Found {
-            header,
-            end: cursor.offset(),
-        })
+        Ok(Found { header, end })
     }
 
-    /// Goes on reading: these are the bytes so far. Ok: the header, and no more is read.
+    /// Goes on reading: these are the bytes so far. Ok: the header, to which the bytes are given, and
+    /// no more is read.
     ///
     /// `Fault` with M1 to M9 or M23 to M26 and the offset where the field that has it ends;
     /// `Wanting` where neither a fault nor the header's authentication is whole in the bytes;
     /// `Memory` where memory runs out.
-    pub(crate) fn advance(&mut self, alloc: Global, bytes: &[u8]) -> Result<Found, Stop>
-        requires { Holds bytes.now self.old }
-        ensures holds { OnErr result (Holds bytes.now self.new) }
+    pub(crate) fn advance(&mut self, alloc: Global, bytes: &mut Vec<u8>) -> Result<Found, Stop>
+        requires { Holds bytes.old.items self.old }
+        ensures holds { OnErr result (Holds bytes.new.items self.new) }
+        ensures bytes { OnErr result (bytes.new.items ≡ bytes.old.items) }
         ensures settings { self.new.settings ≡ self.old.settings }
-        ensures finds { FindsHeader self.old.settings bytes.now result }
+        ensures finds { FindsHeader self.old.settings bytes.old.items result }
     {
         self.read_front(alloc, bytes)?;
         self.read_count(alloc, bytes)?;

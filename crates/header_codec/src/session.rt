@@ -1,5 +1,6 @@
 //! Reading a header that comes in pieces.
 
+ghost use Rattle.std.specs.Prelude.{◌≡◌, None};
 ghost use Rattle.std.specs.Option.{option_copied};
 ghost use Rattle.header_codec.specs.Session.{Session, opened, Answers, stepped, ShowsHeader};
 ghost use Rattle.header_codec.specs.Stands.{Stands};
@@ -101,5 +102,15 @@ impl HeaderReader {
         ensures { (v : Session) → Stands self v → ShowsHeader v result }
     {
         self.found
+    }
+
+    /// Hands out the header that `header` shows: nothing of it is copied. None exactly until it and
+    /// its authentication are whole, and then the reader stays as it is; else nothing is known of
+    /// it any more.
+    pub fn take_header(&mut self) -> Option<Header>
+        ensures shows { (v : Session) → Stands self.old v → ShowsHeader v result }
+        ensures same { result ≡ None → self.new ≡ self.old }
+    {
+        self.found.take()
     }
 }

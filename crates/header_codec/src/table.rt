@@ -6,10 +6,10 @@ ghost use Rattle.esdk_fields.specs.Reading.{bytes};
 ghost use Rattle.context_codec.specs.Split.{SpellsContext};
 ghost use Rattle.header_codec.specs.Header.{latest_end, content_type, frame_length};
 ghost use Rattle.header_codec.specs.Table.{is_version, suite_of_version, is_forbidden, is_over, is_content_type, is_frame_length, is_unit_over, content_of, type_field, suite_field, identity, opening, context_field, part, entry, reserved, content, header_iv};
-ghost use Rattle.header_codec.specs.Parts.{raw_entry, raw_opening, raw_ending};
+ghost use Rattle.header_codec.specs.Parts.{raw_entry, raw_opening, ending_fields};
 ghost use Rattle.header_codec.specs.Rest.{keys_count, ending};
 
-use crate::parts::{RawEnding, RawEntry, RawOpening};
+use crate::parts::{HeaderEnding, RawEntry, RawOpening};
 use context_codec::{Context, read_field};
 use esdk_fields::{
     Content, Cursor, Fault, FieldError, Stop, bytes_of, refused, sized_of, u8_of, u16_of, u32_of,
@@ -302,21 +302,32 @@ fn iv_of(cursor: &mut Cursor<'_>) -> Result<[u8; 12], Stop>
     Ok(iv)
 }
 
+/// A tag that stands in the bytes.
+fn tag_of(cursor: &mut Cursor<'_>) -> Result<[u8; 16], Stop>
+    ensures { Gives (λ tag. tag) result cursor.new (bytes 16 cursor.old) }
+{
+    let bytes = bytes_of(cursor, 16)?;
+    let mut tag = [0; 16];
+    tag.copy_from_slice(bytes);
+    Ok(tag)
+}
+
 /// What follows the encrypted data keys: content, commitment, authentication.
 #[tactic(auto, unfolding(crate::specs::Rest::ending))]
-pub(crate) fn ending_of<'a>(
+pub(crate) fn ending_of(
+    alloc: Global,
     suite: Suite,
     max_unit: Option<u64>,
-    cursor: &mut Cursor<'a>,
-) -> Result<RawEnding<'a>, Stop>
-    ensures { Gives raw_ending result cursor.new (ending suite max_unit cursor.old) }
+    cursor: &mut Cursor<'_>,
+) -> Result<HeaderEnding, Stop>
+    ensures { Gives ending_fields result cursor.new (ending suite max_unit cursor.old) }
 {
     let content = content_of(suite, max_unit, cursor)?;
-    let commitment = bytes_of(cursor, suite.data_length())?;
+    let commitment = Vec::from_slice(alloc, bytes_of(cursor, suite.data_length())?)?;
     let size = cursor.offset();
     let iv = header_iv_of(suite, cursor)?;
-    let tag = bytes_of(cursor, 16)?;
-    Ok(RawEnding {
+    let tag = tag_of(cursor)?;
+    Ok(HeaderEnding {
         content,
         commitment,
         size,

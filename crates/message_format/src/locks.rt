@@ -13,7 +13,7 @@ use crate::comparing::same;
 use context_codec::Context;
 use esdk_fields::{Blob, Fault};
 use gcm_core::GcmKey;
-use header_codec::Header;
+use header_codec::HeaderLock;
 use keyring_trait::DataKey;
 use std::alloc::{AllocError, Global};
 use suite_table::{Suite, committed_keys, derived};
@@ -65,7 +65,7 @@ fn tag_of(message_key: &mut GcmKey, iv: &[u8; 12], raw: &[u8], only: &[u8]) -> [
 
 /// The key that is derived for the message of a header, where the header commits to the data key or
 /// its suite has no commitments; else none. Key and commitment are derived in one call.
-fn committed_key(header: &Header, key: &DataKey) -> Option<[u8; 32]>
+fn committed_key(header: &HeaderLock, key: &DataKey) -> Option<[u8; 32]>
     ensures { MatchOption result (commits header.now key.now ≡ false) (λ derived_key.
         (commits header.now key.now ≡ true)
         × (derived_key ≡ derived header.now.suite key.now header.now.message_id)) }
@@ -94,7 +94,7 @@ fn committed_key(header: &Header, key: &DataKey) -> Option<[u8; 32]>
 #[tactic(auto, unfolding(crate::specs::Judgement::lock_fault, crate::specs::Message::header_tag))]
 pub fn unlocked_key(
     alloc: Global,
-    header: &Header,
+    header: &HeaderLock,
     only: &Context,
     key: &DataKey,
 ) -> Result<Result<GcmKey, Fault>, AllocError>

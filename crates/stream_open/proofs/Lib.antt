@@ -16,4 +16,5 @@ pub mod GoingOn
 pub mod FoundFaults
 pub mod Feeding
 pub mod Keeping
+pub mod Locks
 pub mod Marks

@@ -15,7 +15,7 @@ use crate::message_id::MessageId;
 use crate::unit_buffer::UnitBuffer;
 use esdk_fields::{Content, Fault};
 use frame_codec::{Head, UnitHead, UnitKind, judge_head};
-use header_codec::Header;
+use header_codec::HeaderLock;
 use std::alloc::{AllocError, Global};
 
 /// How many bytes a final frame has beside its content; a regular one has fewer.
@@ -52,7 +52,7 @@ impl Body {
     /// where memory runs out.
     pub(crate) fn new(
         alloc: Global,
-        header: &Header,
+        header: &HeaderLock,
         max_unit: Option<u64>,
         key: BodyKey,
     ) -> Result<Body, AllocError>

@@ -8,12 +8,12 @@ ghost use Rattle.stream_open.specs.Asking.{asking_of};
 ghost use Rattle.stream_open.specs.Session.{OpeningValue, opened, judged_now, asked_of, finish_answer, finished, whole_context, only_authenticated, is_end};
 ghost use Rattle.stream_open.specs.Stands.{Stands, Steps, quiet, unread_as};
 
-use crate::asking::materials_for;
+use crate::asking::{Asked, materials_for};
 use crate::errors::OpenError;
 use crate::unlocked::{Unlocked, unlocked_by};
 use context_codec::Context;
 use esdk_fields::{Fault, FieldError};
-use header_codec::{Header, HeaderReader, Settings};
+use header_codec::{HeaderReader, Settings};
 use keyring_trait::{Manager, Served};
 use std::alloc::Global;
 
@@ -159,13 +159,13 @@ impl Opener {
             Ok(step) => step,
             Err(error) => return Err(unread(error)),
         };
-        let Some(header) = self.reader.header() else {
+        let Some(header) = self.reader.take_header() else {
             self.stopped = false;
             return Ok(step.used);
         };
-        let materials = materials_for(alloc, manager, now, &self.given, header)?;
+        let Asked { materials, lock } = materials_for(alloc, manager, now, &self.given, header)?;
         self.served = Some(materials.served());
-        self.unlocked = Some(unlocked_by(alloc, header, self.settings.max_unit, materials)?);
+        self.unlocked = Some(unlocked_by(alloc, &lock, self.settings.max_unit, materials)?);
         self.stopped = false;
         Ok(step.used)
     }

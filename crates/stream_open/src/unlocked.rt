@@ -10,7 +10,7 @@ use crate::body::Body;
 use crate::body_key::BodyKey;
 use crate::errors::OpenError;
 use context_codec::Context;
-use header_codec::Header;
+use header_codec::HeaderLock;
 use keyring_trait::DecMaterials;
 use message_format::unlocked_key;
 use std::alloc::Global;
@@ -40,7 +40,7 @@ impl Unlocked {
 /// doesn't store; `Memory` where memory runs out; never another error.
 pub(crate) fn unlocked_by(
     alloc: Global,
-    header: &Header,
+    header: &HeaderLock,
     max_unit: Option<u64>,
     materials: DecMaterials,
 ) -> Result<Unlocked, OpenError>

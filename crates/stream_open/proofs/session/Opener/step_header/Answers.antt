@@ -1,5 +1,6 @@
 use Rattle.std.proofs.Common.{◌≡◌, ℕ, false, true, Some, Err, List, ◌++◌, take, refl, sym, ap, subst, ◌∙◌}
 use Rattle.context_codec.specs.Context.{KeyValue}
+use Rattle.header_codec.specs.declared.session.HeaderReader.{HeaderReader}
 use Rattle.header_codec.specs.Header.{HeaderValue}
 use Rattle.header_codec.specs.Session.{Session}
 use Rattle.header_codec.specs.Stands.{Stands as Reads}
@@ -12,6 +13,7 @@ use Rattle.stream_open.specs.Asking.{Asking, asking_of, request_of}
 use Rattle.stream_open.specs.Stands.{Steps}
 use Rattle.stream_open.proofs.Headers.{Shown, shown, was_asked, not_shown, used_within}
 use Rattle.stream_open.proofs.HeaderSteps.{locked_at, steps_unread, steps_waiting, steps_unanswered, steps_not_unlocked, steps_opened, steps_failed}
+use Rattle.stream_open.proofs.Locks.{begun_lock, not_unlocked_lock}
 use Rattle.stream_open.proofs.session.Opener.step_header.Goals as goal
 
 pub returns-in-Err-clause-steps : goal.returns-in-Err-clause-steps
@@ -40,9 +42,10 @@ returns-in_default-clause-steps g c = λ v stands.
     let answer = c.in-Ok.ensures.answer before (lock.reads going) in
     let after : Session = record { settings = v.settings; taken = v.taken ++ take used piece; stopped = false } in
     let reads : Reads c.step.new.self after = c.in-Ok.ensures.stands before (lock.reads going) in
-    let front = c.in_default.ensures after reads in
+    let front = c.in_default.ensures.shows after reads in
     let none = not_shown v.taken piece v.settings c.in-Ok.step answer front in
-    steps_waiting manager c.args.self.now (record c.args.self.now { reader = c.step.new.self; stopped = false }) v piece used stands going lock (λ lines h. h) none.all none.whole front reads
+    steps_waiting manager c.args.self.now (record c.args.self.now { reader = c.take_header.new.self; stopped = false }) v piece used stands going lock (λ lines h. h) none.all none.whole front
+    (subst (λ (r : HeaderReader). Reads r after) (sym (c.in_default.ensures.same refl)) reads)
     refl refl refl refl c.requires.locked
 
 pub returns-in_default-clause-within : goal.returns-in_default-clause-within
@@ -64,10 +67,10 @@ returns-in_err-materials-clause-steps g c = λ v stands.
     let answer = c.in-Ok.ensures.answer before (lock.reads going) in
     let after : Session = record { settings = v.settings; taken = v.taken ++ take used piece; stopped = false } in
     let reads : Reads c.step.new.self after = c.in-Ok.ensures.stands before (lock.reads going) in
-    let h : HeaderValue = c.in-Some.header.now in
-    let header_is : Shown v piece used h = shown v piece used h (c.in-Some.ensures after reads) in
+    let h : HeaderValue = c.in-Some.header in
+    let header_is : Shown v piece used h = shown v piece used h (c.in-Some.ensures.shows after reads) in
     let error : OpenError = c.in_err-materials.field-0.0 in
-    let next : Opener = record c.args.self.now { reader = c.step.new.self; stopped = true } in
+    let next : Opener = record c.args.self.now { reader = c.take_header.new.self; stopped = true } in
     let cause : Unanswered manager (request_of v.given h) error = subst (λ (given : List KeyValue). Unanswered manager (request_of given h) error) stands.given c.in_err-materials.ensures.cause in
     steps_failed manager next v piece c.from_residual.result error c.from_residual.ensures.1
     (steps_unanswered manager c.args.self.now next v piece used h error stands going lock header_is cause refl refl refl refl c.requires.locked)
@@ -85,14 +88,14 @@ returns-in_err-unlocked_by-clause-steps g c = λ v stands.
     let answer = c.in-Ok.ensures.answer before (lock.reads going) in
     let after : Session = record { settings = v.settings; taken = v.taken ++ take used piece; stopped = false } in
     let reads : Reads c.step.new.self after = c.in-Ok.ensures.stands before (lock.reads going) in
-    let h : HeaderValue = c.in-Some.header.now in
-    let header_is : Shown v piece used h = shown v piece used h (c.in-Some.ensures after reads) in
-    let m : DecMaterialsValue = c.in_ok-materials.materials in
+    let h : HeaderValue = c.in-Some.header in
+    let header_is : Shown v piece used h = shown v piece used h (c.in-Some.ensures.shows after reads) in
+    let m : DecMaterialsValue = c.in_ok-materials.field-0.materials in
     let answered : Answered manager (request_of v.given h) m = subst (λ (given : List KeyValue). Answered manager (request_of given h) m) stands.given c.in_ok-materials.ensures.found in
     let error : OpenError = c.in_err-unlocked_by.field-0.0 in
-    let next : Opener = record c.args.self.now { reader = c.step.new.self; served = Some c.served.result; stopped = true } in
+    let next : Opener = record c.args.self.now { reader = c.take_header.new.self; served = Some c.served.result; stopped = true } in
     steps_failed manager next v piece c.from_residual-in_err-unlocked_by.result error c.from_residual-in_err-unlocked_by.ensures.1
-    (steps_not_unlocked manager c.args.self.now next v piece used h m error stands going lock header_is answered c.in_err-unlocked_by.ensures.cause refl refl (ap (λ (s : Served). Some s) c.served.ensures) refl
+    (steps_not_unlocked manager c.args.self.now next v piece used h m error stands going lock header_is answered (not_unlocked_lock h _ m error c.in_ok-materials.ensures.lock c.in_err-unlocked_by.ensures.cause) refl refl (ap (λ (s : Served). Some s) c.served.ensures) refl
     c.requires.locked)
 
 pub returns-clause-steps : goal.returns-clause-steps
@@ -108,13 +111,13 @@ returns-clause-steps g c = λ v stands.
     let answer = c.in-Ok.ensures.answer before (lock.reads going) in
     let after : Session = record { settings = v.settings; taken = v.taken ++ take used piece; stopped = false } in
     let reads : Reads c.step.new.self after = c.in-Ok.ensures.stands before (lock.reads going) in
-    let h : HeaderValue = c.in-Some.header.now in
-    let header_is : Shown v piece used h = shown v piece used h (c.in-Some.ensures after reads) in
-    let m : DecMaterialsValue = c.in_ok-materials.materials in
+    let h : HeaderValue = c.in-Some.header in
+    let header_is : Shown v piece used h = shown v piece used h (c.in-Some.ensures.shows after reads) in
+    let m : DecMaterialsValue = c.in_ok-materials.field-0.materials in
     let answered : Answered manager (request_of v.given h) m = subst (λ (given : List KeyValue). Answered manager (request_of given h) m) stands.given c.in_ok-materials.ensures.found in
-    let next : Opener = record c.args.self.now { reader = c.step.new.self; served = Some c.served.result; unlocked = Some c.in_ok-unlocked_by.field-0; stopped = false } in
+    let next : Opener = record c.args.self.now { reader = c.take_header.new.self; served = Some c.served.result; unlocked = Some c.in_ok-unlocked_by.field-0; stopped = false } in
     steps_opened manager c.args.self.now next v piece used h m c.in_ok-unlocked_by.field-0 stands going lock header_is (used_within v.taken piece v.settings c.in-Ok.step answer) answered
-    c.in_ok-unlocked_by.ensures.unlocked refl refl (ap (λ (s : Served). Some s) c.served.ensures) refl refl
+    (begun_lock c.in_ok-unlocked_by.field-0 h _ c.args.self.now.settings.max_unit m c.in_ok-materials.ensures.lock c.in_ok-unlocked_by.ensures.unlocked) refl refl (ap (λ (s : Served). Some s) c.served.ensures) refl refl
 
 pub returns-clause-within : goal.returns-clause-within
 returns-clause-within g c = λ v stands.
@@ -131,8 +134,8 @@ returns-in_err-materials-clause-unasked g c = λ v stands none.
     let used : ℕ = c.in-Ok.step.used in
     let after : Session = record { settings = v.settings; taken = v.taken ++ take used piece; stopped = false } in
     let reads : Reads c.step.new.self after = c.in-Ok.ensures.stands before (lock.reads going) in
-    let h : HeaderValue = c.in-Some.header.now in
-    absurd (was_asked v piece used h going (lock.unheard going) (shown v piece used h (c.in-Some.ensures after reads)) none)
+    let h : HeaderValue = c.in-Some.header in
+    absurd (was_asked v piece used h going (lock.unheard going) (shown v piece used h (c.in-Some.ensures.shows after reads)) none)
 
 pub returns-in_err-unlocked_by-clause-unasked : goal.returns-in_err-unlocked_by-clause-unasked
 returns-in_err-unlocked_by-clause-unasked g c = λ v stands none.
@@ -143,8 +146,8 @@ returns-in_err-unlocked_by-clause-unasked g c = λ v stands none.
     let used : ℕ = c.in-Ok.step.used in
     let after : Session = record { settings = v.settings; taken = v.taken ++ take used piece; stopped = false } in
     let reads : Reads c.step.new.self after = c.in-Ok.ensures.stands before (lock.reads going) in
-    let h : HeaderValue = c.in-Some.header.now in
-    absurd (was_asked v piece used h going (lock.unheard going) (shown v piece used h (c.in-Some.ensures after reads)) none)
+    let h : HeaderValue = c.in-Some.header in
+    absurd (was_asked v piece used h going (lock.unheard going) (shown v piece used h (c.in-Some.ensures.shows after reads)) none)
 
 pub returns-clause-unasked : goal.returns-clause-unasked
 returns-clause-unasked g c = λ v stands none.
@@ -155,5 +158,5 @@ returns-clause-unasked g c = λ v stands none.
     let used : ℕ = c.in-Ok.step.used in
     let after : Session = record { settings = v.settings; taken = v.taken ++ take used piece; stopped = false } in
     let reads : Reads c.step.new.self after = c.in-Ok.ensures.stands before (lock.reads going) in
-    let h : HeaderValue = c.in-Some.header.now in
-    absurd (was_asked v piece used h going (lock.unheard going) (shown v piece used h (c.in-Some.ensures after reads)) none)
+    let h : HeaderValue = c.in-Some.header in
+    absurd (was_asked v piece used h going (lock.unheard going) (shown v piece used h (c.in-Some.ensures.shows after reads)) none)
