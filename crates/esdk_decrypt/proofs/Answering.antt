@@ -1,5 +1,7 @@
 -- The answer that a session keeps is the manager's to the header at the front of its bytes.
-use Rattle.std.proofs.Common.{◌≡◌, ◌∙◌, ℕ, ◌≤◌, List, [], ◌++◌, length, Option, Some, None, refl, sym, ap, subst, arith}
+use Rattle.std.proofs.Common.{◌≡◌, ◌∙◌, ℕ, ◌≤◌, List, [], ◌++◌, length, take, min, true, false, Option, Some, None, refl, sym, ap, subst, arith, append_assoc, length-append}
+use Rattle.std.proofs.lemmas.List.{take_min, take-append-le}
+use Rattle.std.specs.Io.KnownBytes.{Appends}
 use Rattle.std.specs.List.{concat}
 use Rattle.std.specs.Prelude.{IfSome, option_map}
 use Rattle.std.proofs.lemmas.List.Folds.{concat-append}
@@ -7,7 +9,6 @@ use Rattle.esdk_fields.specs.declared.faults.Fault.TheVariants.{Truncated}
 use Rattle.esdk_fields.specs.Place.{Place, start, followed}
 use Rattle.esdk_fields.specs.Reading.{Reading, Read, Refused, Wanting, value_of}
 use Rattle.esdk_fields.proofs.Fronts.{value_stays}
-use Rattle.esdk_base.specs.Sink.{AppendsFront}
 use Rattle.esdk_base.specs.Streams.{SinkState, SourceState}
 use Rattle.context_codec.specs.Context.{KeyValue}
 use Rattle.header_codec.specs.declared.settings.Settings.{Settings}
@@ -20,11 +21,14 @@ use Rattle.message_format.specs.Judgement.{Judged, content, header_of, judged}
 use Rattle.message_format.proofs.Following.{header_stays, judged_goes_on, units_stay}
 use Rattle.message_format.proofs.Judging.{judged_refused, judged_wanting}
 use Rattle.stream_open.specs.Asking.{Asking, request_of}
-use Rattle.stream_open.specs.Feeding.{KeepsAnswer, header_in}
-use Rattle.stream_open.specs.Session.{answer_kept}
+use Rattle.body_format.specs.declared.verdicts.Verdict.{Verdict}
+use Rattle.body_format.specs.declared.verdicts.Verdict.TheVariants.{Going, Whole, Faulty}
+use Rattle.stream_open.specs.Feeding.{GoesOn, KeepsAnswer, header_in}
+use Rattle.stream_open.specs.Session.{OpeningValue, answer_kept, is_faulty, judged_now}
+use Rattle.whole_input.specs.Pieces.{most_piece}
 use Rattle.whole_input.specs.Taken.{Came}
-use Rattle.whole_input.proofs.Fronts.{front_longer}
-use Rattle.esdk_decrypt.specs.Decrypt.{Answering, AnswersReading, AnswersRequest, AnswersTo, Asked, FailsReading, FailsTo, ReleasesFront}
+use Rattle.whole_input.specs.Written.{WritesBeyond}
+use Rattle.esdk_decrypt.specs.Decrypt.{Answering, AnswersReading, AnswersRequest, AnswersTo, Asked, FailsReading, FailsTo, ReleasesBeyond, ReleasesFront, fault_of}
 use Rattle.esdk_decrypt.specs.Underway.{asking_in}
 
 -- ---- what is kept
@@ -108,6 +112,49 @@ nothing_by settings b answer Wanting e none = ap content (judged_wanting b setti
 pub nothing_unread : (settings : Settings) (b : List ℕ) (answer : Unlocking) → head settings b ≡ None → content (judged b settings answer) ≡ []
 nothing_unread settings b answer none = nothing_by settings b answer (header settings (start b)) refl none
 
+-- and no answer plays a part in how the bytes are judged
+any_by : (settings : Settings) (b : List ℕ) (one other : Unlocking) (r : Reading Head) → header settings (start b) ≡ r → value_of r ≡ None → judged b settings one ≡ judged b settings other
+any_by settings b one other (Read parts p) e none = absurd (let no : Some parts ≡ None = none in cc)
+any_by settings b one other (Refused fault at) e none = judged_refused b settings one fault at e ∙ sym (judged_refused b settings other fault at e)
+any_by settings b one other Wanting e none = judged_wanting b settings one e ∙ sym (judged_wanting b settings other e)
+
+pub any_unread : (settings : Settings) (b : List ℕ) (one other : Unlocking) → head settings b ≡ None → judged b settings one ≡ judged b settings other
+any_unread settings b one other none = any_by settings b one other (header settings (start b)) refl none
+
+-- ---- no fault
+
+pub sound_none : (verdict : Verdict) → is_faulty verdict ≡ false → fault_of verdict ≡ None
+sound_none Going e = refl
+sound_none Whole e = refl
+sound_none (Faulty fault) e = absurd cc
+
+-- a session that goes on and keeps no answer wants bytes of the header
+wanting_by : (v : OpeningValue) (r : Reading Head) → header v.settings (start v.taken) ≡ r → GoesOn v → v.answer ≡ None → header v.settings (start v.taken) ≡ Wanting
+wanting_by v (Read parts p) e goes none = absurd (let no : Some parts ≡ None = sym (ap value_of e) ∙ goes.unheard none in cc)
+wanting_by v (Refused fault at) e goes none =
+    absurd (let no : true ≡ false = sym (ap (λ (j : Judged). is_faulty j.verdict) (judged_refused v.taken v.settings (answer_kept v.answer) fault at e)) ∙ goes.sound in cc)
+wanting_by v Wanting e goes none = e
+
+pub still_wanting : (v : OpeningValue) → GoesOn v → v.answer ≡ None → header v.settings (start v.taken) ≡ Wanting
+still_wanting v goes none = wanting_by v (header v.settings (start v.taken)) refl goes none
+
+-- an answer that is the kept one, where one is kept, judges the bytes taken as they were judged
+judged_by : (v : OpeningValue) (answer : Unlocking) (kept : Option Unlocking) → v.answer ≡ kept → GoesOn v → IfSome kept (λ a. answer ≡ a) → judged v.taken v.settings answer ≡ judged_now v
+judged_by v answer None e goes is = any_unread v.settings v.taken answer (answer_kept v.answer) (goes.unheard e)
+judged_by v answer (Some a) e goes is = ap (judged v.taken v.settings) (is ∙ sym (ap answer_kept e))
+
+-- and so does one that is kept later
+kept_then : (before after : Option Unlocking) (answer : Unlocking) → ((a : Unlocking) → before ≡ Some a → after ≡ Some a) → IfSome after (λ a. answer ≡ a) → IfSome before (λ a. answer ≡ a)
+kept_then None after answer on is = tt
+kept_then (Some a) after answer on is = subst (λ (o : Option Unlocking). IfSome o (λ k. answer ≡ k)) (on a refl) is
+
+pub judged_before : (v : OpeningValue) (answer : Unlocking) (later : Option Unlocking) → GoesOn v → ((a : Unlocking) → v.answer ≡ Some a → later ≡ Some a) → IfSome later (λ a. answer ≡ a)
+    → judged v.taken v.settings answer ≡ judged_now v
+judged_before v answer later goes on is = judged_by v answer v.answer refl goes (kept_then v.answer later answer on is)
+
+pub sound_before : (v : OpeningValue) (j : Judged) → GoesOn v → j ≡ judged_now v → fault_of j.verdict ≡ None
+sound_before v j goes same = ap (λ (k : Judged). fault_of k.verdict) same ∙ sound_none (judged_now v).verdict goes.sound
+
 -- ---- when more bytes follow
 
 -- the answer to a header stays the answer
@@ -119,36 +166,74 @@ answers_on manager settings given b more answer parts p e answers =
     (subst (λ (h : HeaderValue). AnswersRequest manager (request_of given h) answer) (sym (header_stays settings b more parts p e))
     (subst (λ (r : Reading Head). AnswersReading manager given b r answer) e answers))
 
+-- and was it before
+pub answers_before : (manager : Answering) (settings : Settings) (given : List KeyValue) (b more : List ℕ) (answer : Unlocking) (parts : Head) (p : Place) → header settings (start b) ≡ Read parts p
+    → AnswersTo manager settings given (b ++ more) answer → AnswersTo manager settings given b answer
+answers_before manager settings given b more answer parts p e answers =
+    let on : header settings (start (b ++ more)) ≡ Read parts (followed p more) = value_stays (header settings) b more parts p (IsSequential-header settings) e in
+    subst (λ (r : Reading Head). AnswersReading manager given b r answer) (sym e)
+    (subst (λ (h : HeaderValue). AnswersRequest manager (request_of given h) answer) (header_stays settings b more parts p e)
+    (subst (λ (r : Reading Head). AnswersReading manager given (b ++ more) r answer) on answers))
+
 -- and what is released goes on
 content_on : (settings : Settings) (b more : List ℕ) (answer : Unlocking) → (added : List ℕ) × (content (judged (b ++ more) settings answer) ≡ content (judged b settings answer) ++ added)
 content_on settings b more answer =
     let on = units_stay (λ c. judged c settings answer) (judged_goes_on settings answer) b more in
     (concat on.0, ap concat on.1 ∙ concat-append (judged b settings answer).units on.0)
 
--- a front of what some bytes release is a front of what they release when more follow
-front_read : (asked : Asked) (input taken : SourceState) (output put : SinkState) (b more : List ℕ) (j : Judged) (kept : Option Unlocking) (parts : Head) (p : Place) → header asked.settings (start b) ≡ Read parts p
-    → Answered asked.manager asked.settings asked.given b j kept → Came input taken (b ++ more) → AppendsFront output.written put.written (content j) → ReleasesFront asked input taken output put
-front_read asked input taken output put b more j kept parts p e answered came front =
-    let on = content_on asked.settings b more answered.answer in
-    let whole : content (judged (b ++ more) asked.settings answered.answer) ≡ content j ++ on.0 = on.1 ∙ ap (λ (k : Judged). content k ++ on.0) answered.same in
+-- what was written beyond some bytes' content, while more were judged, when yet more follow
+beyond_more : (output put : SinkState) (first all added : List ℕ) → WritesBeyond output put first all → WritesBeyond output put first (all ++ added)
+beyond_more output put first all added writes = record {
+  more = writes.more ++ added;
+  some = omega (arith, writes.some, length-append writes.more added);
+  is = ap (λ (b : List ℕ). b ++ added) writes.is ∙ append_assoc first writes.more added;
+  count = min writes.count (length writes.more);
+  gained = subst (λ (b : List ℕ). Appends output.written put.written (first ++ b))
+      (sym (take_min writes.count writes.more) ∙ sym (take-append-le (min writes.count (length writes.more)) writes.more added (omega arith))) writes.gained;
+}
+
+-- what was written beyond what some bytes release, while others behind them were judged, when more follow
+front_read : (asked : Asked) (input taken : SourceState) (output put : SinkState) (first piece b more : List ℕ) (answer : Unlocking) (parts : Head) (p : Place) → header asked.settings (start b) ≡ Read parts p
+    → AnswersTo asked.manager asked.settings asked.given b answer → Came input taken (b ++ more) → b ++ more ≡ first ++ piece → length piece ≤ most_piece
+    → ReleasesBeyond asked.settings answer output put b first → ReleasesFront asked input taken output put
+front_read asked input taken output put first piece b more answer parts p e answered came all few beyond =
+    let on = content_on asked.settings b more answer in
     record {
       bytes = b ++ more;
-      answer = answered.answer;
+      answer = answer;
       came = came;
-      answered = answers_on asked.manager asked.settings asked.given b more answered.answer parts p e answered.answered;
-      front = subst (λ (c : List ℕ). AppendsFront output.written put.written c) (sym whole) (front_longer output.written put.written (content j) on.0 front);
+      answered = answers_on asked.manager asked.settings asked.given b more answer parts p e answered;
+      last = record {
+        before = first;
+        piece = piece;
+        all = all;
+        few = few;
+        was = record {
+          sound = beyond.sound;
+          written = subst (λ (c : List ℕ). WritesBeyond output put (content (judged first asked.settings answer)) c) (sym on.1)
+              (beyond_more output put (content (judged first asked.settings answer)) (content (judged b asked.settings answer)) on.0 beyond.written);
+        };
+      };
     }
 
-front_by : (asked : Asked) (input taken : SourceState) (output put : SinkState) (b more : List ℕ) (j : Judged) (kept : Option Unlocking) (r : Reading Head) → header asked.settings (start b) ≡ r
-    → Answered asked.manager asked.settings asked.given b j kept → 1 ≤ length (content j) → Came input taken (b ++ more) → AppendsFront output.written put.written (content j)
-    → ReleasesFront asked input taken output put
-front_by asked input taken output put b more j kept (Read parts p) e answered some came front = front_read asked input taken output put b more j kept parts p e answered came front
-front_by asked input taken output put b more j kept (Refused fault at) e answered some came front =
-    absurd (omega (arith, some, ap (λ (k : Judged). length (content k)) (sym answered.same ∙ judged_refused b asked.settings answered.answer fault at e)))
-front_by asked input taken output put b more j kept Wanting e answered some came front =
-    absurd (omega (arith, some, ap (λ (k : Judged). length (content k)) (sym answered.same ∙ judged_wanting b asked.settings answered.answer e)))
+-- of bytes that release nothing nothing was written
+none_beyond : (settings : Settings) (answer : Unlocking) (output put : SinkState) (b first : List ℕ) → ReleasesBeyond settings answer output put b first → content (judged b settings answer) ≡ [] → ⊥
+none_beyond settings answer output put b first beyond none =
+    let first_content : List ℕ = content (judged first settings answer) in
+    omega (arith, beyond.written.some, ap length (sym none ∙ beyond.written.is), length-append first_content beyond.written.more)
 
-pub front_released : (asked : Asked) (input taken : SourceState) (output put : SinkState) (b more : List ℕ) (j : Judged) (kept : Option Unlocking) → Answered asked.manager asked.settings asked.given b j kept
-    → 1 ≤ length (content j) → Came input taken (b ++ more) → AppendsFront output.written put.written (content j) → ReleasesFront asked input taken output put
-front_released asked input taken output put b more j kept answered some came front =
-    front_by asked input taken output put b more j kept (header asked.settings (start b)) refl answered some came front
+front_by : (asked : Asked) (input taken : SourceState) (output put : SinkState) (first piece b more : List ℕ) (answer : Unlocking) (r : Reading Head) → header asked.settings (start b) ≡ r
+    → AnswersTo asked.manager asked.settings asked.given b answer → Came input taken (b ++ more) → b ++ more ≡ first ++ piece → length piece ≤ most_piece
+    → ReleasesBeyond asked.settings answer output put b first → ReleasesFront asked input taken output put
+front_by asked input taken output put first piece b more answer (Read parts p) e answered came all few beyond =
+    front_read asked input taken output put first piece b more answer parts p e answered came all few beyond
+front_by asked input taken output put first piece b more answer (Refused fault at) e answered came all few beyond =
+    absurd (none_beyond asked.settings answer output put b first beyond (nothing_by asked.settings b answer (Refused fault at) e refl))
+front_by asked input taken output put first piece b more answer Wanting e answered came all few beyond =
+    absurd (none_beyond asked.settings answer output put b first beyond (nothing_by asked.settings b answer Wanting e refl))
+
+pub front_released : (asked : Asked) (input taken : SourceState) (output put : SinkState) (first piece b more : List ℕ) (answer : Unlocking)
+    → AnswersTo asked.manager asked.settings asked.given b answer → Came input taken (b ++ more) → b ++ more ≡ first ++ piece → length piece ≤ most_piece
+    → ReleasesBeyond asked.settings answer output put b first → ReleasesFront asked input taken output put
+front_released asked input taken output put first piece b more answer answered came all few beyond =
+    front_by asked input taken output put first piece b more answer (header asked.settings (start b)) refl answered came all few beyond

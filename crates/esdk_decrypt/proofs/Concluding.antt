@@ -1,5 +1,5 @@
 -- How a decryption begins, and how it ends when all bytes that came were fed.
-use Rattle.std.proofs.Common.{◌≡◌, ◌∙◌, ℕ, List, [], Bool, true, false, Option, Some, None, Result, Ok, Err, IfOk, if◌then◌else◌, refl, sym, ap, subst, inr, arith}
+use Rattle.std.proofs.Common.{◌≡◌, ◌∙◌, ℕ, List, [], Bool, true, false, Option, Some, None, Result, Ok, Err, IfOk, if◌then◌else◌, refl, sym, ap, subst, inr, arith, append-nil}
 use Rattle.std.specs.Prelude.{IfErr, IfSome, IsErrAnd}
 use Rattle.std.proofs.KnownBytes.{Appends-nil}
 use Rattle.std.specs.Io.KnownBytes.{Appends}
@@ -20,7 +20,7 @@ use Rattle.stream_open.specs.declared.errors.OpenError.{OpenError}
 use Rattle.stream_open.specs.declared.errors.OpenError.TheVariants as opens
 use Rattle.stream_open.specs.declared.session.Opener.{Opener}
 use Rattle.stream_open.specs.Feeding.{GoesOn}
-use Rattle.stream_open.specs.Session.{OpeningValue, answer_kept, end_of, finish_answer, finished, is_faulty, is_framed, judged_now, opened, whole_context, whole_in}
+use Rattle.stream_open.specs.Session.{OpeningValue, answer_kept, end_of, finish_answer, finished, is_framed, judged_now, opened, whole_context, whole_in}
 use Rattle.stream_open.specs.Stands.{Stands}
 use Rattle.stream_open.proofs.Feeding.{ends_so, opened_goes}
 use Rattle.stream_open.proofs.Keeping.{opened_keeps}
@@ -32,7 +32,7 @@ use Rattle.esdk_decrypt.specs.Decrypt.{Answering, Asked, Decrypts, EndsSo, HasCo
 use Rattle.esdk_decrypt.specs.Underway.{Concludes, ConcludesWhole, IsCalled, IsFedWhole, IsUnderway, asking_in}
 use Rattle.esdk_decrypt.specs.declared.errors.DecryptError.{DecryptError}
 use Rattle.esdk_decrypt.specs.declared.errors.DecryptError.TheVariants as errors
-use Rattle.esdk_decrypt.proofs.Answering.{Answered, answered_kept, nothing_unread}
+use Rattle.esdk_decrypt.proofs.Answering.{Answered, answered_kept, nothing_unread, sound_none}
 
 -- ---- the beginning
 
@@ -177,11 +177,6 @@ kept_is : (kept : Option Unlocking) (answer : Unlocking) (context only : List Ke
 kept_is None answer context only key kept is = absurd cc
 kept_is (Some k) answer context only key kept is = kept ∙ is
 
-sound_none : (verdict : Verdict) → is_faulty verdict ≡ false → fault_of verdict ≡ None
-sound_none Going e = refl
-sound_none Whole e = refl
-sound_none (Faulty fault) e = absurd cc
-
 concluded_ok : (asked : Asked) (unasked : Type 0) (input taken : SourceState) (output put : SinkState) (unwritten : Type 0) (end : End) (opener : Opener) (context : List KeyValue)
     → (w : IsFedWhole asked unasked input taken output put unwritten end opener) → Concludes w.underway.session end (Ok context) → Decrypts asked input taken output put context
 concluded_ok asked unasked input taken output put unwritten ends.Seen opener context w (whole, context_is) =
@@ -209,6 +204,13 @@ concluded_err asked unasked input taken output put unwritten ends.Seen opener (e
       answer = a.answer;
       releases = releases_by asked input taken output put w.bytes (judged_now w.underway.session) w.underway.session.answer a w.came w.underway.gained;
       cause = inr (w.ends, ap (λ (j : Judged). fault_at_end j.verdict) a.same ∙ is);
+      last = record {
+        before = w.bytes;
+        piece = [];
+        all = sym (append-nil w.bytes);
+        few = omega arith;
+        was = ap (λ (j : Judged). fault_of j.verdict) a.same ∙ sound_none (judged_now w.underway.session).verdict w.underway.goes.sound;
+      };
     }
 concluded_err asked unasked input taken output put unwritten ends.Seen opener (errors.Outside outside) w none = absurd none
 concluded_err asked unasked input taken output put unwritten ends.Seen opener errors.Memory w none = absurd none

@@ -6,7 +6,7 @@ use Rattle.esdk_fields.specs.declared.refusals.Outside.TheVariants as outsides
 use Rattle.esdk_base.specs.Streams.{SinkState, SourceState}
 use Rattle.header_codec.specs.Header.{HeaderValue}
 use Rattle.keyring_trait.specs.Unlocking.{Unlocking}
-use Rattle.message_format.specs.Judgement.{Judged, content}
+use Rattle.message_format.specs.Judgement.{Judged, content, judged}
 use Rattle.stream_open.specs.declared.errors.OpenError.{OpenError}
 use Rattle.stream_open.specs.declared.errors.OpenError.TheVariants as opens
 use Rattle.stream_open.specs.declared.session.Opener.{Opener}
@@ -23,7 +23,7 @@ use Rattle.esdk_decrypt.specs.Decrypt.{Answering, Asked, EndsSo, fault_of}
 use Rattle.esdk_decrypt.specs.Underway.{IsCalled, asking_in}
 use Rattle.esdk_decrypt.specs.declared.errors.DecryptError.{DecryptError}
 use Rattle.esdk_decrypt.specs.declared.errors.DecryptError.TheVariants as errors
-use Rattle.esdk_decrypt.proofs.Answering.{Answered, answered_kept, fails_whole}
+use Rattle.esdk_decrypt.proofs.Answering.{Answered, answered_kept, fails_whole, judged_before, sound_before, still_wanting}
 
 -- A step that answered so, when what was heard and what is kept are this manager's answers.
 pub record StepsWith (manager : Answering) (v : OpeningValue) (piece : List ℕ) (answer : Result ℕ OpenError) (heard : Heard) : Type 0 where
@@ -133,6 +133,14 @@ pub record Left (input taken : SourceState) (output put : SinkState) (unwritten 
   pub gained : Appends output.written put.written (content (judged_now v))
   pub nothing : content (judged_now v) ≡ [] → unwritten
 
+-- an answer that is kept before the step is kept after it
+kept_on : (manager : Answering) (v : OpeningValue) (piece : List ℕ) (heard : Heard) → GoesOn v → IsHeard (asking_in manager) v.given (asked_of v piece) ⊥ heard
+    → (a : Unlocking) → v.answer ≡ Some a → (keeping v heard).answer ≡ Some a
+kept_on manager v piece Nothing goes hears a is = is
+kept_on manager v piece (Found m) goes (h, asked, finds) a is = absurd (let no : Some a ≡ None = sym is ∙ (asks_about v piece h goes asked).unheard in cc)
+kept_on manager v piece (Named fault) goes (h, asked, finds) a is = absurd (let no : Some a ≡ None = sym is ∙ (asks_about v piece h goes asked).unheard in cc)
+kept_on manager v piece Failed goes hears a is = is
+
 faulty_ends : (manager : Answering) (v : OpeningValue) (piece : List ℕ) (fault : Fault) (heard : Heard) (input taken : SourceState) (output put : SinkState) (unwritten : Type 0)
     → Left input taken output put unwritten v piece → StepsWith manager v piece (Err (opens.Fault fault)) heard
     → EndsSo (asked_in manager v) input taken output put unwritten (errors.Fault fault)
@@ -151,6 +159,13 @@ faulty_ends manager v piece fault heard input taken output put unwritten left s 
         gained = subst (λ (c : List ℕ). Appends output.written put.written c) (sym (ap content a.same ∙ finds.released)) left.gained;
       };
       cause = inl (ap (λ (j : Judged). fault_of j.verdict) a.same ∙ ap fault_of finds.verdict);
+      last = record {
+        before = v.taken;
+        piece = piece;
+        all = refl;
+        few = left.few;
+        was = sound_before v (judged v.taken v.settings a.answer) s.goes (judged_before v a.answer (keeping v heard).answer s.goes (kept_on manager v piece heard s.goes hears) a.keeps);
+      };
     }
 
 finds_at : (manager : Answering) (v : OpeningValue) (piece : List ℕ) (heard : Heard) → heard ≡ Failed → IsHeard (asking_in manager) v.given (asked_of v piece) ⊥ heard
@@ -165,7 +180,12 @@ failed_ends manager v piece heard input taken output put unwritten left s =
     let failed = (exactly (asking_in manager) v piece heard s.goes hears).failed s.answers in
     let (h, is, none) = finds_at manager v piece heard failed.0 hears in
     let about = asks_about v piece h s.goes is in (
-      record { bytes = v.taken ++ piece; came = left.came; failed = fails_whole manager v.settings v.given (v.taken ++ piece) h about.parts about.whole about.is none },
+      record {
+        bytes = v.taken ++ piece;
+        came = left.came;
+        failed = fails_whole manager v.settings v.given (v.taken ++ piece) h about.parts about.whole about.is none;
+        last = record { before = v.taken; piece = piece; all = refl; few = left.few; was = still_wanting v s.goes about.unheard };
+      },
       left.nothing about.nothing,
     )
 

@@ -126,7 +126,7 @@ front_allowed {from} {to} {settings} {given} allows r = record {
   answer = r.answer;
   came = r.came;
   answered = answered_allowed from to settings given r.bytes r.answer allows r.answered;
-  front = r.front;
+  last = r.last;
 }
 
 pub decrypts_allowed : {from to : Answering} {settings : Settings} {given : List KeyValue} {input taken : SourceState} {output put : SinkState} {context : List KeyValue} → Allows from to
@@ -142,7 +142,8 @@ decrypts_allowed allows done = record {
 
 pub ends_allowed : (from to : Answering) (settings : Settings) (given : List KeyValue) (input taken : SourceState) (output put : SinkState) (unwritten : Type 0) (error : DecryptError) → Allows from to
     → EndsSo (asked_of from settings given) input taken output put unwritten error → EndsSo (asked_of to settings given) input taken output put unwritten error
-ends_allowed from to settings given input taken output put unwritten (errors.Fault fault) allows has = record { bytes = has.bytes; answer = has.answer; releases = releases_allowed allows has.releases; cause = has.cause }
+ends_allowed from to settings given input taken output put unwritten (errors.Fault fault) allows has =
+    record { bytes = has.bytes; answer = has.answer; releases = releases_allowed allows has.releases; cause = has.cause; last = has.last }
 ends_allowed from to settings given input taken output put unwritten (errors.Outside outsides.SourceFault) allows fails =
     record { bytes = fails.bytes; answer = fails.answer; releases = releases_allowed allows fails.releases; sound = fails.sound; rose = fails.rose }
 ends_allowed from to settings given input taken output put unwritten (errors.Outside outsides.SinkFault) allows fails = (front_allowed allows fails.0, fails.1)
@@ -151,6 +152,7 @@ ends_allowed from to settings given input taken output put unwritten (errors.Out
     bytes = fails.0.bytes;
     came = fails.0.came;
     failed = failing_allowed from to given fails.0.bytes (header settings (start fails.0.bytes)) allows fails.0.failed;
+    last = fails.0.last;
   },
   fails.1,
 )

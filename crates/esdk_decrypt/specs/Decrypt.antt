@@ -2,7 +2,6 @@
 use Rattle.std.specs.Prelude.{◌≡◌, ◌⊎◌, ℕ, ◌≤◌, List, ◌++◌, length, true, false, Option, Some, None}
 use Rattle.std.specs.Io.KnownBytes.{Appends}
 use Rattle.esdk_fields.specs.Counts.{Rose}
-use Rattle.esdk_base.specs.Sink.{AppendsFront}
 use Rattle.esdk_base.specs.Streams.{SinkState, SourceState}
 use Rattle.esdk_fields.specs.declared.faults.Fault.{Fault}
 use Rattle.esdk_fields.specs.declared.faults.Fault.TheVariants.{Truncated}
@@ -26,8 +25,9 @@ use Rattle.body_format.specs.declared.verdicts.Verdict.TheVariants as verdicts
 use Rattle.message_format.specs.Judgement.{content, header_of, judged}
 use Rattle.stream_open.specs.Asking.{request_of}
 use Rattle.stream_open.specs.Session.{is_framed}
-use Rattle.whole_input.specs.Pieces.{most_piece}
+use Rattle.whole_input.specs.Pieces.{APieceBehind, most_piece}
 use Rattle.whole_input.specs.Taken.{Came, EndSeen, MostTaken}
+use Rattle.whole_input.specs.Written.{WritesBeyond}
 use Rattle.esdk_decrypt.specs.declared.errors.DecryptError.{DecryptError}
 use Rattle.esdk_decrypt.specs.declared.errors.DecryptError.TheVariants as errors
 
@@ -110,13 +110,14 @@ pub record Decrypts (asked : Asked) (input taken : SourceState) (output put : Si
   pub end : EndSeen input taken bytes
   pub whole : (judged bytes asked.settings (Unlocks context only key)).verdict ≡ verdicts.Whole
 
--- The bytes taken have this fault, or the whole input was taken and has it. The output gained what was released before.
+-- The bytes taken have this fault, or the whole input was taken and has it; those before the last piece have none. The output gained what was released before.
 pub record HasFault (asked : Asked) (input taken : SourceState) (output put : SinkState) (fault : Fault) : Type 0 where
   pub bytes : List ℕ
   pub answer : Unlocking
   pub releases : Releases asked input taken output put bytes answer
   pub cause : (fault_of (judged bytes asked.settings answer).verdict ≡ Some fault)
       ⊎ (EndSeen input taken bytes × (fault_at_end (judged bytes asked.settings answer).verdict ≡ Some fault))
+  pub last : APieceBehind (λ before. fault_of (judged before asked.settings answer).verdict ≡ None) bytes
 
 -- The bytes taken have no fault, and a read failed. The output gained what was released before.
 pub record SourceFails (asked : Asked) (input taken : SourceState) (output put : SinkState) : Type 0 where
@@ -134,19 +135,25 @@ pub record IsTooLong (asked : Asked) (input taken : SourceState) (output put : S
   pub sound : fault_of (judged bytes asked.settings answer).verdict ≡ None
   pub most : MostTaken input taken bytes
 
--- These bytes were taken, the manager answered so, and the output gained a front of what their judgement releases then.
+-- Bytes that come first have no fault and all that they release was written, but only a front of what all bytes release beyond it.
+pub record ReleasesBeyond (settings : Settings) (answer : Unlocking) (output put : SinkState) (bytes first : List ℕ) : Type 0 where
+  pub sound : fault_of (judged first settings answer).verdict ≡ None
+  pub written : WritesBeyond output put (content (judged first settings answer)) (content (judged bytes settings answer))
+
+-- These bytes were taken, the manager answered so, and what those before the last piece release was written, but not all that the piece releases beyond it.
 pub record ReleasesFront (asked : Asked) (input taken : SourceState) (output put : SinkState) : Type 0 where
   pub bytes : List ℕ
   pub answer : Unlocking
   pub came : Came input taken bytes
   pub answered : AnswersTo asked.manager asked.settings asked.given bytes answer
-  pub front : AppendsFront output.written put.written (content (judged bytes asked.settings answer))
+  pub last : APieceBehind (ReleasesBeyond asked.settings answer output put bytes) bytes
 
--- These bytes were taken, and the manager failed when it was asked about their header.
+-- These bytes were taken, and the manager failed when it was asked about their header, which the last piece made whole.
 pub record ManagerFails (asked : Asked) (input taken : SourceState) : Type 0 where
   pub bytes : List ℕ
   pub came : Came input taken bytes
   pub failed : FailsTo asked.manager asked.settings asked.given bytes
+  pub last : APieceBehind (λ before. header asked.settings (start before) ≡ Wanting) bytes
 
 -- The manager answered so to the header of these bytes, and they don't reach behind the unlocked header of a framed message, from where on no memory is taken.
 pub record MayLackMemory (asked : Asked) (bytes : List ℕ) : Type 0 where

@@ -32,6 +32,10 @@ use whole_input::{End, Pieces};
 /// The message is judged in order: the first fault ends the judgement, and what was released before
 /// is written. Nothing is written before it is judged.
 ///
+/// An error ends the reading. A fault that is answered, the header about which a manager fails and
+/// the content that an output fails at come with the last piece, of at most 65,536 bytes: those
+/// before it had no fault and no whole header, or all that they release was written.
+///
 /// Ok: the input is a whole message, all of its text was written, and this is its whole context:
 /// the pairs that its header stores and those that are only authenticated. Else:
 ///
@@ -39,7 +43,8 @@ use whole_input::{End, Pieces};
 ///   written. Where the input's end wasn't seen, the bytes taken have it.
 /// - `Outside`: a read failed, or 2^62 bytes came and more may follow, and the bytes taken have no
 ///   fault; what they release was written. Or a keyring failed when the manager was asked: nothing
-///   was written. Or the output failed: a front of what the bytes taken release was written.
+///   was written. Or the output failed: a front of what the bytes taken release was written, with
+///   all that those before the last piece release.
 /// - `Memory`: nothing was written. It doesn't come once a piece, of at most 65,536 bytes, was read
 ///   behind the unlocked header of a framed message.
 pub fn decrypt<M: Manager, S: Source, O: Sink>(

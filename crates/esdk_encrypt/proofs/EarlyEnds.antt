@@ -1,5 +1,5 @@
 -- A front of the message is left where its writing ends early.
-use Rattle.std.proofs.Common.{◌≡◌, ℕ, ◌-◌, ◌<◌, ◌≤◌, List, ◌++◌, length, take, Option, inl, inr, refl, sym, ap, subst, ◌∙◌, arith, length-take}
+use Rattle.std.proofs.Common.{◌≡◌, ℕ, ◌-◌, ◌<◌, ◌≤◌, List, [], ◌++◌, length, take, Option, inl, inr, refl, sym, ap, subst, ◌∙◌, arith, length-take}
 use Rattle.std.proofs.lemmas.List.{take_all}
 use Rattle.std.specs.Io.KnownBytes.{Appends}
 use Rattle.esdk_fields.specs.declared.refusals.Outside.TheVariants as outsides
@@ -11,12 +11,13 @@ use Rattle.stream_seal.specs.Feeding.{frames_given, given_so_far}
 use Rattle.stream_seal.specs.Start.{message_of, most_frames, most_text}
 use Rattle.stream_seal.proofs.Feeding.{last_held}
 use Rattle.stream_seal.proofs.GivenFrames.{frames_of_most}
-use Rattle.whole_input.proofs.Fronts.{front_longer}
+use Rattle.whole_input.proofs.Fronts.{front_beyond, front_longer}
 use Rattle.esdk_encrypt.specs.declared.errors.EncryptError.{EncryptError}
 use Rattle.esdk_encrypt.specs.declared.errors.EncryptError.TheVariants as errors
-use Rattle.esdk_encrypt.specs.Encrypt.{StopsSo, header_and_frames, written_so_far}
+use Rattle.esdk_encrypt.specs.Encrypt.{HeaderFails, StopsSo, header_and_frames, written_so_far}
 use Rattle.esdk_encrypt.specs.Feeding.{session_of}
 use Rattle.esdk_encrypt.specs.Laws.{GainsFront}
+use Rattle.esdk_encrypt.proofs.Messages.{written_none}
 
 -- all of some bytes is a front of them
 front_all : (a b : Option (List ℕ)) (xs : List ℕ) → Appends a b xs → AppendsFront a b xs
@@ -43,6 +44,12 @@ module _ (m : EncMaterialsValue) (size : ℕ) (id : List ℕ) (wide : 1 ≤ size
       let long : length (take (most_text size) text) ≡ most_text size = omega (arith, length-take (most_text size) text, many) in
       ap (header_and_frames m size id (take (most_text size) text)) (sym (ap (λ (n : ℕ). frames_given n size) long ∙ frames_of_most size wide))
 
+  -- nothing was taken
+  header_leaves : (text : List ℕ) (output put : SinkState) → HeaderFails m size id output put text → AppendsFront output.written put.written (message_of m size id (take (most_text size) text))
+  header_leaves text output put fails =
+      subst (λ (t : List ℕ). AppendsFront output.written put.written (message_of m size id t)) (sym (take_all (most_text size) [] (omega arith)) ∙ ap (take (most_text size)) (sym fails.none))
+      (begins [] output.written put.written (subst (λ (g : List ℕ). AppendsFront output.written put.written g) (sym (written_none m size id)) fails.front))
+
   module _ (input taken : SourceState) (output put : SinkState) where
     pub leaves_front : (error : EncryptError) → StopsSo m size id input taken output put error → GainsFront m size id input taken output put
     leaves_front (errors.Outside outsides.SourceFault) stops = record {
@@ -64,9 +71,10 @@ module _ (m : EncMaterialsValue) (size : ℕ) (id : List ℕ) (wide : 1 ≤ size
     leaves_front (errors.Outside outsides.SinkFault) stops = record {
       text = stops.text;
       came = stops.came;
-      front = elim stops.front [
-        | inl front ↦ begins (take (most_text size) stops.text) output.written put.written front
-        | inr whole ↦ all_fits stops.text output.written put.written whole.short whole.front
+      front = elim stops.at [
+        | inl header ↦ header_leaves stops.text output put header
+        | inr (inl frame) ↦ begins (take (most_text size) stops.text) output.written put.written (front_beyond output put _ _ frame.was.written)
+        | inr (inr whole) ↦ all_fits stops.text output.written put.written whole.short (front_beyond output put _ _ whole.written)
       ];
     }
     leaves_front error stops = absurd stops

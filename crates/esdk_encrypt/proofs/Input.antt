@@ -1,5 +1,5 @@
 -- An input that is fed to a sealer piece by piece.
-use Rattle.std.proofs.Common.{◌≡◌, ◌∙◌, ℕ, ◌+◌, ◌-◌, ◌<◌, ◌≤◌, ◌^◌, List, [], ◌++◌, length, take, Some, Result, Ok, Err, inl, refl, sym, ap, subst, arith, length-append, length-take}
+use Rattle.std.proofs.Common.{◌≡◌, ◌∙◌, ℕ, ◌+◌, ◌-◌, ◌<◌, ◌≤◌, ◌^◌, List, [], ◌++◌, length, take, Some, Result, Ok, Err, inl, inr, refl, sym, ap, subst, arith, length-append, length-take}
 use Rattle.std.specs.Io.KnownBytes.{Appends, IsAtEnd}
 use Rattle.esdk_fields.specs.Counts.{Rose}
 use Rattle.esdk_fields.specs.declared.refusals.Outside.TheVariants as outsides
@@ -21,7 +21,7 @@ use Rattle.esdk_encrypt.specs.declared.errors.EncryptError.{EncryptError}
 use Rattle.esdk_encrypt.specs.declared.errors.EncryptError.TheVariants as errors
 use Rattle.esdk_encrypt.specs.Encrypt.{HasTooMany, IsTooLong, SourceFails, StopsSo, header_and_frames, written_so_far}
 use Rattle.esdk_encrypt.specs.Feeding.{FeedsPiece, IsFedInput, IsFedSealer, session_of}
-use Rattle.esdk_encrypt.proofs.Sessions.{gains_front, gains_more, is_fed, names_frames, room_then, session_then}
+use Rattle.esdk_encrypt.proofs.Sessions.{frames_beyond, gains_more, is_fed, names_frames, room_then, session_then}
 
 -- So many bytes came and were fed, no read and no put failed, and what is written while the input goes on was put.
 pub record FeedingInput (m : EncMaterialsValue) (size : ℕ) (id : List ℕ) (input now : SourceState) (output put : SinkState) (sealer : Sealer) (count : ℕ) : Type 0 where
@@ -123,6 +123,7 @@ module _ (m : EncMaterialsValue) (size : ℕ) (id : List ℕ) (wide : 1 ≤ size
             text = all;
             came = came_then;
             many = many;
+            last = record { before = feeding.text; piece = piece; all = refl; few = came.fits; was = feeding.short };
             gained = subst (λ (n : ℕ). Appends output.written put.written (header_and_frames m size id (take most all) n)) frames
                 (gains_more m size id feeding.text piece output.written mid.written put.written wide feeding.short feeding.gained gained);
           }
@@ -134,8 +135,14 @@ module _ (m : EncMaterialsValue) (size : ℕ) (id : List ℕ) (wide : 1 ≤ size
           record {
             text = feeding.text ++ piece;
             came = came_then;
-            rose = omega (arith, fed.1, feeding.kept);
-            front = inl (gains_front m size id feeding.text piece output.written mid.written put.written wide feeding.short feeding.gained fed.0);
+            rose = omega (arith, fed.2, feeding.kept);
+            at = inr (inl (record {
+              before = feeding.text;
+              piece = piece;
+              all = refl;
+              few = came.fits;
+              was = record { short = feeding.short; written = frames_beyond m size id feeding.text piece output mid put wide feeding.short fed.0 feeding.gained fed.1 };
+            }));
           }
       feeding_fails (errors.Refusal refusal) feeds =
           let fed = fed_then (Err (errors.Refusal refusal)) feeds in

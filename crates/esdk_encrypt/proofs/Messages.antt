@@ -1,6 +1,5 @@
 -- A message that is written: the header, the input's frames, and the final frame.
-use Rattle.std.proofs.Common.{◌≡◌, ◌∙◌, ℕ, ◌≤◌, List, [], ◌++◌, Option, Result, Ok, Err, IfErr, OnOk, inl, inr, sym, ap, subst, arith, append-nil}
-use Rattle.std.proofs.lemmas.List.{take_all}
+use Rattle.std.proofs.Common.{◌≡◌, ◌∙◌, ℕ, ◌≤◌, List, [], ◌++◌, Option, Result, Ok, Err, IfErr, OnOk, inl, inr, refl, sym, ap, subst, arith, append-nil}
 use Rattle.std.specs.Io.KnownBytes.{Appends}
 use Rattle.std.proofs.KnownBytes.{Appends-trans}
 use Rattle.esdk_fields.specs.declared.refusals.Outside.TheVariants as outsides
@@ -12,14 +11,15 @@ use Rattle.stream_seal.specs.declared.errors.SealError.{SealError}
 use Rattle.stream_seal.specs.declared.session.Sealer.{Sealer}
 use Rattle.stream_seal.specs.Session.{SealingValue, finish_answer, finished}
 use Rattle.stream_seal.specs.Stands.{Stands}
-use Rattle.stream_seal.specs.Start.{message_of, most_text, start_of}
+use Rattle.stream_seal.specs.Start.{message_of, start_of}
 use Rattle.stream_seal.proofs.Feeding.{finishes}
 use Rattle.whole_input.proofs.Coming.{came_none}
-use Rattle.whole_input.proofs.Fronts.{front_after}
+use Rattle.whole_input.specs.Written.{WritesBeyond}
+use Rattle.whole_input.proofs.Fronts.{beyond_after}
 use Rattle.esdk_encrypt.specs.declared.errors.EncryptError.{EncryptError}
 use Rattle.esdk_encrypt.specs.declared.errors.EncryptError.TheVariants as errors
 use Rattle.esdk_encrypt.specs.Encrypt.{StopsSo, Writes, written_so_far}
-use Rattle.esdk_encrypt.specs.Feeding.{IsFedInput, Puts, session_of}
+use Rattle.esdk_encrypt.specs.Feeding.{IsFedInput, Puts, PutsOut, session_of}
 use Rattle.esdk_encrypt.proofs.Sessions.{given_is, is_fed}
 
 module _ (m : EncMaterialsValue) (size : ℕ) (id : List ℕ) where
@@ -39,8 +39,7 @@ module _ (m : EncMaterialsValue) (size : ℕ) (id : List ℕ) where
       text = [];
       came = came_none input;
       rose = failed.1;
-      front = inl (subst (λ (g : List ℕ). AppendsFront output.written put.written g)
-          (is ∙ sym written_none ∙ ap (written_so_far m size id) (sym (take_all (most_text size) [] (omega arith)))) failed.0);
+      at = inl (record { none = refl; front = subst (λ (g : List ℕ). AppendsFront output.written put.written g) is failed.0 });
     }
     header_fails input output put error failed = absurd failed
 
@@ -62,7 +61,7 @@ module _ (m : EncMaterialsValue) (size : ℕ) (id : List ℕ) where
         ∙ finishes (session_of m size id fed.text) (is_fed m size id fed.text wide fed.short)
 
     module _ (put : SinkState) (new : Sealer) (stands : (v : SealingValue) → Stands old v → Stands new (finished v)) where
-      message_put : ((v : SealingValue) → Stands new v → Puts {T = Unit {0}} v.out mid put (Ok tt)) → Writes m size id input taken output put
+      message_put : ((v : SealingValue) → Stands new v → PutsOut {T = Unit {0}} v.out mid put (Ok tt)) → Writes m size id input taken output put
       message_put puts =
           let v : SealingValue = finished (session_of m size id fed.text) in
           let gained = puts v (stands (session_of m size id fed.text) fed.stands) in
@@ -75,28 +74,28 @@ module _ (m : EncMaterialsValue) (size : ℕ) (id : List ℕ) where
                 (Appends-trans output.written mid.written put.written (written_so_far m size id fed.text) v.out fed.gained gained.0);
           }
 
-      message_fails : (error : EncryptError) → ((v : SealingValue) → Stands new v → Puts {T = Unit {0}} v.out mid put (Err error)) → StopsSo m size id input taken output put error
+      message_fails : (error : EncryptError) → ((v : SealingValue) → Stands new v → PutsOut {T = Unit {0}} v.out mid put (Err error)) → StopsSo m size id input taken output put error
       message_fails (errors.Outside outsides.SinkFault) puts =
           let v : SealingValue = finished (session_of m size id fed.text) in
           let failed = puts v (stands (session_of m size id fed.text) fed.stands) in
           record {
             text = fed.text;
             came = fed.came;
-            rose = omega (arith, failed.1, fed.faults);
-            front = inr (record {
+            rose = omega (arith, failed.1.1, fed.faults);
+            at = inr (inr (record {
               end = fed.end;
               short = fed.short;
-              front = subst (λ (g : List ℕ). AppendsFront output.written put.written g) whole
-                  (front_after output.written mid.written put.written (written_so_far m size id fed.text) v.out fed.gained failed.0);
-            });
+              written = subst (λ (g : List ℕ). WritesBeyond output put (written_so_far m size id fed.text) g) whole
+                  (beyond_after output mid put (written_so_far m size id fed.text) v.out failed.0 fed.gained failed.1.0);
+            }));
           }
-      message_fails error puts = absurd (puts (finished (session_of m size id fed.text)) (stands (session_of m size id fed.text) fed.stands))
+      message_fails error puts = absurd (puts (finished (session_of m size id fed.text)) (stands (session_of m size id fed.text) fed.stands)).1
 
       -- of the last put
-      pub ends_written : (r : Result (Unit {0}) EncryptError) → ((v : SealingValue) → Stands new v → Puts v.out mid put r) → OnOk r (Writes m size id input taken output put)
+      pub ends_written : (r : Result (Unit {0}) EncryptError) → ((v : SealingValue) → Stands new v → PutsOut v.out mid put r) → OnOk r (Writes m size id input taken output put)
       ends_written (Ok done) puts = message_put puts
       ends_written (Err error) puts = tt
 
-      pub ends_unwritten : (r : Result (Unit {0}) EncryptError) → ((v : SealingValue) → Stands new v → Puts v.out mid put r) → IfErr r (StopsSo m size id input taken output put)
+      pub ends_unwritten : (r : Result (Unit {0}) EncryptError) → ((v : SealingValue) → Stands new v → PutsOut v.out mid put r) → IfErr r (StopsSo m size id input taken output put)
       ends_unwritten (Ok done) puts = tt
       ends_unwritten (Err error) puts = message_fails error puts

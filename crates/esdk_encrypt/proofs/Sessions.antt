@@ -3,6 +3,7 @@ use Rattle.std.proofs.Common.{◌≡◌, ◌∙◌, ℕ, ◌≤◌, List, [], �
 use Rattle.std.specs.Io.KnownBytes.{Appends}
 use Rattle.std.proofs.KnownBytes.{Appends-trans}
 use Rattle.esdk_base.specs.Sink.{AppendsFront}
+use Rattle.esdk_base.specs.Streams.{SinkState}
 use Rattle.esdk_fields.specs.declared.refusals.Refusal.{Refusal}
 use Rattle.esdk_fields.specs.declared.refusals.Refusal.TheVariants as refusals
 use Rattle.body_format.specs.Written.{frame_count}
@@ -11,7 +12,8 @@ use Rattle.stream_seal.specs.Feeding.{IsFed, fed, fed_out, feed_refusal, frames_
 use Rattle.stream_seal.specs.Session.{SealingValue, opened}
 use Rattle.stream_seal.specs.Start.{most_text}
 use Rattle.stream_seal.proofs.Feeding.{feeds}
-use Rattle.whole_input.proofs.Fronts.{front_after}
+use Rattle.whole_input.specs.Written.{WritesBeyond}
+use Rattle.whole_input.proofs.Fronts.{beyond_after}
 use Rattle.esdk_encrypt.specs.Encrypt.{written_so_far}
 use Rattle.esdk_encrypt.specs.Feeding.{session_of}
 
@@ -48,11 +50,13 @@ module _ (m : EncMaterialsValue) (size : ℕ) (id text : List ℕ) where
         subst (λ (g : List ℕ). Appends a c g) (written_then wide short)
         (Appends-trans a b c (written_so_far m size id text) (fed_out (session_of m size id text) piece) before more)
 
-    pub gains_front : (a b c : Option (List ℕ)) → 1 ≤ size → length text ≤ most_text size → Appends a b (written_so_far m size id text) → AppendsFront b c (fed_out (session_of m size id text) piece)
-        → AppendsFront a c (written_so_far m size id (take (most_text size) (text ++ piece)))
-    gains_front a b c wide short before more =
-        subst (λ (g : List ℕ). AppendsFront a c g) (written_then wide short)
-        (front_after a b c (written_so_far m size id text) (fed_out (session_of m size id text) piece) before more)
+    -- or not all of them, of which there are some
+    pub frames_beyond : (output mid put : SinkState) → 1 ≤ size → length text ≤ most_text size → 1 ≤ length (fed_out (session_of m size id text) piece)
+        → Appends output.written mid.written (written_so_far m size id text) → AppendsFront mid.written put.written (fed_out (session_of m size id text) piece)
+        → WritesBeyond output put (written_so_far m size id text) (written_so_far m size id (take (most_text size) (text ++ piece)))
+    frames_beyond output mid put wide short some before more =
+        subst (λ (g : List ℕ). WritesBeyond output put (written_so_far m size id text) g) (written_then wide short)
+        (beyond_after output mid put (written_so_far m size id text) (fed_out (session_of m size id text) piece) some before more)
 
     -- where no step failed, a message has room for the piece, and the session took it
     pub room_then : 1 ≤ size → length text ≤ most_text size → feed_refusal (session_of m size id text) piece ≡ None → take (most_text size) (text ++ piece) ≡ text ++ piece

@@ -1,5 +1,5 @@
 -- A piece that is fed to a sealer step by step, and what the sealer gives, which is put into a sink.
-use Rattle.std.proofs.Common.{◌≡◌, ◌∙◌, ℕ, ◌≤◌, List, [], ◌++◌, length, drop, Bool, true, false, ◌==◌, Result, Ok, Err, refl, sym, subst, arith}
+use Rattle.std.proofs.Common.{◌≡◌, ◌∙◌, ℕ, ◌≤◌, List, [], ◌++◌, length, drop, Bool, true, false, ◌==◌, Result, Ok, Err, refl, sym, ap, subst, arith, length-append}
 use Rattle.std.proofs.lemmas.Bool.{eqb-false, eqb-true}
 use Rattle.std.proofs.lemmas.List.{nil_from_length}
 use Rattle.std.specs.Io.KnownBytes.{Appends}
@@ -18,7 +18,7 @@ use Rattle.stream_seal.proofs.FedSealers.{Stepped, still_begins, still_arrives, 
 use Rattle.whole_input.proofs.Fronts.{front_after, front_longer}
 use Rattle.esdk_encrypt.specs.declared.errors.EncryptError.{EncryptError}
 use Rattle.esdk_encrypt.specs.declared.errors.EncryptError.TheVariants as errors
-use Rattle.esdk_encrypt.specs.Feeding.{FeedsNot, FeedsPiece, IsFedWhole, IsRefusal, Puts}
+use Rattle.esdk_encrypt.specs.Feeding.{FeedsNot, FeedsPiece, IsFedWhole, IsRefusal, Puts, PutsOut}
 
 -- ---- what is left of the piece
 
@@ -27,6 +27,13 @@ some_left rest empty is not_empty = let more = eqb-false (length rest) 0 (sym is
 
 pub none_left : (rest : List ℕ) (empty : Bool) → empty ≡ (length rest == 0) → empty ≡ true → rest ≡ []
 none_left rest empty is is_empty = nil_from_length rest (eqb-true (length rest) 0 (sym is ∙ is_empty))
+
+-- ---- a put
+
+-- what was given is put, where it is something
+pub puts_out : (bytes : List ℕ) (old new : SinkState) (r : Result (Unit {0}) EncryptError) → 1 ≤ length bytes → Puts bytes old new r → PutsOut bytes old new r
+puts_out bytes old new (Ok done) some puts = puts
+puts_out bytes old new (Err error) some puts = (some, puts)
 
 -- ---- a step
 
@@ -54,7 +61,7 @@ module _ (v : SealingValue) (piece : List ℕ) (output mid : SinkState) (old new
       }
 
   -- and what it gave was put
-  pub feeding_more : (put : SinkState) (used : ℕ) → answer ≡ Ok used → ((w : SealingValue) → Stands new w → Puts {T = Unit {0}} w.out mid put (Ok tt)) → Feeding v piece output put new (drop used rest)
+  pub feeding_more : (put : SinkState) (used : ℕ) → answer ≡ Ok used → ((w : SealingValue) → Stands new w → PutsOut {T = Unit {0}} w.out mid put (Ok tt)) → Feeding v piece output put new (drop used rest)
   unfolding steps
   feeding_more put used is puts =
       let still = steps used is in
@@ -67,7 +74,7 @@ module _ (v : SealingValue) (piece : List ℕ) (output mid : SinkState) (old new
       }
 
   -- or it wasn't, or not all of it
-  pub put_fails : (put : SinkState) (used : ℕ) (error : EncryptError) → answer ≡ Ok used → ((w : SealingValue) → Stands new w → Puts {T = Unit {0}} w.out mid put (Err error))
+  pub put_fails : (put : SinkState) (used : ℕ) (error : EncryptError) → answer ≡ Ok used → ((w : SealingValue) → Stands new w → PutsOut {T = Unit {0}} w.out mid put (Err error))
       → FeedsPiece {T = Unit {0}} v piece output put new (Err error)
   unfolding steps
   put_fails put used (errors.Outside outsides.SinkFault) is puts =
@@ -75,11 +82,12 @@ module _ (v : SealingValue) (piece : List ℕ) (output mid : SinkState) (old new
       let failed = puts still.now still.stands in
       let all : List ℕ = feeding.given ++ still.now.out in
       let rest_out : List ℕ = fed_out still.now (drop used rest) in (
+        omega (arith, failed.0, ap length still.way.out, length-append all rest_out, length-append feeding.given still.now.out),
         subst (λ (out : List ℕ). AppendsFront output.written put.written out) (sym still.way.out)
-            (front_longer output.written put.written all rest_out (front_after output.written mid.written put.written feeding.given still.now.out feeding.gained failed.0)),
-        omega (arith, failed.1, feeding.faults),
+            (front_longer output.written put.written all rest_out (front_after output.written mid.written put.written feeding.given still.now.out feeding.gained failed.1.0)),
+        omega (arith, failed.1.1, feeding.faults),
       )
-  put_fails put used error is puts = let still = steps used is in absurd (puts still.now still.stands)
+  put_fails put used error is puts = let still = steps used is in absurd (puts still.now still.stands).1
 
   -- a step failed
   pub names_refusal : (error : SealError) → answer ≡ Err error → IsRefusal error

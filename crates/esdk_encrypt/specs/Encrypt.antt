@@ -1,5 +1,5 @@
 -- What encrypting an input comes to. Standard: AWS Encryption SDK Specification, "Encrypt".
-use Rattle.std.specs.Prelude.{◌≡◌, ℕ, ◌+◌, ◌*◌, ◌-◌, ◌<◌, ◌≤◌, List, ◌++◌, length, take, drop, All, ⊤, ◌⊎◌, Option, Some, None}
+use Rattle.std.specs.Prelude.{◌≡◌, ℕ, ◌+◌, ◌*◌, ◌-◌, ◌<◌, ◌≤◌, List, [], ◌++◌, length, take, drop, All, ⊤, ◌⊎◌, Option, Some, None}
 use Rattle.std.specs.Io.KnownBytes.{Appends, Consumes, Keeps}
 use Rattle.esdk_fields.specs.Counts.{Rose}
 use Rattle.esdk_base.specs.Sink.{AppendsFront}
@@ -18,7 +18,9 @@ use Rattle.keyring_trait.specs.Wrapping.{WrapKeyValue}
 use Rattle.message_format.specs.Message.{under}
 use Rattle.stream_seal.specs.Feeding.{frames_given}
 use Rattle.stream_seal.specs.Start.{message_of, most_frames, most_text, start_of, start_refusal}
+use Rattle.whole_input.specs.Pieces.{APieceBehind}
 use Rattle.whole_input.specs.Taken.{Came, EndSeen, MostTaken}
+use Rattle.whole_input.specs.Written.{WritesBeyond}
 use Rattle.esdk_encrypt.specs.declared.errors.EncryptError.{EncryptError}
 use Rattle.esdk_encrypt.specs.declared.errors.EncryptError.TheVariants as errors
 
@@ -74,26 +76,36 @@ pub record IsTooLong (m : EncMaterialsValue) (size : ℕ) (id : List ℕ) (input
   pub short : length text ≤ most_text size
   pub gained : Appends output.written put.written (written_so_far m size id text)
 
--- A byte was taken beyond those that have room in a message. The output gained all regular frames of the message of those that have, and no final frame.
+-- The last piece has a byte beyond those that have room in a message. The output gained all regular frames of the message of those that have, and no final frame.
 pub record HasTooMany (m : EncMaterialsValue) (size : ℕ) (id : List ℕ) (input taken : SourceState) (output put : SinkState) : Type 0 where
   pub text : List ℕ
   pub came : Came input taken text
   pub many : most_text size < length text
+  pub last : APieceBehind (λ before. length before ≤ most_text size) text
   pub gained : Appends output.written put.written (header_and_frames m size id (take (most_text size) text) (most_frames - 1))
 
--- The input's end was seen, and the output gained a front of the message of all that was taken.
-pub record WritesFront (m : EncMaterialsValue) (size : ℕ) (id : List ℕ) (input taken : SourceState) (output put : SinkState) (text : List ℕ) : Type 0 where
+-- The write of the header failed: nothing was taken, and a front of the header was written.
+pub record HeaderFails (m : EncMaterialsValue) (size : ℕ) (id : List ℕ) (output put : SinkState) (text : List ℕ) : Type 0 where
+  pub none : text ≡ []
+  pub front : AppendsFront output.written put.written (start_of m size id)
+
+-- Bytes that come first have room in a message, and what is written of them while the input goes on was; but only a front of what is written of all that have room.
+pub record WritesFrames (m : EncMaterialsValue) (size : ℕ) (id : List ℕ) (output put : SinkState) (text first : List ℕ) : Type 0 where
+  pub short : length first ≤ most_text size
+  pub written : WritesBeyond output put (written_so_far m size id first) (written_so_far m size id (take (most_text size) text))
+
+-- The write of the final frame failed: the input's end was seen, what comes before that frame was written, and a front of it.
+pub record FinalFails (m : EncMaterialsValue) (size : ℕ) (id : List ℕ) (input taken : SourceState) (output put : SinkState) (text : List ℕ) : Type 0 where
   pub end : EndSeen input taken text
   pub short : length text ≤ most_text size
-  pub front : AppendsFront output.written put.written (message_of m size id text)
+  pub written : WritesBeyond output put (written_so_far m size id text) (message_of m size id text)
 
--- A write failed. The output gained a front of what is written, while the input goes on, of the bytes taken that have room in a message; or, once the input's end was seen,
--- of the whole message.
+-- A write failed: the header's, or that of a frame of the last piece, or the final frame's.
 pub record SinkFails (m : EncMaterialsValue) (size : ℕ) (id : List ℕ) (input taken : SourceState) (output put : SinkState) : Type 0 where
   pub text : List ℕ
   pub came : Came input taken text
   pub rose : Rose output.faults put.faults
-  pub front : AppendsFront output.written put.written (written_so_far m size id (take (most_text size) text)) ⊎ WritesFront m size id input taken output put text
+  pub at : HeaderFails m size id output put text ⊎ (APieceBehind (WritesFrames m size id output put text) text ⊎ FinalFails m size id input taken output put text)
 
 -- why no more was taken or written, and what was
 abbrev pub StopsSo : EncMaterialsValue → ℕ → List ℕ → SourceState → SourceState → SinkState → SinkState → EncryptError → Type 0

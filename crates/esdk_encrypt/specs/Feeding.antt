@@ -27,6 +27,11 @@ Puts bytes old new (Ok done) = Appends old.written new.written bytes × (new.fau
 Puts bytes old new (Err (errors.Outside outsides.SinkFault)) = AppendsFront old.written new.written bytes × Rose old.faults new.faults
 Puts bytes old new (Err error) = ⊥
 
+-- the same of what a sealer gave: where that is nothing, no put fails
+abbrev pub PutsOut : {T : Type 0} → List ℕ → SinkState → SinkState → Result T EncryptError → Type 0
+PutsOut bytes old new (Ok done) = Puts bytes old new (Ok done)
+PutsOut {T} bytes old new (Err error) = (1 ≤ length bytes) × Puts {T = T} bytes old new (Err error)
+
 -- ---- a piece
 
 -- The sealer stands for a session that is fed.
@@ -60,7 +65,8 @@ pub record IsFedShort (v : SealingValue) (piece : List ℕ) (refusal : Refusal) 
 -- what feeding a piece to this session comes to
 abbrev pub FeedsPiece : {T : Type 0} → SealingValue → List ℕ → SinkState → SinkState → Sealer → Result T EncryptError → Type 0
 FeedsPiece v piece output put sealer (Ok done) = IsFedWhole v piece output put sealer
-FeedsPiece v piece output put sealer (Err (errors.Outside outsides.SinkFault)) = AppendsFront output.written put.written (fed_out v piece) × Rose output.faults put.faults
+FeedsPiece v piece output put sealer (Err (errors.Outside outsides.SinkFault)) =
+    (1 ≤ length (fed_out v piece)) × AppendsFront output.written put.written (fed_out v piece) × Rose output.faults put.faults
 FeedsPiece v piece output put sealer (Err (errors.Refusal refusal)) = IsFedShort v piece refusal output put
 FeedsPiece v piece output put sealer (Err error) = ⊥
 

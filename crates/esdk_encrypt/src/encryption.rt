@@ -43,8 +43,12 @@ use whole_input::Pieces;
 /// as a message has room for them. After `TooManyFrames` (Q9), where more came than have room in
 /// 2^32 - 1 frames, `SourceFault`, where a read failed, and `InputTooLong`, where 2^62 came, these
 /// are all frames but the last, so that no input that failed is sealed as a whole message. After
-/// `SinkFault`, where a write failed, it is any front, also of the final frame where the end was
-/// seen. AWS Encryption SDK Specification, "Encrypt".
+/// `SinkFault`, where a write failed, a front of what was put is left: of the header, and nothing
+/// was taken; behind all frames of the bytes before the last piece, of those that it fills; or
+/// behind all other frames, of the final one.
+///
+/// An error ends the reading: what has no room in a message and the frame that an output fails at
+/// come with the last piece. AWS Encryption SDK Specification, "Encrypt".
 pub fn encrypt<M: Manager, S: Source, O: Sink, W: Entropy>(
     alloc: Global,
     manager: &mut M,

@@ -8,7 +8,7 @@ ghost use Rattle.stream_seal.specs.Feeding.{IsFed};
 ghost use Rattle.stream_seal.specs.Session.{SealingValue};
 ghost use Rattle.stream_seal.specs.Stands.{Stands};
 ghost use Rattle.esdk_encrypt.specs.Encrypt.{written_so_far};
-ghost use Rattle.esdk_encrypt.specs.Feeding.{FeedsInput, FeedsNot, FeedsPiece, IsFedSealer, IsNewSealer, IsRefusal, Puts, session_of};
+ghost use Rattle.esdk_encrypt.specs.Feeding.{FeedsInput, FeedsNot, FeedsPiece, IsFedSealer, IsNewSealer, IsRefusal, Puts, PutsOut, session_of};
 
 use crate::errors::EncryptError;
 use esdk_base::{Sink, Source};
@@ -88,7 +88,7 @@ fn unfed(error: SealError) -> EncryptError
 /// Puts what the sealer gave last, if it is something.
 pub(crate) fn put_out<O: Sink>(sealer: &Sealer, output: &mut O) -> Result<(), EncryptError>
     ensures { (v : SealingValue) → Stands sealer.now v
-        → Puts v.out (O.state output.old) (O.state output.new) result }
+        → PutsOut v.out (O.state output.old) (O.state output.new) result }
 {
     let out = sealer.out();
     if out.is_empty() {

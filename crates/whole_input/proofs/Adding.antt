@@ -5,6 +5,7 @@ use Rattle.esdk_base.specs.Shelf.{Files, Holds, is_missing}
 use Rattle.esdk_base.specs.Streams.{FailsToRead, ShelfState}
 use Rattle.whole_input.specs.declared.file.FileError.{FileError}
 use Rattle.whole_input.specs.declared.file.FileError.TheVariants.{Shelf, TooLong, Memory}
+use Rattle.whole_input.specs.Pieces.{most_piece}
 use Rattle.whole_input.specs.File.{Adds, FileCause, IsFile, IsFront, IsLong, Piece, most_file}
 
 -- Where the shelf tells, these bytes are the file's front; if there are any, the file is there. Just so many were given, and no read failed.
@@ -54,11 +55,12 @@ adding_ends first old new name before after adding piece few = record {
 }
 
 -- more bytes than are taken
-pub adding_long : (first now : ShelfState) (name bytes : List ℕ) → Adding first now name bytes → most_file < length bytes → IsLong first now name
-adding_long first now name bytes adding many = record {
+pub adding_long : (first now : ShelfState) (name bytes : List ℕ) → Adding first now name bytes → length bytes ≤ most_file + most_piece → most_file < length bytes → IsLong first now name
+adding_long first now name bytes adding few many = record {
   there = adding.there (omega (arith, many));
   many = λ told holds. omega (arith, many, ap length (adding.front told holds), length-append bytes (drop (length bytes) told));
   given = omega (arith, adding.given, many);
+  most = omega (arith, adding.most, few);
   faults = adding.faults;
 }
 

@@ -5,6 +5,7 @@ use Rattle.esdk_base.specs.Shelf.{Files, Holds, is_missing}
 use Rattle.esdk_base.specs.Streams.{FailsToRead, ShelfState}
 use Rattle.whole_input.specs.declared.file.FileError.{FileError}
 use Rattle.whole_input.specs.declared.file.FileError.TheVariants.{Shelf, TooLong, Memory}
+use Rattle.whole_input.specs.Pieces.{most_piece}
 
 -- how many bytes a file has at the most that is taken whole
 abbrev pub most_file : ℕ
@@ -19,11 +20,12 @@ pub record IsFile (old new : ShelfState) (name bytes : List ℕ) : Type 0 where
   pub most : new.given ≤ old.given + length bytes
   pub faults : new.faults ≡ old.faults
 
--- The file gave more than 1,048,576 bytes, and has more, where the shelf tells; no read failed.
+-- The file gave more than 1,048,576 bytes, of which the last read gave the first that is too many, and has more, where the shelf tells; no read failed.
 pub record IsLong (old new : ShelfState) (name : List ℕ) : Type 0 where
   pub there : is_missing old.files name ≡ false
   pub many : (told : List ℕ) → Holds old.files name told → most_file < length told
   pub given : RoseBy (most_file + 1) old.given new.given
+  pub most : new.given ≤ old.given + most_file + most_piece
   pub faults : new.faults ≡ old.faults
 
 -- A read failed, before the file gave more than 1,048,576 bytes.
@@ -47,6 +49,7 @@ pub record Piece (old new : ShelfState) (name before after : List ℕ) (more : B
   pub front : IsFront old.files name before → IsFront old.files name after
   pub no_shorter : length before ≤ length after
   pub longer : more ≡ true → length before < length after
+  pub few : length after ≤ length before + most_piece
   pub same : more ≡ false → after ≡ before
   pub end : more ≡ false → (told : List ℕ) → Holds old.files name told → drop (length before) told ≡ []
   pub given : new.given ≡ counted old.given (length after - length before)

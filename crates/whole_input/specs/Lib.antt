@@ -1,3 +1,4 @@
 pub mod File
 pub mod Pieces
 pub mod Taken
+pub mod Written

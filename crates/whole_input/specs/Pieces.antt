@@ -1,5 +1,5 @@
 -- An input that is taken piece by piece.
-use Rattle.std.specs.Prelude.{◌≡◌, ℕ, ◌+◌, ◌^◌, ◌<◌, ◌≤◌, List, [], length, take, Result, Ok, Err}
+use Rattle.std.specs.Prelude.{◌≡◌, ℕ, ◌+◌, ◌^◌, ◌<◌, ◌≤◌, List, [], ◌++◌, length, take, Result, Ok, Err}
 use Rattle.std.specs.Io.KnownBytes.{IsAtEnd}
 use Rattle.esdk_fields.specs.Counts.{Rose}
 use Rattle.esdk_base.specs.Streams.{SourceState}
@@ -38,3 +38,11 @@ NextPiece taken old new v (Ok done) = Piece most_piece old new v.piece × (v.tak
 NextPiece taken old new v (Err Seen) = Came old new [] × IsAtEnd new.left × (new.faults ≡ old.faults) × (taken < most_input) × (v.taken ≡ taken)
 NextPiece taken old new v (Err Failed) = Came old new [] × Rose old.faults new.faults × (taken < most_input) × (v.taken ≡ taken)
 NextPiece taken old new v (Err TooLong) = (new ≡ old) × (taken ≡ most_input) × (v.taken ≡ taken)
+
+-- At most one piece of these bytes stands behind others of which this is so.
+pub record APieceBehind (so : List ℕ → Type 0) (bytes : List ℕ) : Type 0 where
+  pub before : List ℕ
+  pub piece : List ℕ
+  pub all : bytes ≡ before ++ piece
+  pub few : length piece ≤ most_piece
+  pub was : so before

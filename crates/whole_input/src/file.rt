@@ -1,6 +1,7 @@
 //! Taking a small file of a shelf.
 ghost use Rattle.std.specs.Prelude.{◌≡◌, ◌<◌, ◌≤◌, [], IfOk, IfErr, OnOk, length, vec_len};
 ghost use Rattle.whole_input.specs.File.{Adds, FileCause, IsFile};
+ghost use Rattle.whole_input.specs.Pieces.{most_piece};
 
 use crate::buffer::buffer_of;
 use esdk_base::Shelf;
@@ -49,8 +50,9 @@ impl From<AllocError> for FileError {
     }
 }
 
-/// Takes all bytes of the file that has this name on the shelf, at most 1,048,576. The shelf stays
-/// as it is.
+/// Takes all bytes of the file that has this name on the shelf, at most 1,048,576. It is read in
+/// pieces of at most 65,536 bytes, and no further than to the piece that makes it too long. The
+/// shelf stays as it is.
 pub fn take_file<F: Shelf>(alloc: Global, shelf: &mut F, name: &str) -> Result<Blob, FileError>
     ensures file { IfOk result (λ bytes. IsFile (F.state shelf.old)
         (F.state shelf.new) name.now bytes) }
@@ -72,6 +74,7 @@ fn fill<F: Shelf>(
     bytes: &mut Blob,
 ) -> Result<(), FileError>
     requires room { 0 < length buffer.old }
+    requires few { length buffer.old ≤ most_piece }
     requires empty { bytes.old ≡ [] }
     ensures file { OnOk result (IsFile (F.state shelf.old) (F.state shelf.new) name.now bytes.new) }
     ensures cause { IfErr result (λ error. FileCause (F.state shelf.old)
@@ -97,6 +100,7 @@ fn add_piece<F: Shelf>(
     bytes: &mut Blob,
 ) -> Result<bool, FileError>
     requires room { 0 < length buffer.old }
+    requires few { length buffer.old ≤ most_piece }
     ensures adds { Adds (F.state shelf.old) (F.state shelf.new) name.now bytes.old bytes.new result }
     ensures stays { (F.state shelf.new).files ≡ (F.state shelf.old).files }
 {

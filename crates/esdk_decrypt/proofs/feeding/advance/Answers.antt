@@ -39,7 +39,7 @@ returns-in-Err-put-clause-ends g c = λ first begun settings given bytes input t
     let steps = rw c.in-Ok.is at c.step.ensures.steps u.session u.stands in
     running_put_ends views c.args.now first c.args.manager.now c.step.new.manager settings given (g.O.Sink.state begun) (g.O.Sink.state c.args.output.now) (g.O.Sink.state c.put.new.output)
     (c.args.output.now ≡ begun) (c.put.new.output ≡ c.args.output.now) (c.put.new.output ≡ begun) bytes c.args.opener.now c.step.new.self c.args.left.now c.out.result.now c.in-Ok.used c.in-Err-put.error _ _ input taken
-    c.requires.some u steps (c.step.ensures.unasked u.session u.stands) (c.out.ensures _ steps.stands) (rw c.in-Err-put.is at c.put.ensures) came
+    c.requires.some u steps (c.step.ensures.unasked u.session u.stands) (c.out.ensures _ steps.stands) (rw c.in-Err-put.is at c.put.ensures) came few
 
 pub returns-in-Err-clause-ends : goal.returns-in-Err-clause-ends
 returns-in-Err-clause-ends g c = λ first begun settings given bytes input taken u came few.

@@ -5,12 +5,12 @@ use Rattle.whole_input.proofs.file.fill.Goals as goal
 pub loop-bytes-init : goal.loop-bytes-init
 loop-bytes-init g c =
     let first = g.F.Shelf.state c.args.shelf.now in
-    subst (λ b. Adding first first c.args.name.now b) (sym c.requires.empty) (adding_none first c.args.name.now)
+    (subst (λ b. Adding first first c.args.name.now b) (sym c.requires.empty) (adding_none first c.args.name.now), omega (arith, ap length c.requires.empty))
 
 pub loop-bytes-preserved : goal.loop-bytes-preserved
 loop-bytes-preserved g c =
     let adds = rw c.in-Ok-true.is at c.add_piece.ensures.adds in
-    adding_more _ _ _ _ c.loop-bytes.bytes c.add_piece.new.bytes _ c.loop-bytes.invariant adds c.add_piece.ensures.stays
+    (adding_more _ _ _ _ c.loop-bytes.bytes c.add_piece.new.bytes _ c.loop-bytes.invariant.0 adds c.add_piece.ensures.stays, omega (arith, adds.few, c.loop-bytes-test.true, ap length c.bytes.ensures))
 
 pub loop-bytes-smaller : goal.loop-bytes-smaller
 loop-bytes-smaller g c =
@@ -20,12 +20,12 @@ loop-bytes-smaller g c =
 pub returns-in-Ok-false-clause-file : goal.returns-in-Ok-false-clause-file
 returns-in-Ok-false-clause-file g c =
     let adds = rw (c.in-Ok-false.is, c.in-Ok-false.field-0-test) at c.add_piece.ensures.adds in
-    adding_ends _ _ _ _ c.loop-bytes.bytes c.add_piece.new.bytes c.loop-bytes.invariant adds (omega (arith, c.loop-bytes-test.true, ap length c.bytes.ensures))
+    adding_ends _ _ _ _ c.loop-bytes.bytes c.add_piece.new.bytes c.loop-bytes.invariant.0 adds (omega (arith, c.loop-bytes-test.true, ap length c.bytes.ensures))
 
 pub returns-in-Err-clause-cause : goal.returns-in-Err-clause-cause
 returns-in-Err-clause-cause g c =
     let adds = rw c.in-Err.is at c.add_piece.ensures.adds in
-    adding_fails _ _ _ _ c.loop-bytes.bytes c.add_piece.new.bytes c.in-Err.error c.loop-bytes.invariant (omega (arith, c.loop-bytes-test.true, ap length c.bytes.ensures)) adds
+    adding_fails _ _ _ _ c.loop-bytes.bytes c.add_piece.new.bytes c.in-Err.error c.loop-bytes.invariant.0 (omega (arith, c.loop-bytes-test.true, ap length c.bytes.ensures)) adds
 
 pub returns-clause-cause : goal.returns-clause-cause
-returns-clause-cause g c = adding_long _ _ _ c.loop-bytes.bytes c.loop-bytes.invariant (omega (arith, c.loop-bytes-test.false, ap length c.bytes.ensures))
+returns-clause-cause g c = adding_long _ _ _ c.loop-bytes.bytes c.loop-bytes.invariant.0 c.loop-bytes.invariant.1 (omega (arith, c.loop-bytes-test.false, ap length c.bytes.ensures))
