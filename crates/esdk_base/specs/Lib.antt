@@ -1,11 +1,5 @@
 pub mod Clock
 pub mod Entropy
-pub mod FileShelf
-pub mod KeptFiles
-pub mod RngEntropy
 pub mod Shelf
 pub mod Sink
-pub mod StdSink
-pub mod StdSource
 pub mod Streams
-pub mod SystemClock

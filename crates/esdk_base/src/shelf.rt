@@ -6,8 +6,21 @@ ghost use Rattle.esdk_fields.specs.Counts.{CountsGiven, HasCause};
 ghost use Rattle.esdk_base.specs.Shelf.{AppendsTo, Creates, EndsAt, HasCauseOrMissing, ReadsFrom, is_missing};
 
 use crate::Failed;
+use std::alloc::AllocError;
+
+/// Who may read a file that a run made, where the system knows of rights and no file was there
+/// before, whose rights stay.
+#[derive(Clone, Copy)]
+pub enum Readers {
+    /// Its owner alone, as a plaintext.
+    Owner,
+    /// Whoever the process lets read what it makes, as a message.
+    Anyone,
+}
 
 /// Files by their names. Each call leaves all other names as they were.
+///
+/// What is appended to a name may become seen by others under it only once the name is finished.
 ///
 /// A shelf that tells its files answers `Failed` to a read or an append of a name that isn't there,
 /// and then its count of faults stays. Every other `Failed` comes only where the count rose.
@@ -47,4 +60,17 @@ pub trait Shelf {
         ensures given { (state self.new).given ≡ (state self.old).given }
         ensures cause { HasCauseOrMissing (is_missing (state self.old).files name.now)
             (state self.old).faults (state self.new).faults result };
+
+    /// Says that this name is going to be read, so that nothing is put in the place of what it
+    /// names now. Fails only where memory runs out.
+    fn will_read(&mut self, name: &str) -> Result<(), AllocError>
+        ensures { state self.new ≡ state self.old };
+
+    /// Says that no more is appended to this name, which `create` made: what it holds is put in its
+    /// place, for these readers. The files stay as they are. After `Failed` others may see in its
+    /// place what was there before.
+    fn finish(&mut self, name: &str, readers: Readers) -> Result<(), Failed>
+        ensures stays { (state self.new).files ≡ (state self.old).files }
+        ensures given { (state self.new).given ≡ (state self.old).given }
+        ensures cause { HasCause (state self.old).faults (state self.new).faults result };
 }

@@ -1,6 +1,6 @@
 //! A shelf in memory.
 
-ghost use Rattle.std.specs.Prelude.{◌≡◌, ◌||◌, IfOk, OnErr, OnOk, Some, is_err, length};
+ghost use Rattle.std.specs.Prelude.{◌≡◌, ◌||◌, IfOk, IsOk, OnErr, OnOk, Some, is_err, length};
 ghost use Rattle.std.specs.FinMap.{empty, get};
 ghost use Rattle.std.specs.Io.{ReadsAtMost};
 ghost use Rattle.std.specs.Option.{option_map};
@@ -12,7 +12,7 @@ ghost use Rattle.esdk_base.specs.Shelf.{AppendsTo, Creates, EndsAt, HasCauseOrMi
 use crate::call_plan::CallPlan;
 use crate::fronts::give_part;
 use crate::mem_files::MemFiles;
-use esdk_base::{Failed, Shelf};
+use esdk_base::{Failed, Readers, Shelf};
 use std::alloc::{AllocError, Global};
 use std::marker::Model;
 
@@ -152,6 +152,20 @@ impl Shelf for MemShelf {
             return Err(Failed);
         };
         self.files.append(name, bytes);
+        Ok(())
+    }
+
+    fn will_read(&mut self, name: &str) -> Result<(), AllocError>
+        ensures { self.new ≡ self.old }
+    {
+        Ok(())
+    }
+
+    /// Is no call that is counted among those that may be planned to fail.
+    fn finish(&mut self, name: &str, readers: Readers) -> Result<(), Failed>
+        ensures shelf { self.new ≡ self.old }
+        ensures ok { IsOk result }
+    {
         Ok(())
     }
 }

@@ -8,13 +8,15 @@
 
 ghost use Rattle.std.specs.Prelude.{◌≡◌, length, IfOk};
 
-use esdk_base::{FileShelf, RngEntropy, Sink, StdSink, StdSource, SystemClock};
-use esdk_fields::Text;
+use esdk_base::{Shelf, Sink};
+use esdk_fields::{Outside, Text};
 use esdk_report::{Failure, Status, report_failure};
 use esdk_run::run;
+use esdk_system::{FileShelf, HeldStreams, RngEntropy, StdSink, StdSource, SystemClock};
 use keydir_keyring::KeydirKeyring;
 use keyring_file::Plug;
 use raw_aes_keyring::RawError;
+use std::alloc::AllocError;
 use std::io::ErrorKind;
 use std::process::ExitCode;
 use std::{env, io};
@@ -22,16 +24,34 @@ use std::{env, io};
 /// The keyring that `main` hands in: one key, in a file of the folder that the program runs in.
 type Keydir = KeydirKeyring<FileShelf>;
 
+/// The file in which that key stands.
+const KEY_FILE: &str = "esdk.key";
+
 /// Runs the program over standard input, standard output and standard error, the files of the
 /// folder that it runs in, a generator that the system seeds, the system's clock, and the plug
 /// `keydir`.
+///
+/// First of all the numbers of those streams are taken that are closed.
 fn main(rt: HostRuntime) -> ExitCode {
+    let held = HeldStreams::new(rt);
     let mut report = StdSink::new(rt.stderr());
-    let status = match run_words(rt, &mut report) {
+    let ended = match &held {
+        Ok(_) => run_words(rt, &mut report),
+        Err(error) => Err(failure_of(error)),
+    };
+    let status = match ended {
         Ok(status) => status,
         Err(failure) => report_failure(rt.alloc(), &failure, &mut report),
     };
     ExitCode::from(status.code)
+}
+
+/// Why the numbers of closed streams couldn't be taken: a folder isn't opened, or memory ran out.
+fn failure_of(error: &io::Error) -> Failure {
+    match error.kind() {
+        ErrorKind::OutOfMemory => Failure::Memory,
+        _ => Failure::Outside(Outside::ShelfFault),
+    }
 }
 
 /// Runs the program over the words of the command line.
@@ -40,7 +60,7 @@ fn run_words<R: Sink>(rt: HostRuntime, report: &mut R) -> Result<Status, Failure
     let plugs = plugs_of(rt)?;
     let mut input = StdSource::new(rt.stdin());
     let mut output = StdSink::new(rt.stdout());
-    let mut shelf = FileShelf::new(rt);
+    let mut shelf = shelf_of(rt)?;
     let mut entropy = RngEntropy::new(rand::make_rng(&rt).ok());
     let mut clock = SystemClock::new(rt);
     let ended = run(
@@ -54,7 +74,19 @@ fn run_words<R: Sink>(rt: HostRuntime, report: &mut R) -> Result<Status, Failure
         &mut clock,
         plugs,
     );
+    shelf.remove_unfinished();
     Ok(ended.status)
+}
+
+/// A shelf over the files of the folder, that puts nothing in the place of the file `esdk.key`, which
+/// the plug reads over a shelf of its own, nor of the files that standard output and standard error
+/// are.
+fn shelf_of(rt: HostRuntime) -> Result<FileShelf, AllocError> {
+    let mut shelf = FileShelf::new(rt);
+    shelf.will_read(KEY_FILE)?;
+    shelf.will_read("/dev/stdout")?;
+    shelf.will_read("/dev/stderr")?;
+    Ok(shelf)
 }
 
 /// The plug `keydir`, whose key stands in the file `esdk.key`.
@@ -65,9 +97,9 @@ fn plugs_of(rt: HostRuntime) -> Result<Vec<Plug<Keydir>>, Failure>
     let keyring = match KeydirKeyring::new(
         alloc,
         FileShelf::new(rt),
-        "esdk.key",
+        KEY_FILE,
         "keydir",
-        "esdk.key",
+        KEY_FILE,
     ) {
         Ok(keyring) => keyring,
         Err(RawError::ReservedNamespace) => unreachable!(),

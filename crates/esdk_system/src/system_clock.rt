@@ -4,7 +4,7 @@ ghost use Rattle.std.specs.Prelude.{◌≡◌, IfSome, None};
 ghost use Rattle.std.specs.Option.{option_map};
 ghost use Rattle.esdk_base.specs.Clock.{Moments, after_now, next_moment};
 
-use crate::Clock;
+use esdk_base::Clock;
 use std::marker::Model;
 use std::time::{SystemTime, UNIX_EPOCH};
 
@@ -16,7 +16,7 @@ pub struct SystemClock {
 }
 
 impl Model for SystemClock {
-    ghost use Rattle.esdk_base.specs.SystemClock.{SystemClockState};
+    ghost use Rattle.esdk_system.specs.SystemClock.{SystemClockState};
 
     ghost Value = { SystemClockState };
 

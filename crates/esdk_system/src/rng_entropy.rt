@@ -3,9 +3,9 @@
 ghost use Rattle.std.specs.Prelude.{◌≡◌, None, is_err, is_none};
 ghost use Rattle.esdk_fields.specs.Counts.{HasCause};
 ghost use Rattle.esdk_base.specs.Entropy.{FillConsumes};
-ghost use Rattle.esdk_base.specs.RngEntropy.{Draws};
+ghost use Rattle.esdk_system.specs.RngEntropy.{Draws};
 
-use crate::{Entropy, Failed};
+use esdk_base::{Entropy, Failed};
 use rand_chacha::ChaCha20Rng;
 use rand_core::Rng;
 use std::marker::Model;
@@ -19,7 +19,7 @@ pub struct RngEntropy {
 }
 
 impl Model for RngEntropy {
-    ghost use Rattle.esdk_base.specs.RngEntropy.{RngEntropyState};
+    ghost use Rattle.esdk_system.specs.RngEntropy.{RngEntropyState};
 
     ghost Value = { RngEntropyState };
 

@@ -5,7 +5,7 @@ ghost use Rattle.std.specs.Io.KnownBytes.{Appends};
 ghost use Rattle.esdk_fields.specs.Counts.{HasCause};
 ghost use Rattle.esdk_base.specs.Sink.{PutAppends};
 
-use crate::{Failed, Sink};
+use esdk_base::{Failed, Sink};
 use std::io::Write;
 use std::marker::Model;
 
@@ -17,7 +17,7 @@ pub struct StdSink<W> {
 }
 
 impl<W> Model for StdSink<W> {
-    ghost use Rattle.esdk_base.specs.StdSink.{StdSinkState};
+    ghost use Rattle.esdk_system.specs.StdSink.{StdSinkState};
 
     ghost Value = { StdSinkState W };
 

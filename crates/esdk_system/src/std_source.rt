@@ -5,11 +5,13 @@ ghost use Rattle.std.specs.Io.{ReadsAtMost};
 ghost use Rattle.std.specs.Io.KnownBytes.{ReadConsumes};
 ghost use Rattle.esdk_fields.specs.Counts.{CountsGiven, HasCause};
 
-use crate::{Failed, Source};
+use crate::interrupts::read_from;
+use esdk_base::{Failed, Source};
 use std::io::Read;
 use std::marker::Model;
 
-/// A source over a reader of std, as standard input. It tells no content.
+/// A source over a reader of std, as standard input. It tells no content. A read that a signal
+/// interrupts is made again.
 #[derive(Drop)]
 pub struct StdSource<R> {
     reader: R,
@@ -18,7 +20,7 @@ pub struct StdSource<R> {
 }
 
 impl<R> Model for StdSource<R> {
-    ghost use Rattle.esdk_base.specs.StdSource.{StdSourceState};
+    ghost use Rattle.esdk_system.specs.StdSource.{StdSourceState};
 
     ghost Value = { StdSourceState R };
 
@@ -51,7 +53,7 @@ impl<R: Read> Source for StdSource<R> {
         ensures reader { ReadConsumes (R.remaining self.old.reader)
             (R.remaining self.new.reader) result out.new }
     {
-        let Ok(count) = self.reader.read(out) else {
+        let Ok(count) = read_from(&mut self.reader, out) else {
             self.faults = self.faults.saturating_add(1);
             return Err(Failed);
         };

@@ -1,0 +1,129 @@
+//! The files of the system as a shelf.
+
+ghost use Rattle.std.specs.Prelude.{◌≡◌, ◌≤◌, None};
+ghost use Rattle.esdk_fields.specs.Counts.{HasCause, Rose};
+
+use crate::identity::{Identity, KnownFiles};
+use crate::parts::Parts;
+use crate::read_files::ReadFiles;
+use esdk_base::{Failed, Readers, Shelf};
+use std::alloc::AllocError;
+use std::marker::Model;
+use std::{fs, io};
+
+/// A shelf over the files of the system. A name is a path, as the user gave it. It tells no
+/// content.
+///
+/// Only regular files are read and written. A read from a file's front opens the file that has the
+/// name then, and the reads behind it go on with that file, whatever becomes of the name: at most 64
+/// files are open at a time, and one that was closed for others is read no further. A name that was
+/// given to another file meanwhile has no new readers until those of the first have ended.
+///
+/// What is written under a name is a new file in the same folder, `.esdk-PID-N.part`, that only its
+/// owner may open. Until `finish` renames it, what stands under the name stays, and is what is read
+/// there; a process that is killed leaves such files and nothing else. A link is followed once, by
+/// `create`, and one that leads to nothing is refused. What stood there lends the new file its
+/// rights; where nothing did, a file for its owner has mode 600, and another the mode that the
+/// process gives its files. Its owner and its other names aren't taken over. Nothing is put in the
+/// place of a file that was read or announced, that this shelf put in its place, or that nobody may
+/// write.
+///
+/// The system may tell only behind `finish` that it couldn't keep what was written, when a file is
+/// closed or later: neither is seen here.
+#[derive(Drop)]
+pub struct FileShelf {
+    rt: HostRuntime,
+    read: ReadFiles,
+    parts: Parts,
+    known: KnownFiles,
+    given: u64,
+    faults: u64,
+}
+
+impl Model for FileShelf {
+    ghost use Rattle.esdk_system.specs.FileShelf.{FileShelfState};
+
+    ghost Value = { FileShelfState };
+
+    ghost view = { λ s. record { given = s.given; faults = s.faults } };
+}
+
+impl FileShelf {
+    /// A shelf that has given nothing and not failed.
+    pub fn new(rt: HostRuntime) -> FileShelf
+        ensures { result ≡ record { given = 0; faults = 0 } }
+    {
+        FileShelf {
+            rt,
+            read: ReadFiles::new(rt),
+            parts: Parts::new(rt),
+            known: KnownFiles::new(rt.alloc()),
+            given: 0,
+            faults: 0,
+        }
+    }
+
+    /// Takes away what was written and not finished.
+    pub fn remove_unfinished(&mut self)
+        ensures { self.new ≡ self.old }
+    {
+        self.parts.discard_all();
+    }
+
+    /// Counts a fault.
+    fn fault(&mut self) -> Failed
+        ensures given { self.new.given ≡ self.old.given }
+        ensures later { self.old.faults ≤ self.new.faults }
+        ensures rose { Rose self.old.faults self.new.faults }
+    {
+        self.faults = self.faults.saturating_add(1);
+        Failed
+    }
+
+    /// Counts a fault where there is an error.
+    fn count_fault(&mut self, ended: io::Result<()>) -> Result<(), Failed>
+        ensures given { self.new.given ≡ self.old.given }
+        ensures cause { HasCause self.old.faults self.new.faults result }
+    {
+        match ended {
+            Ok(()) => Ok(()),
+            Err(_) => Err(self.fault()),
+        }
+    }
+}
+
+impl Shelf for FileShelf {
+    ghost state = { λ s. record { files = None; given = s.given; faults = s.faults } };
+
+    fn read_at(&mut self, name: &str, at: u64, out: &mut [u8]) -> Result<usize, Failed> {
+        match self.read.read(&mut self.known, name, at, out) {
+            Ok(count) => {
+                self.given = self.given.saturating_add(count as u64);
+                Ok(count)
+            }
+            Err(_) => Err(self.fault()),
+        }
+    }
+
+    fn create(&mut self, name: &str) -> Result<(), Failed> {
+        let created = self.parts.create(&self.known, name);
+        self.count_fault(created)
+    }
+
+    fn append(&mut self, name: &str, bytes: &[u8]) -> Result<(), Failed> {
+        let appended = self.parts.append(name, bytes);
+        self.count_fault(appended)
+    }
+
+    fn will_read(&mut self, name: &str) -> Result<(), AllocError> {
+        match fs::metadata(&self.rt, name) {
+            Ok(metadata) => self.known.remember(Identity::of(&metadata)),
+            Err(_) => Ok(()),
+        }
+    }
+
+    fn finish(&mut self, name: &str, readers: Readers) -> Result<(), Failed> {
+        let finished = self.parts.finish(&mut self.known, name, readers);
+        self.count_fault(finished)
+    }
+}

@@ -1,0 +1,196 @@
+//! Files that are written beside the place where they will stand.
+
+use crate::identity::{Identity, KnownFiles};
+use crate::named::{Named, NamedValues};
+use crate::part_names::PartNames;
+use crate::places::{Place, target_of};
+use esdk_base::Readers;
+use esdk_fields::Text;
+use std::fs::{File, Metadata, OpenOptions, Permissions};
+use std::io::{Error, ErrorKind, Write};
+use std::os::unix::fs::{MetadataExt, OpenOptionsExt, PermissionsExt};
+use std::path::PathBuf;
+use std::{fs, io};
+
+/// How many names for a new file are tried at the most, where those before are taken.
+const MOST_TRIES: u32 = 1000;
+
+/// The rights of a file that its owner alone reads and writes.
+const OWNER: u32 = 0o600;
+
+/// The rights of which the process takes away what its umask says.
+const ANYONE: u32 = 0o666;
+
+/// The part of a file's mode that says who reads and writes it.
+const RIGHTS: u32 = 0o777;
+
+/// A file that isn't whole yet, and the place where it will stand.
+#[derive(Drop)]
+struct Part {
+    target: PathBuf,
+    path: PathBuf,
+    file: File,
+}
+
+impl Part {
+    /// What the open file is, if its name still leads to it.
+    fn own_metadata(&self, rt: HostRuntime) -> io::Result<Metadata> {
+        let own = self.file.metadata()?;
+        let named = fs::symlink_metadata(&rt, &self.path)?;
+        if Identity::of(&named) == Identity::of(&own) {
+            Ok(own)
+        } else {
+            Err(Error::from(ErrorKind::NotFound))
+        }
+    }
+
+    /// Takes the file away. What stands under its name in its place stays.
+    fn discard(self, rt: HostRuntime) {
+        if self.own_metadata(rt).is_ok() {
+            let _removed = fs::remove_file(&rt, &self.path);
+        }
+    }
+}
+
+/// The files that aren't whole yet, each open under the name that it was made by.
+///
+/// A file is made new, beside the one whose place it takes: `create_new` follows no link and opens
+/// nothing that is there. Nobody but its owner may open it before it is whole.
+#[derive(Drop)]
+pub(crate) struct Parts {
+    rt: HostRuntime,
+    underway: NamedValues<Part>,
+    names: PartNames,
+    rights_of_new: Option<u32>,
+}
+
+impl Parts {
+    /// No file is underway.
+    pub(crate) fn new(rt: HostRuntime) -> Parts {
+        Parts {
+            rt,
+            underway: NamedValues::new(rt.alloc()),
+            names: PartNames::new(rt),
+            rights_of_new: None,
+        }
+    }
+
+    /// Makes an empty file beside the place that the name leads to. One that is underway under this
+    /// name is taken away.
+    pub(crate) fn create(&mut self, known: &KnownFiles, name: &str) -> io::Result<()> {
+        if let Some(earlier) = self.underway.take(name) {
+            earlier.value.discard(self.rt);
+        }
+        let target = target_of(self.rt, known, name)?;
+        let name = Text::new(self.rt.alloc(), name)?;
+        let (path, file) = self.new_file(&target, OWNER)?;
+        let value = Part { target, path, file };
+        self.keep(Named { name, value })
+    }
+
+    /// Appends to the file that is underway under this name. Where that fails, the file is taken
+    /// away.
+    pub(crate) fn append(&mut self, name: &str, bytes: &[u8]) -> io::Result<()> {
+        let Some(mut part) = self.underway.take(name) else {
+            return Err(Error::from(ErrorKind::NotFound));
+        };
+        if let Err(error) = part.value.file.write_all(bytes) {
+            part.value.discard(self.rt);
+            return Err(error);
+        }
+        self.keep(part)
+    }
+
+    /// Puts the file that is underway under this name in its place, and makes it known. Where none
+    /// is, there is nothing to do. Where that fails, the file is taken away, and what stands in the
+    /// place stays.
+    pub(crate) fn finish(
+        &mut self,
+        known: &mut KnownFiles,
+        name: &str,
+        readers: Readers,
+    ) -> io::Result<()> {
+        let Some(part) = self.underway.take(name) else {
+            return Ok(());
+        };
+        let placed = self.put_in_place(known, &part.value, readers);
+        if placed.is_err() {
+            part.value.discard(self.rt);
+        }
+        placed
+    }
+
+    /// Takes all files away that are underway.
+    pub(crate) fn discard_all(&mut self) {
+        while let Some(part) = self.underway.take_first() {
+            part.value.discard(self.rt);
+        }
+    }
+
+    /// Renames a whole file over what stands in its place.
+    fn put_in_place(
+        &mut self,
+        known: &mut KnownFiles,
+        part: &Part,
+        readers: Readers,
+    ) -> io::Result<()> {
+        let rights = match Place::of(self.rt, known, part.target.as_str())? {
+            Place::Taken(stands) => stands.mode() & RIGHTS,
+            Place::Free => self.rights_for(readers, &part.target)?,
+        };
+        let own = part.own_metadata(self.rt)?;
+        if own.mode() & RIGHTS != rights {
+            part.file.set_permissions(Permissions::from_mode(rights))?;
+        }
+        known.remember(Identity::of(&own))?;
+        fs::rename(&self.rt, &part.path, &part.target)
+    }
+
+    /// Keeps a file underway. Where memory runs out, it is taken away.
+    fn keep(&mut self, part: Named<Part>) -> io::Result<()> {
+        match self.underway.keep(part) {
+            Ok(()) => Ok(()),
+            Err(failed) => {
+                failed.value.value.discard(self.rt);
+                Err(Error::from(ErrorKind::OutOfMemory))
+            }
+        }
+    }
+
+    /// The rights of a file in whose place none stood, for these readers.
+    fn rights_for(&mut self, readers: Readers, target: &PathBuf) -> io::Result<u32> {
+        match readers {
+            Readers::Owner => Ok(OWNER),
+            Readers::Anyone => self.rights_of_new(target),
+        }
+    }
+
+    /// The rights that the system gives a new file of this process. A file of its own, which is
+    /// made and taken away at once, tells them: nothing is written to it, since others may open it.
+    fn rights_of_new(&mut self, target: &PathBuf) -> io::Result<u32> {
+        if let Some(rights) = self.rights_of_new {
+            return Ok(rights);
+        }
+        let (path, file) = self.new_file(target, ANYONE)?;
+        let metadata = file.metadata();
+        fs::remove_file(&self.rt, &path)?;
+        let rights = metadata?.mode() & RIGHTS;
+        self.rights_of_new = Some(rights);
+        Ok(rights)
+    }
+
+    /// Makes a new file beside a path, with at most these rights.
+    fn new_file(&mut self, beside: &PathBuf, rights: u32) -> io::Result<(PathBuf, File)> {
+        let mut options = OpenOptions::new();
+        options.write(true).create_new(true).mode(rights);
+        for _ in 0..MOST_TRIES {
+            let path = self.names.next_beside(beside.as_str())?;
+            match options.open(&self.rt, &path) {
+                Ok(file) => return Ok((path, file)),
+                Err(error) if error.kind() == ErrorKind::AlreadyExists => {}
+                Err(error) => return Err(error),
+            }
+        }
+        Err(Error::from(ErrorKind::AlreadyExists))
+    }
+}
