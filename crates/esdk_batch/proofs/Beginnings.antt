@@ -23,6 +23,7 @@ use Rattle.esdk_batch.specs.Managing.{Managing}
 use Rattle.esdk_batch.specs.Underway.{HasSession, IsAt}
 use Rattle.esdk_batch.specs.Turns.{HasKind, Knows, answered_so_far, waits}
 use Rattle.esdk_batch.specs.Rounds.{AreAt, Beginning, HasOwn, HaveDrawn, HaveSealed, HaveSessions, Stand, all_waits}
+use Rattle.esdk_batch.proofs.Beside.{rest_waits}
 
 -- ---- lists of jobs that wait
 
@@ -59,7 +60,7 @@ sessions_wait jobs progress live wait = record {
 }
 
 begun_at : Option Files → EntropyState → DeskValue → Beginning
-begun_at files entropy v = record { files = files; entropy = entropy; journal = v.journal; last = v.last }
+begun_at files entropy v = record { live = v.live; files = files; entropy = entropy; journal = v.journal; last = v.last }
 
 all_at : (manager : Managing) (jobs : List Job) (progress : List Progress) (now : Option Files) (live : ℕ → Option SessionValue) → AllWait progress
     → (files left : Files) → now ≡ Some files → now ≡ Some left → AreAt manager jobs files left (replicate (length progress) []) live progress
@@ -70,9 +71,10 @@ all_at manager jobs progress now live wait files left was is = λ k job drawn on
     (get_or-replicate (length progress) k [] drawn below, same)
 
 pub stand_begins : (manager : Managing) (jobs : List Job) (width : ℕ) (files : Option Files) (entropy : EntropyState) (v : DeskValue) (progress : List Progress) → AllWait progress
-    → Stand manager jobs width (record { files = files; entropy = entropy; journal = v.journal; last = v.last }) files entropy v progress
+    → Stand manager jobs width (record { live = v.live; files = files; entropy = entropy; journal = v.journal; last = v.last }) files entropy v progress
 stand_begins manager jobs width files entropy v progress wait = record {
   sessions = sessions_wait jobs progress v.live wait;
+  rest = rest_waits progress v.live wait;
   kinds = λ k job one below. subst (HasKind (get_or jobs k job).work) (sym (wait k one below)) tt;
   draws = replicate (length progress) [];
   drawn = record {

@@ -1,6 +1,6 @@
 -- A batch all of whose jobs ended.
 use Rattle.std.proofs.Common.{◌≡◌, ◌<◌, ◌≤◌, ◌+◌, ℕ, zero, suc, List, [], ◌∷◌, ◌++◌, length, map, get_or, refl, sym, ap, subst, ◌∙◌, arith}
-use Rattle.std.specs.Prelude.{Option, Some, None, zip, filter_map, option_map}
+use Rattle.std.specs.Prelude.{Option, Some, None, zip, filter_map, option_map, Result, Ok, Err, OnOk}
 use Rattle.std.specs.List.{concat, cons_option}
 use Rattle.std.specs.List.Sorted.{IsPermutation}
 use Rattle.std.proofs.lemmas.List.{length-map}
@@ -17,6 +17,7 @@ use Rattle.batch_report.specs.declared.job_lines.JobLine.{JobLine}
 use Rattle.esdk_batch.specs.declared.progress.Progress.{Progress}
 use Rattle.esdk_batch.specs.declared.progress.Progress.TheVariants as stages
 use Rattle.esdk_batch.specs.Batch.{AllCome, Answered, ComesTo, RunsBatch, WorksSo, in_line, in_report, kind_of, length_of, seen_of}
+use Rattle.esdk_batch.specs.Failures.{CountsFailures, Tally, tally_of}
 use Rattle.esdk_batch.specs.Managing.{Managing}
 use Rattle.esdk_batch.specs.Underway.{IsAt}
 use Rattle.esdk_batch.specs.Turns.{HasKind, answered_so_far}
@@ -74,10 +75,10 @@ same_answers (job ∷ jobs) (line ∷ lines) kinds =
 
 pub batch_ends : (manager : Managing) (file : JobFile) (v w : DeskValue) (before after : ShelfState) (entropy spent : EntropyState) (lines_before lines_after : List JournalLine) (lines : List JobLine)
     → length lines ≡ length file.jobs → lines_before ≡ v.journal → lines_after ≡ w.journal
-    → Stand manager file.jobs file.width (record { files = before.files; entropy = entropy; journal = v.journal; last = v.last }) after.files spent w (map stages.Ended lines)
+    → Stand manager file.jobs file.width (record { live = v.live; files = before.files; entropy = entropy; journal = v.journal; last = v.last }) after.files spent w (map stages.Ended lines)
     → RunsBatch manager file v.last before after entropy spent lines_before lines_after lines
 batch_ends manager file v w before after entropy spent lines_before lines_after lines each was is s =
-    let began : Beginning = record { files = before.files; entropy = entropy; journal = v.journal; last = v.last } in
+    let began : Beginning = record { live = v.live; files = before.files; entropy = entropy; journal = v.journal; last = v.last } in
     let come = comes_at manager file.jobs file.width began after.files spent w lines s in
     record {
       draws = s.draws;
@@ -94,12 +95,28 @@ batch_ends manager file v w before after entropy spent lines_before lines_after 
 pub batch_ends_at : (manager : Managing) (file : JobFile) (v w : DeskValue) (before after : ShelfState) (entropy spent : EntropyState) (lines_before lines_after : List JournalLine) (lines : List JobLine)
     (jobs : List Job) (width : ℕ) (progress : List Progress) → jobs ≡ file.jobs → width ≡ file.width → progress ≡ map stages.Ended lines → length progress ≡ length jobs
     → lines_before ≡ v.journal → lines_after ≡ w.journal
-    → Stand manager jobs width (record { files = before.files; entropy = entropy; journal = v.journal; last = v.last }) after.files spent w progress
+    → Stand manager jobs width (record { live = v.live; files = before.files; entropy = entropy; journal = v.journal; last = v.last }) after.files spent w progress
     → RunsBatch manager file v.last before after entropy spent lines_before lines_after lines
 batch_ends_at manager file v w before after entropy spent lines_before lines_after lines jobs width progress same wide ended each was is s =
-    let began : Beginning = record { files = before.files; entropy = entropy; journal = v.journal; last = v.last } in
+    let began : Beginning = record { live = v.live; files = before.files; entropy = entropy; journal = v.journal; last = v.last } in
     batch_ends manager file v w before after entropy spent lines_before lines_after lines
     (omega (arith, each, ap length ended, ap length same, length-map lines stages.Ended)) was is
     (subst (λ jobs. Stand manager jobs file.width began after.files spent w (map stages.Ended lines)) same
     (subst (λ width. Stand manager jobs width began after.files spent w (map stages.Ended lines)) wide
     (subst (λ progress. Stand manager jobs width began after.files spent w progress) ended s)))
+
+-- ---- as the code says it
+
+-- the shelf was only told what is read
+pub begun_as : (manager : Managing) (file : JobFile) (last : ℕ) (before mid after : ShelfState) (entropy spent : EntropyState) (lines_before lines_after : List JournalLine) (lines : List JobLine) → mid ≡ before
+    → RunsBatch manager file last mid after entropy spent lines_before lines_after lines → RunsBatch manager file last before after entropy spent lines_before lines_after lines
+begun_as manager file last before mid after entropy spent lines_before lines_after lines same runs =
+    subst (λ (s : ShelfState). RunsBatch manager file last s after entropy spent lines_before lines_after lines) same runs
+
+pub counted_as : (jobs : List Job) (entropy keyring : ℕ) (before mid : ShelfState) (now : Tally) (lines : List JobLine) → mid ≡ before → CountsFailures jobs (tally_of mid entropy keyring) now lines
+    → CountsFailures jobs (tally_of before entropy keyring) now lines
+counted_as jobs entropy keyring before mid now lines same counts = subst (λ (s : ShelfState). CountsFailures jobs (tally_of s entropy keyring) now lines) same counts
+
+pub on_ok : {T E P : Type 0} (r : Result T E) → P → OnOk r P
+on_ok (Ok done) so = so
+on_ok (Err error) so = tt

@@ -98,6 +98,7 @@ feeds_all manager session s piece left v desk to files after none on = (
     desk = on.keeps;
     others = on.others;
     lives = λ going. subst (λ (o : Option SessionValue). GoesOnAs s o) (sym on.live) (same_kind session s on.now on.gained on.serves);
+    over = λ ended. absurd cc;
     serves = serves_all session s on.now on.gained (on.worth.live session) on.live on.serves;
     feeds = so_ends manager s on.now piece to files after (on.worth.live session) on.live (subst (λ (l : List ℕ). FedSo manager s piece l on.now to files after) none on.so);
   },
@@ -180,6 +181,7 @@ module _ {M : Type 0} (manager : Managing) (asking : Asking) (session now : ℕ)
           desk = keeps_dropped session v fed_desk (on.gained ++ open_lines session now feeds.heard) (keeps_fed session now v on.worth on.gained left feeds.heard feeds.short on.keeps);
           others = others_more files mid after to on.others puts.keeps;
           lives = λ no. absurd (some_end (ends.Outside outsides.ShelfFault) no);
+          over = λ ended. dropped_left session fed_desk;
           serves = serves_last asking session now s on.now left feeds.heard feeds.short on.gained ((after_call fed_desk session false DropSession).live session) (ends.Outside outsides.ShelfFault)
               is_going (hears_now (Ok used) feeds) (dropped_left session fed_desk) (λ no. absurd (not_failed no)) on.serves;
           feeds = so_unput manager asking s on.now piece left to files mid after feeds.heard feeds.short used n ((after_call fed_desk session false DropSession).live session)
@@ -200,6 +202,7 @@ module _ {M : Type 0} (manager : Managing) (asking : Asking) (session now : ℕ)
           desk = keeps_fed session now v on.worth on.gained left feeds.heard feeds.short on.keeps;
           others = on.others;
           lives = λ no. absurd (some_end end no);
+          over = λ ended. fed_left session now on.worth on.now left feeds.heard feeds.short on.live ∙ left_err (step_answer on.now left feeds.heard feeds.short) (stepped on.now left feeds.heard feeds.short) error answer;
           serves = serves_last asking session now s on.now left feeds.heard feeds.short on.gained ((after_call on.worth session feeds.short (Feed now left feeds.heard)).live session) end
               is_going (hears_now (Err error) feeds) (fed_left session now on.worth on.now left feeds.heard feeds.short on.live ∙ left_err (step_answer on.now left feeds.heard feeds.short) (stepped on.now left feeds.heard feeds.short) error answer)
               (λ failed. answer ∙ ap (λ (e : DeskError). Err e) (fails_so error end named failed)) on.serves;

@@ -1,6 +1,7 @@
 -- A further turn of a job whose piece was fed: how its session and its file stand, or how it ended.
 use Rattle.std.proofs.Common.{◌≡◌, ◌≤◌, ◌+◌, ℕ, List, [], ◌∷◌, ◌++◌, length, take, refl, sym, ap, subst, ◌∙◌, inl, inr}
-use Rattle.std.specs.Prelude.{Option, Some, None, option_map, slice_get}
+use Rattle.std.specs.Prelude.{Option, Some, None, nat_eq, option_map, slice_get}
+use Rattle.std.specs.Map.{update}
 use Rattle.esdk_base.specs.Shelf.{Files, file_of}
 use Rattle.keyring_trait.specs.declared.journal.JournalLine.{JournalLine}
 use Rattle.keyring_trait.specs.declared.journal.Kind.{Kind}
@@ -21,6 +22,7 @@ use Rattle.esdk_batch.specs.Files.{ReadsPiece, most_input}
 use Rattle.esdk_batch.specs.Managing.{Managing}
 use Rattle.esdk_batch.specs.Turns.{either}
 use Rattle.esdk_batch.specs.Underway.{FurtherTurn, IsLive, Took}
+use Rattle.esdk_batch.proofs.Beside.{rest_on, rest_over}
 use Rattle.esdk_batch.proofs.FurtherTurns.{ended_as}
 use Rattle.esdk_batch.proofs.OpeningJobs.{open_ends, open_goes}
 use Rattle.esdk_batch.proofs.SealingJobs.{seal_ends, seal_goes, seen_with}
@@ -95,6 +97,8 @@ pub fed_turn : (manager : Managing) (job : Job) (live next : Live) (s : SessionV
     → FurtherTurn manager job live (stages.Live next) v w files after
 fed_turn manager job live next s v w files after buffer count lives reads fed same further served = record {
   sessions = fed.desk.others;
+  rest = subst (λ (id : ℕ). (session : ℕ) → update nat_eq w.live id None session ≡ update nat_eq v.live live.session None session) (sym same)
+      (rest_on v.live w.live live.session fed.desk.others);
   last = fed.desk.last;
   gained = fed.gained;
   journal = fed.desk.journal;
@@ -138,6 +142,7 @@ pub broken_turn : (manager : Managing) (job : Job) (live : Live) (served : Optio
     → FurtherTurn manager job live (stages.Ended (record { kind = kind_of job.work; end = end; served = served })) v w files after
 broken_turn manager job live served s v w files after buffer count end lives reads fed reports = record {
   sessions = fed.desk.others;
+  rest = rest_over v.live w.live live.session fed.desk.others (fed.over refl);
   last = fed.desk.last;
   gained = fed.gained;
   journal = fed.desk.journal;

@@ -22,7 +22,7 @@ use Rattle.esdk_batch.specs.Underway.{IsLiveAt, IsWorth}
 use Rattle.esdk_batch.proofs.DeskFeeding.{FeedsOn, feeds_more, feeds_not, feeds_unput, lives_on}
 use Rattle.esdk_batch.proofs.Judging.{answers_admitted}
 use Rattle.esdk_batch.proofs.Managers.{admits_within, goes_again, went_none}
-use Rattle.esdk_batch.proofs.Moments.{Views, admits_same, moment}
+use Rattle.esdk_batch.proofs.ManagerViews.{Views, admits_same, moment}
 
 -- the manager of a desk as it is now
 abbrev pub now_at : {M : Type 0} → Views M → Desk M → ManagerNow

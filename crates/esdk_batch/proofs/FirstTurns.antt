@@ -1,6 +1,7 @@
 -- A job's first turn: what it leaves of the desk, and what it makes of the job's file.
-use Rattle.std.proofs.Common.{◌≡◌, ◌≤◌, ◌+◌, ℕ, List, [], ◌∷◌, ◌++◌, length, take, false, refl, sym, ap, subst, ◌∙◌, inl, inr, arith, append-nil}
-use Rattle.std.specs.Prelude.{◌⊎◌, Option, Some, None, is_some, option_map, slice_get}
+use Rattle.std.proofs.Common.{◌≡◌, ◌≢◌, ◌≤◌, ◌+◌, ℕ, List, [], ◌∷◌, ◌++◌, length, take, false, refl, sym, ap, subst, ◌∙◌, inl, inr, arith, append-nil}
+use Rattle.std.specs.Prelude.{◌⊎◌, Option, Some, None, is_some, nat_eq, option_map, slice_get}
+use Rattle.std.specs.Map.{update}
 use Rattle.std.specs.Io.KnownBytes.{Consumes}
 use Rattle.std.proofs.lemmas.Map.{update_apart, update_here}
 use Rattle.esdk_fields.specs.declared.refusals.Outside.TheVariants as outsides
@@ -13,29 +14,31 @@ use Rattle.desk_core.specs.Session.{SessionValue, Turn, dropped, header_of}
 use Rattle.desk_core.specs.Desk.{DeskValue, DropSession, after_call, after_turn, drawn, lines_of}
 use Rattle.job_file.specs.declared.job.Job.{Job}
 use Rattle.batch_report.specs.declared.job_lines.JobEnd.TheVariants as ends
+use Rattle.esdk_batch.specs.declared.progress.Live.{Live}
 use Rattle.esdk_batch.specs.declared.progress.Progress.{Progress}
 use Rattle.esdk_batch.specs.declared.progress.Progress.TheVariants as stages
 use Rattle.esdk_batch.specs.Ending.{KeepsDesk}
 use Rattle.esdk_batch.specs.Files.{Holding, KeepsOthers}
 use Rattle.esdk_batch.specs.Managing.{Managing}
 use Rattle.esdk_batch.specs.Opening.{BeginsFile}
-use Rattle.esdk_batch.specs.Underway.{HasSession, IsAt, TakesTurn}
+use Rattle.esdk_batch.specs.Underway.{HasSession, IsAt, TakesTurn, beside}
+use Rattle.esdk_batch.proofs.Beside.{rest_begun, rest_never}
 
 -- ---- the desk
 
--- At most the next number was drawn, every session before is as it was, and the journal gained these lines.
+-- At most the next number was drawn, every session of another number is as it was, and the journal gained these lines.
 pub record DrawsAtMost (v w : DeskValue) (lines : List JournalLine) : Type 0 where
-  pub sessions : (session : ℕ) → session ≤ v.last → w.live session ≡ v.live session
+  pub sessions : (session : ℕ) → session ≢ v.last + 1 → w.live session ≡ v.live session
   pub last : v.last ≤ w.last
   pub next : w.last ≤ v.last + 1
   pub journal : w.journal ≡ v.journal ++ lines
 
 pub draws_none : (v : DeskValue) → DrawsAtMost v v []
-draws_none v = record { sessions = λ session low. refl; last = omega arith; next = omega arith; journal = sym (append-nil v.journal) }
+draws_none v = record { sessions = λ session apart. refl; last = omega arith; next = omega arith; journal = sym (append-nil v.journal) }
 
 pub draws_next : {A : Type 0} (v : DeskValue) (lines : List JournalLine) (turn : Turn A) → DrawsAtMost v (after_turn (drawn v) (v.last + 1) lines turn) lines
 draws_next v lines turn = record {
-  sessions = λ session low. update_apart v.live (v.last + 1) turn.left session (λ same. omega (arith, same, low));
+  sessions = λ session apart. update_apart v.live (v.last + 1) turn.left session apart;
   last = omega arith;
   next = omega arith;
   journal = refl;
@@ -44,11 +47,20 @@ draws_next v lines turn = record {
 -- the session of that number was touched then
 pub draws_on : (v u w : DeskValue) (session : ℕ) (lines : List JournalLine) → DrawsAtMost v u lines → session ≡ v.last + 1 → KeepsDesk session u w [] → DrawsAtMost v w lines
 draws_on v u w session lines draws is keeps = record {
-  sessions = λ other low. keeps.others other (λ same. omega (arith, same, is, low)) ∙ draws.sessions other low;
+  sessions = λ other apart. keeps.others other (λ same. apart (same ∙ is)) ∙ draws.sessions other apart;
   last = omega (arith, draws.last, keeps.last);
   next = omega (arith, draws.next, keeps.last);
   journal = keeps.journal ∙ append-nil u.journal ∙ draws.journal;
 }
+
+-- the session of that number is live; none was before
+pub rest_live : (v w : DeskValue) (lines : List JournalLine) (live : Live) → DrawsAtMost v w lines → live.session ≡ v.last + 1 → v.live (v.last + 1) ≡ None
+    → (session : ℕ) → update nat_eq w.live live.session None session ≡ v.live session
+rest_live v w lines live draws is undrawn = rest_begun v.live w.live live.session (λ other apart. draws.sessions other (λ same. apart (same ∙ sym is))) (ap v.live is ∙ undrawn)
+
+-- it isn't
+pub rest_none : (v w : DeskValue) (lines : List JournalLine) → DrawsAtMost v w lines → v.live (v.last + 1) ≡ None → w.live (v.last + 1) ≡ None → (session : ℕ) → w.live session ≡ v.live session
+rest_none v w lines draws undrawn over = rest_never v.live w.live (v.last + 1) draws.sessions undrawn over
 
 -- ---- the session's file
 
@@ -58,7 +70,7 @@ kept_desk v session = record { others = λ other apart. refl; last = refl; journ
 dropped_desk : (v : DeskValue) (session : ℕ) → KeepsDesk session v (after_call v session false DropSession) []
 dropped_desk v session = record { others = λ other apart. update_apart v.live session (dropped (v.live session)).left other apart; last = refl; journal = refl }
 
-dropped_left : (v : DeskValue) (session : ℕ) (s : SessionValue) → v.live session ≡ Some s → (after_call v session false DropSession).live session ≡ None
+pub dropped_left : (v : DeskValue) (session : ℕ) (s : SessionValue) → v.live session ≡ Some s → (after_call v session false DropSession).live session ≡ None
 dropped_left v session s live = update_here v.live session (dropped (v.live session)).left ∙ ap (λ (o : Option SessionValue). (dropped o).left) live
 
 -- the file was made
@@ -127,13 +139,15 @@ served_behind id kind now size served before after count counted grown =
 
 -- A job that waited drew nothing before, and its file was as before the batch.
 pub takes_first : (manager : Managing) (job : Job) (next : Progress) (v w : DeskValue) (lines : List JournalLine) (files left : Option Files) (entropy spent : EntropyState) (more : List ℕ)
-    → DrawsAtMost v w lines → Consumes entropy.to_come spent.to_come more → KeepsOthers files left job.to → HasSession w.live next
+    → DrawsAtMost v w lines → ((session : ℕ) → beside next w.live session ≡ v.live session) → Consumes entropy.to_come spent.to_come more → KeepsOthers files left job.to
+    → HasSession w.live next
     → ((before now then_held : Files) → files ≡ Some now → left ≡ Some then_held → file_of (Some now) job.to ≡ file_of (Some before) job.to → IsAt manager job before then_held more w.live next)
     → TakesTurn manager job stages.Waiting next v w files left entropy spent
-takes_first manager job next v w lines files left entropy spent more draws consumes others has stands = record {
+takes_first manager job next v w lines files left entropy spent more draws rest consumes others has stands = record {
   more = more;
   drawn = consumes;
-  sessions = λ session lacks low. draws.sessions session low;
+  sessions = λ session lacks low. draws.sessions session (λ same. omega (arith, same, low));
+  rest = rest;
   last = draws.last;
   next = draws.next;
   gained = lines;

@@ -23,6 +23,8 @@ use Rattle.esdk_batch.specs.Ending.{EndsSession, FinishesSo}
 use Rattle.esdk_batch.specs.Files.{KeepsOthers, ReadsNone, ReadsPiece}
 use Rattle.esdk_batch.specs.Managing.{Managing}
 use Rattle.esdk_batch.specs.Underway.{FurtherTurn, IsLive, Took}
+use Rattle.esdk_batch.proofs.Beside.{rest_over}
+use Rattle.esdk_batch.proofs.FirstTurns.{dropped_left}
 use Rattle.esdk_batch.proofs.OpeningJobs.{open_finishes, open_too_long, open_unread}
 use Rattle.esdk_batch.proofs.SealingJobs.{seal_finishes, seal_too_long, seal_unread, seen_with}
 use Rattle.esdk_batch.proofs.Took.{keeps_all, took_all}
@@ -54,6 +56,8 @@ pub unread_turn : (manager : Managing) (job : Job) (live : Live) (s : SessionVal
     → FurtherTurn manager job live (stages.Ended (record { kind = kind_of job.work; end = ends.Outside outside; served = live.served })) v (after_call v live.session false DropSession) old.files new.files
 unread_turn manager job live s v old new outside lives none same = record {
   sessions = λ other apart. update_apart v.live live.session (dropped (v.live live.session)).left other apart;
+  rest = rest_over v.live (after_call v live.session false DropSession).live live.session (λ other apart. update_apart v.live live.session (dropped (v.live live.session)).left other apart)
+      (dropped_left v live.session s lives);
   last = refl;
   gained = [];
   journal = refl;
@@ -94,6 +98,7 @@ pub finished_turn : (manager : Managing) (job : Job) (live : Live) (s : SessionV
     → FurtherTurn manager job live (stages.Ended (record { kind = kind_of job.work; end = end; served = live.served })) v w files after
 finished_turn manager job live s v w files after buffer count end lives reads none finished = record {
   sessions = finished.desk.others;
+  rest = rest_over v.live w.live live.session finished.desk.others finished.left;
   last = finished.desk.last;
   gained = [];
   journal = finished.desk.journal;

@@ -1,5 +1,6 @@
 pub mod AllCounting
 pub mod Beginnings
+pub mod Beside
 pub mod Conclusion
 pub mod Counting
 pub mod DeskFeeding
@@ -16,6 +17,7 @@ pub mod Gaining
 pub mod Judgements
 pub mod Judging
 pub mod Lines
+pub mod ManagerViews
 pub mod Managers
 pub mod Moments
 pub mod Named
@@ -36,5 +38,6 @@ pub mod TakenTurns
 pub mod Took
 pub mod TurnCounting
 pub mod Turning
+pub mod Unplaced
 pub mod Windows
 pub mod Wishes

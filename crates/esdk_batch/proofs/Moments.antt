@@ -1,43 +1,99 @@
--- What a manager is at a moment, where a call left it and the journal as they were.
-use Rattle.std.proofs.Common.{◌≡◌, ℕ, List, sym, subst}
+-- The lines that the journal gains in a call bear the call's moment, and the turns follow one another.
+use Rattle.std.proofs.Common.{◌≡◌, ◌∙◌, ◌+◌, ℕ, List, [], ◌∷◌, ◌++◌, map, refl, sym, ap, subst, append_assoc, append-nil}
+use Rattle.std.specs.Prelude.{All, Option, None, Some, Result, option_map}
+use Rattle.std.specs.List.{flat_map}
+use Rattle.std.proofs.lemmas.Grind.{flat_map-append}
+use Rattle.std.proofs.lemmas.List.{map-append}
+use Rattle.std.proofs.lemmas.List.Elements.{All-append, All-cons, All-nil}
+use Rattle.esdk_base.specs.Clock.{Moments, after_now}
 use Rattle.keyring_trait.specs.declared.journal.JournalLine.{JournalLine}
-use Rattle.keyring_trait.specs.Manager.{ManagerGoes, ManagerMeaning}
-use Rattle.keyring_trait.specs.Materials.{EncMaterialsValue}
-use Rattle.keyring_trait.specs.Requests.{EncRequestValue}
-use Rattle.keyring_trait.specs.Wrapping.{WrapKeyValue}
+use Rattle.keyring_trait.specs.declared.journal.Kind.{Kind}
+use Rattle.keyring_trait.specs.declared.journal.Kind.TheVariants.{Seal, Unseal}
+use Rattle.keyring_trait.specs.declared.served.Served.{Served}
+use Rattle.stream_open.specs.Asking.{Asking, served_in}
+use Rattle.desk_core.specs.declared.errors.DeskError.{DeskError}
 use Rattle.desk_core.specs.declared.live_sessions.Desk.{Desk}
-use Rattle.desk_core.specs.Stands.{journal_of, manager_of}
-use Rattle.esdk_batch.specs.Managing.{Admits, ManagerNow, Managing, Went, manager_now}
-use Rattle.esdk_batch.proofs.Managers.{went_none}
+use Rattle.desk_core.specs.Calls.{Feeds, Giving, OpensSeal}
+use Rattle.desk_core.specs.Desk.{DeskValue, lines_of, served_by}
+use Rattle.desk_core.specs.SealRequest.{SealRequestValue}
+use Rattle.desk_core.specs.Stands.{Stands, journal_of}
+use Rattle.esdk_batch.specs.Moments.{Answers, BearsMoment, GainsAt, ReadsClock, TakesMoment, Turn}
 
--- What managers of this type mean, tell and bear.
-pub record Views (M : Type 0) : Type 1 where
-  pub meaning : M → ManagerMeaning
-  pub tells : M → List WrapKeyValue → Type 0
-  pub exact : M → Type 0
-  pub bears : M → List JournalLine → Type 0
-  pub within : M → List JournalLine → Type 0
-  pub gave : M → EncRequestValue → ℕ → List ℕ → EncMaterialsValue → Type 0
+-- ---- lines at one moment
 
-module _ {M : Type 0} (views : Views M) where
-  -- what it is at a moment, with the desk's journal of then
-  abbrev pub moment : M → List JournalLine → ManagerNow
-  moment m lines = manager_now (views.meaning m) (views.tells m) (views.exact m) (views.bears m lines) (views.within m)
+pub gains_none : (moment : ℕ) (before after : List JournalLine) → after ≡ before → GainsAt moment before after
+gains_none moment before after same = record {
+  gained = [];
+  journal = same ∙ sym (append-nil before);
+  bears = All-nil (λ (line : JournalLine). line.now ≡ moment);
+}
 
-  -- the same manager with the same journal keeps all
-  pub went_on_same : (first : ManagerNow) (old new : M) (before after : List JournalLine) → Went first (moment old before) → new ≡ old → after ≡ before → Went first (moment new after)
-  went_on_same first old new before after went same lines =
-      subst (λ (m : M). Went first (moment m after)) (sym same) (subst (λ (l : List JournalLine). Went first (moment old l)) (sym lines) went)
+lines_bear : (id : ℕ) (kind : Kind) (moment : ℕ) (size : Option ℕ) (served : Option Served) → All (λ (line : JournalLine). line.now ≡ moment) (lines_of id kind moment size served)
+lines_bear id kind moment size None = All-nil (λ (line : JournalLine). line.now ≡ moment)
+lines_bear id kind moment size (Some served) = All-cons (λ (line : JournalLine). line.now ≡ moment) _ [] refl (All-nil (λ (line : JournalLine). line.now ≡ moment))
 
-  pub went_same : (old new : M) (before after : List JournalLine) → ManagerGoes (views.meaning old) (views.meaning old) → new ≡ old → after ≡ before → Went (moment old before) (moment new after)
-  went_same old new before after goes same lines = went_on_same (moment old before) old new before after (went_none (moment old before) goes) same lines
+pub gains_more : (moment : ℕ) (before mid after : List JournalLine) → GainsAt moment before mid → GainsAt moment mid after → GainsAt moment before after
+gains_more moment before mid after first later = record {
+  gained = first.gained ++ later.gained;
+  journal = later.journal ∙ ap (λ (l : List JournalLine). l ++ later.gained) first.journal ∙ append_assoc before first.gained later.gained;
+  bears = All-append (λ (line : JournalLine). line.now ≡ moment) first.gained later.gained first.bears later.bears;
+}
 
-  -- what may be said until then may be said until before
-  pub admits_same : (manager : Managing) (first : ManagerNow) (old new : M) (before after : List JournalLine) → new ≡ old → after ≡ before → Admits manager first (moment new after)
-      → Admits manager first (moment old before)
-  admits_same manager first old new before after same lines admits =
-      subst (λ (m : M). Admits manager first (moment m before)) same (subst (λ (l : List JournalLine). Admits manager first (moment new l)) lines admits)
+-- the journal stayed behind it
+pub gains_same : (moment : ℕ) (before mid after : List JournalLine) → GainsAt moment before mid → after ≡ mid → GainsAt moment before after
+gains_same moment before mid after first same = subst (λ (l : List JournalLine). GainsAt moment before l) (sym same) first
 
-  -- the same of a desk
-  abbrev pub desk_moment : Desk M → ManagerNow
-  desk_moment desk = moment (manager_of desk) (journal_of desk)
+-- ---- the calls of the desk
+
+pub fed_gains : {M : Type 0} (asking : Asking) (old new : Desk M) (v : DeskValue) (id now : ℕ) (piece : List ℕ) (result : Result ℕ DeskError) → Stands old v → Feeds asking v id now piece result new
+    → GainsAt now (journal_of old) (journal_of new)
+fed_gains asking old new v id now piece result stands feeds = record {
+  gained = lines_of id Unseal now None (served_in feeds.heard);
+  journal = feeds.stands.journal ∙ ap (λ (l : List JournalLine). l ++ lines_of id Unseal now None (served_in feeds.heard)) (sym stands.journal);
+  bears = lines_bear id Unseal now None (served_in feeds.heard);
+}
+
+pub sealed_gains : {M : Type 0} (manager : Giving) (old new : Desk M) (v : DeskValue) (request : SealRequestValue) (now : ℕ) (random : List ℕ) (result : Result ℕ DeskError) → Stands old v
+    → OpensSeal manager v request now random result new → GainsAt now (journal_of old) (journal_of new)
+sealed_gains manager old new v request now random result stands opens = record {
+  gained = lines_of (v.last + 1) Seal now request.wish.declared (served_by opens.reply);
+  journal = opens.stands.journal ∙ ap (λ (l : List JournalLine). l ++ lines_of (v.last + 1) Seal now request.wish.declared (served_by opens.reply)) (sym stands.journal);
+  bears = lines_bear (v.last + 1) Seal now request.wish.declared (served_by opens.reply);
+}
+
+-- ---- turns
+
+answers_more : (before mid after : Option Moments) (first later : List ℕ) → Answers before first mid → Answers mid later after → Answers before (first ++ later) after
+answers_more before mid after [] later one two = subst (λ (told : Option Moments). Answers told later after) one two
+answers_more before mid after (moment ∷ first) later one two = (one.0, answers_more (option_map after_now before) mid after first later one.1 two)
+
+-- no turn
+pub reads_none : (before after : Option Moments) (lines lines_after : List JournalLine) → after ≡ before → lines_after ≡ lines → ReadsClock before after lines lines_after
+reads_none before after lines lines_after same still = record { turns = []; answers = same; journal = still ∙ sym (append-nil lines); bear = All-nil BearsMoment }
+
+pub reads_more : (before mid after : Option Moments) (lines lines_mid lines_after : List JournalLine) → ReadsClock before mid lines lines_mid → ReadsClock mid after lines_mid lines_after
+    → ReadsClock before after lines lines_after
+reads_more before mid after lines lines_mid lines_after first later =
+    let one : List JournalLine = flat_map (λ (turn : Turn). turn.lines) first.turns in
+    let two : List JournalLine = flat_map (λ (turn : Turn). turn.lines) later.turns in
+    record {
+      turns = first.turns ++ later.turns;
+      answers = subst (λ (moments : List ℕ). Answers before moments after) (sym (map-append (λ (turn : Turn). turn.moment) first.turns later.turns))
+          (answers_more before mid after (map (λ (turn : Turn). turn.moment) first.turns) (map (λ (turn : Turn). turn.moment) later.turns) first.answers later.answers);
+      journal = later.journal ∙ ap (λ (l : List JournalLine). l ++ two) first.journal ∙ append_assoc lines one two
+          ∙ ap (λ (l : List JournalLine). lines ++ l) (sym (flat_map-append (λ (turn : Turn). turn.lines) first.turns later.turns));
+      bear = All-append BearsMoment first.turns later.turns first.bear later.bear;
+    }
+
+reads_once : (before after : Option Moments) (lines lines_after : List JournalLine) → TakesMoment before after lines lines_after → ReadsClock before after lines lines_after
+reads_once before after lines lines_after takes = record {
+  turns = record { moment = takes.moment; lines = takes.gains.gained } ∷ [];
+  answers = takes.answers;
+  journal = takes.gains.journal ∙ ap (λ (l : List JournalLine). lines ++ l) (sym (append-nil takes.gains.gained));
+  bear = All-cons BearsMoment (record { moment = takes.moment; lines = takes.gains.gained }) [] takes.gains.bears (All-nil BearsMoment);
+}
+
+-- a turn more
+pub reads_turn : (before mid after : Option Moments) (lines lines_mid lines_after : List JournalLine) → ReadsClock before mid lines lines_mid → TakesMoment mid after lines_mid lines_after
+    → ReadsClock before after lines lines_after
+reads_turn before mid after lines lines_mid lines_after first takes = reads_more before mid after lines lines_mid lines_after first (reads_once mid after lines_mid lines_after takes)

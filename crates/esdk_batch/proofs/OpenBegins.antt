@@ -36,7 +36,7 @@ use Rattle.esdk_batch.specs.OpenStory.{OpensSo}
 use Rattle.esdk_batch.specs.Opening.{BeginsFile}
 use Rattle.esdk_batch.specs.SealStory.{Seen, held}
 use Rattle.esdk_batch.specs.Underway.{IsLive, IsOpening, TakesTurn}
-use Rattle.esdk_batch.proofs.FirstTurns.{DrawsAtMost, draws_on, holds_now, left_now, left_others, takes_first}
+use Rattle.esdk_batch.proofs.FirstTurns.{DrawsAtMost, draws_on, holds_now, left_now, left_others, rest_live, rest_none, takes_first}
 
 -- the session of a job that gives these pairs
 abbrev pub opening_of : List KeyValue → OpeningValue
@@ -92,20 +92,22 @@ opened_line manager job given required seen line work kind drawn opens =
 -- by what became of the file
 open_begins : (manager : Managing) (job : Job) (given : List KeyValue) (required : List (List ℕ)) (v u w : DeskValue) (lines : List JournalLine) (files left : Option Files) (entropy : EntropyState)
     (session : ℕ) (next : Progress) → job.work ≡ Decrypt given required → DrawsAtMost v u lines → session ≡ v.last + 1
-    → BeginsFile session Unseal None (Opening (opening_of given)) u w files left job.to next → TakesTurn manager job stages.Waiting next v w files left entropy entropy
-open_begins manager job given required v u w lines files left entropy session stages.Waiting work draws is file = absurd file.begins
-open_begins manager job given required v u w lines files left entropy session (stages.Live live) work draws is file =
+    → v.live (v.last + 1) ≡ None → BeginsFile session Unseal None (Opening (opening_of given)) u w files left job.to next → TakesTurn manager job stages.Waiting next v w files left entropy entropy
+open_begins manager job given required v u w lines files left entropy session stages.Waiting work draws is undrawn file = absurd file.begins
+open_begins manager job given required v u w lines files left entropy session (stages.Live live) work draws is undrawn file =
     let s : SessionValue = Opening (opening_of given) in
     let here : w.live live.session ≡ Some s = ap (λ (l : Live). w.live l.session) file.begins.0 ∙ file.begins.1 in
-    takes_first manager job (stages.Live live) v w lines files left entropy entropy [] (draws_on v u w session lines draws is file.desk) (Consumes-nil entropy.to_come) file.begins.2.keeps
+    let drew = draws_on v u w session lines draws is file.desk in
+    takes_first manager job (stages.Live live) v w lines files left entropy entropy [] drew (rest_live v w lines live drew (ap (λ (l : Live). l.session) file.begins.0 ∙ is) undrawn) (Consumes-nil entropy.to_come) file.begins.2.keeps
     (s, here, omega (arith, ap (λ (l : Live). l.at) file.begins.0))
     (λ before now then_held was found unmade.
     let holds = holds_now files left job.to [] now then_held file.begins.2 was found in
     let opening = is_opening manager given (file_of (Some before) job.from) (file_of (Some then_held) job.to) live (ap (λ (l : Live). l.at) file.begins.0) (ap (λ (l : Live). l.served) file.begins.0) holds in
     subst (λ (o : Option SessionValue). IsLive manager job.work (file_of (Some before) job.from) (file_of (Some then_held) job.to) [] live o) (sym here)
     (subst (λ (work : Work). IsLive manager work (file_of (Some before) job.from) (file_of (Some then_held) job.to) [] live (Some s)) (sym work) (refl, opening)))
-open_begins manager job given required v u w lines files left entropy session (stages.Ended line) work draws is file =
-    takes_first manager job (stages.Ended line) v w lines files left entropy entropy [] (draws_on v u w session lines draws is file.desk) (Consumes-nil entropy.to_come)
+open_begins manager job given required v u w lines files left entropy session (stages.Ended line) work draws is undrawn file =
+    let drew = draws_on v u w session lines draws is file.desk in
+    takes_first manager job (stages.Ended line) v w lines files left entropy entropy [] drew (rest_none v w lines drew undrawn (ap w.live (sym is) ∙ file.begins.1)) (Consumes-nil entropy.to_come)
     (left_others files left job.to [] file.begins.2) tt
     (λ before now then_held was found unmade.
     let made = left_now files left job.to [] before now then_held file.begins.2 was found unmade in
@@ -116,7 +118,7 @@ open_begins manager job given required v u w lines files left entropy session (s
 -- the same of the file that the desk and the shelf were given by its name
 pub open_begins_at : (manager : Managing) (job : Job) (given : List KeyValue) (required : List (List ℕ)) (v u w : DeskValue) (lines : List JournalLine) (files left : Option Files) (entropy : EntropyState)
     (session : ℕ) (to : List ℕ) (next : Progress) → job.work ≡ Decrypt given required → job.to ≡ to → DrawsAtMost v u lines → session ≡ v.last + 1
-    → BeginsFile session Unseal None (Opening (opening_of given)) u w files left to next → TakesTurn manager job stages.Waiting next v w files left entropy entropy
-open_begins_at manager job given required v u w lines files left entropy session to next work at draws is file =
-    open_begins manager job given required v u w lines files left entropy session next work draws is
+    → v.live (v.last + 1) ≡ None → BeginsFile session Unseal None (Opening (opening_of given)) u w files left to next → TakesTurn manager job stages.Waiting next v w files left entropy entropy
+open_begins_at manager job given required v u w lines files left entropy session to next work at draws is undrawn file =
+    open_begins manager job given required v u w lines files left entropy session next work draws is undrawn
     (subst (λ (name : List ℕ). BeginsFile session Unseal None (Opening (opening_of given)) u w files left name next) (sym at) file)

@@ -30,6 +30,20 @@ seal_error_lives request random (Gives m) false id error is dead = begun_lives r
 seal_error_lives request random (Refuses refusal) short id error is dead = cc
 seal_error_lives request random Fails short id error is dead = cc
 
+begun_none : (request : SealRequestValue) (random : List ℕ) (m : EncMaterialsValue) (id : ℕ) (refusal : Option Refusal) (error : DeskError) → Err error ≡ (begun request random m id refusal).answer
+    → (begun request random m id refusal).left ≡ None
+begun_none request random m id None error is = absurd cc
+begun_none request random m id (Some refusal) error is = refl
+
+-- a session that answers an error isn't live
+pub seal_error_none : (request : SealRequestValue) (random : List ℕ) (reply : Reply) (short : Bool) (id : ℕ) (error : DeskError) → Err error ≡ (seal_opened request random reply short id).answer
+    → (seal_opened request random reply short id).left ≡ None
+seal_error_none request random NoReply short id error is = refl
+seal_error_none request random (Gives m) true id error is = refl
+seal_error_none request random (Gives m) false id error is = begun_none request random m id (start_refusal m request.max_keys (id_in random)) error is
+seal_error_none request random (Refuses refusal) short id error is = refl
+seal_error_none request random Fails short id error is = refl
+
 -- ---- a session that was opened
 
 -- The call answered the number that was drawn, and a session is left.

@@ -33,7 +33,7 @@ use Rattle.esdk_batch.specs.Ending.{EndsFor}
 use Rattle.esdk_batch.specs.Managing.{Admits, ManagerNow, Managing}
 use Rattle.esdk_batch.specs.Opening.{request_of}
 use Rattle.esdk_batch.specs.SealStory.{IsGiven, IsGivenNone, SealAsked, SealsSo, Seen, wish_of}
-use Rattle.esdk_batch.proofs.Moments.{Views, desk_moment}
+use Rattle.esdk_batch.proofs.ManagerViews.{Views, desk_moment}
 use Rattle.esdk_batch.proofs.FirstTurns.{served_behind}
 
 -- ---- what the manager said

@@ -30,6 +30,7 @@ use Rattle.esdk_batch.specs.Managing.{Managing}
 use Rattle.esdk_batch.specs.Underway.{IsAt, TakesTurn}
 use Rattle.esdk_batch.specs.Turns.{AddsLines, DrawsBytes, DrawsNumber, HasKind, answered_so_far}
 use Rattle.esdk_batch.specs.Rounds.{AreApart, AreAt, Beginning, HaveBegun, HaveDrawn, HaveSealed, HaveSessions, Stand, all_waits, has_begun}
+use Rattle.esdk_batch.proofs.Beside.{rest_set}
 use Rattle.esdk_batch.proofs.Places.{at_places, concat_last, finds_more, front_at, front_set, nothing_more, taken_unknown, takes_none}
 use Rattle.esdk_batch.proofs.SealedFirst.{sealed_after}
 use Rattle.esdk_batch.proofs.Turning.{KeepsSession, Turned, begun_by, begun_waits_not, kept_at, sessions_after, stays_at}
@@ -213,6 +214,7 @@ stand_after manager jobs width began progress i job old new v w now later entrop
     let behind = later_by old v.last w.last entropy spent t.bytes in
     record {
       sessions = sessions_after jobs progress i job old new v.last w.last v.live w.live turned stand.sessions;
+      rest = λ session. rest_set progress i old new v.live w.live within turned.was t.turn.rest session ∙ stand.rest session;
       kinds = λ k d one below. at_places (λ k one. HasKind (get_or jobs k d).work one) progress i new within
           (subst (λ (j : Job). HasKind j.work new) (get_or_read jobs i job inside turned.is d) (t.kind
           (subst (λ (j : Job). HasKind j.work old) (sym turned.is) (subst (HasKind (get_or jobs i job).work) (sym turned.was) (stand.kinds i job old within)))))

@@ -1,5 +1,5 @@
 -- A piece that is fed to a session of the desk, the session's end, and how its job ends.
-use Rattle.std.specs.Prelude.{◌≡◌, ◌≢◌, ◌⊎◌, ◌≤◌, ℕ, List, [], ◌++◌, length, take, alloc_error, Option, Some, None, Result, Ok, Err}
+use Rattle.std.specs.Prelude.{◌≡◌, ◌≢◌, ◌⊎◌, ◌≤◌, ℕ, List, [], ◌++◌, length, take, alloc_error, true, is_some, Option, Some, None, Result, Ok, Err}
 use Rattle.std.specs.declared.alloc.AllocError.{AllocError}
 use Rattle.esdk_fields.specs.declared.faults.Fault.{Fault}
 use Rattle.esdk_fields.specs.declared.refusals.Outside.TheVariants as outsides
@@ -116,6 +116,7 @@ pub record FeedsPiece (manager : Managing) (session : ℕ) (s : SessionValue) (p
   pub desk : KeepsDesk session v w gained
   pub others : KeepsOthers files after to
   pub lives : end ≡ None → GoesOnAs s (w.live session)
+  pub over : is_some end ≡ true → w.live session ≡ None
   pub serves : ServesSo session s gained (w.live session) end
   pub feeds : FeedsSo manager s piece (w.live session) to files after end
 

@@ -3,8 +3,10 @@ pub mod Ending
 pub mod Failures
 pub mod Files
 pub mod Managing
+pub mod Moments
 pub mod OpenStory
 pub mod Opening
+pub mod Placing
 pub mod Progress
 pub mod Rounds
 pub mod SealStory

@@ -1,5 +1,5 @@
 -- How all jobs of a batch stand between turns.
-use Rattle.std.specs.Prelude.{◌≡◌, ◌≢◌, ◌⊎◌, ◌≤◌, ◌<◌, ◌+◌, ℕ, Bool, true, false, List, [], ◌++◌, length, map, take, zip, filter_map, All, AllPairs, Option, Some, slice_index_or}
+use Rattle.std.specs.Prelude.{◌≡◌, ◌≢◌, ◌⊎◌, ◌≤◌, ◌<◌, ◌+◌, ℕ, Bool, true, false, List, [], ◌∷◌, ◌++◌, length, map, take, zip, filter_map, All, AllPairs, Option, Some, slice_index_or}
 use Rattle.std.specs.List.{concat, sum_by}
 use Rattle.std.specs.List.Sorted.{IsPermutation}
 use Rattle.std.specs.Io.KnownBytes.{Consumes}
@@ -17,7 +17,7 @@ use Rattle.esdk_batch.specs.declared.progress.Progress.{Progress}
 use Rattle.esdk_batch.specs.declared.progress.Progress.TheVariants as stages
 use Rattle.esdk_batch.specs.Managing.{Managing}
 use Rattle.esdk_batch.specs.Batch.{OnlyWritten, SealsFirst, in_line}
-use Rattle.esdk_batch.specs.Underway.{HasSession, IsAt, LacksSession}
+use Rattle.esdk_batch.specs.Underway.{HasSession, IsAt, LacksSession, beside}
 use Rattle.esdk_batch.specs.Turns.{HasKind, Knows, answered_so_far, waits}
 
 -- ---- jobs that had a turn
@@ -65,10 +65,16 @@ pub record HaveSessions (jobs : List Job) (progress : List Progress) (live : ℕ
 abbrev pub AreReady : {M : Type 0} → Desk M → List Job → List Progress → Type 0
 AreReady desk jobs progress = (v : DeskValue) × Stands desk v × HaveSessions jobs progress v.live
 
+-- the sessions that are live beside those of these jobs
+abbrev pub beside_all : List Progress → (ℕ → Option SessionValue) → ℕ → Option SessionValue
+beside_all [] live = live
+beside_all (one ∷ others) live = beside one (beside_all others live)
+
 -- ---- what came so far
 
--- Where a batch begins: what the files hold, the bytes that are to be drawn, the journal, and the number that the desk drew last.
+-- Where a batch begins: the sessions that are live, what the files hold, the bytes that are to be drawn, the journal, and the number that the desk drew last.
 pub record Beginning : Type 0 where
+  pub live : ℕ → Option SessionValue
   pub files : Option Files
   pub entropy : EntropyState
   pub journal : List JournalLine
@@ -92,10 +98,12 @@ pub record HaveSealed (width last next : ℕ) (progress : List Progress) (gained
   pub seals : SealsFirst width last gained
   pub opened : (seals.later ≡ []) ⊎ HaveBegun width progress
 
--- How the jobs stand that drew these bytes, where the batch began so, and the files hold `now`: the journal gained these lines, and says of each job how its materials were
--- served; no other files were written than those that jobs write; and where no draw failed, the first round sealed before anything was opened.
+-- How the jobs stand that drew these bytes, where the batch began so, and the files hold `now`: beside the jobs' sessions those are live that were; the journal gained these
+-- lines, and says of each job how its materials were served; no other files were written than those that jobs write; and where no draw failed, the first round sealed before
+-- anything was opened.
 pub record Stand (manager : Managing) (jobs : List Job) (width : ℕ) (began : Beginning) (now : Option Files) (spent : EntropyState) (v : DeskValue) (progress : List Progress) : Type 0 where
   pub sessions : HaveSessions jobs progress v.live
+  pub rest : (session : ℕ) → beside_all progress v.live session ≡ began.live session
   pub kinds : (k : ℕ) (job : Job) (one : Progress) → k < length progress → HasKind (slice_index_or jobs k job).work (slice_index_or progress k one)
   pub draws : List (List ℕ)
   pub drawn : HaveDrawn draws progress began.entropy spent

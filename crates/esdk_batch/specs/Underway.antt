@@ -1,5 +1,6 @@
 -- How a job stands between its turns: what its session is worth, what it took of its file, and what the file holds that it writes.
-use Rattle.std.specs.Prelude.{◌≡◌, ◌≢◌, ◌≤◌, ◌<◌, ◌+◌, ℕ, List, [], ◌++◌, length, drop, All, Option, Some, None}
+use Rattle.std.specs.Prelude.{◌≡◌, ◌≢◌, ◌≤◌, ◌<◌, ◌+◌, ℕ, List, [], ◌++◌, length, drop, Option, Some, None, nat_eq}
+use Rattle.std.specs.Map.{update}
 use Rattle.std.specs.Io.KnownBytes.{Consumes}
 use Rattle.esdk_base.specs.Shelf.{Files, file_of}
 use Rattle.esdk_base.specs.Streams.{EntropyState}
@@ -94,24 +95,27 @@ HasSession live (stages.Ended line) = Unit {0}
 abbrev pub IsReady : {M : Type 0} → Desk M → Progress → Type 0
 IsReady desk progress = (v : DeskValue) × Stands desk v × HasSession v.live progress
 
--- the same of all jobs
-abbrev pub AreReady : {M : Type 0} → Desk M → List Progress → Type 0
-AreReady desk progress = (v : DeskValue) × Stands desk v × All (HasSession v.live) progress
-
 -- the job doesn't have this session
 abbrev pub LacksSession : ℕ → Progress → Type 0
 LacksSession session stages.Waiting = Unit {0}
 LacksSession session (stages.Live now) = now.session ≢ session
 LacksSession session (stages.Ended line) = Unit {0}
 
+-- the sessions that are live beside the job's
+abbrev pub beside : Progress → (ℕ → Option SessionValue) → ℕ → Option SessionValue
+beside stages.Waiting live session = live session
+beside (stages.Live now) live session = update nat_eq live now.session None session
+beside (stages.Ended line) live session = live session
+
 -- ---- a turn
 
 -- What a turn of a job comes to, whose file of this batch held so at first: the job drew these bytes more, every session of another job and every file but its own are as
--- before, the journal gained these lines, and the job stands where it is now.
+-- before, beside the job's own session those are live that were, the journal gained these lines, and the job stands where it is now.
 pub record TakesTurn (manager : Managing) (job : Job) (old new : Progress) (v w : DeskValue) (files left : Option Files) (entropy spent : EntropyState) : Type 0 where
   pub more : List ℕ
   pub drawn : Consumes entropy.to_come spent.to_come more
   pub sessions : (session : ℕ) → LacksSession session old → session ≤ v.last → w.live session ≡ v.live session
+  pub rest : (session : ℕ) → beside new w.live session ≡ beside old v.live session
   pub last : v.last ≤ w.last
   pub next : w.last ≤ v.last + 1
   pub gained : List JournalLine
@@ -125,6 +129,7 @@ pub record TakesTurn (manager : Managing) (job : Job) (old new : Progress) (v w 
 -- The same of a further turn, which draws nothing and no number.
 pub record FurtherTurn (manager : Managing) (job : Job) (live : Live) (new : Progress) (v w : DeskValue) (files left : Option Files) : Type 0 where
   pub sessions : (session : ℕ) → session ≢ live.session → w.live session ≡ v.live session
+  pub rest : (session : ℕ) → beside new w.live session ≡ beside (stages.Live live) v.live session
   pub last : w.last ≡ v.last
   pub gained : List JournalLine
   pub journal : w.journal ≡ v.journal ++ gained

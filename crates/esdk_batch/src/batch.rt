@@ -1,6 +1,6 @@
 //! The whole batch.
 
-ghost use Rattle.std.specs.Prelude.{◌≡◌, ◌≤◌, ◌++◌, ◌-◌, ◌^◌, true, All, is_some, List, IfOk};
+ghost use Rattle.std.specs.Prelude.{◌≡◌, ◌≤◌, ◌++◌, ◌-◌, ◌^◌, ℕ, true, All, is_some, List, IfOk, OnOk};
 ghost use Rattle.keyring_trait.specs.declared.journal.JournalLine.{JournalLine};
 ghost use Rattle.keyring_trait.specs.Manager.{ManagerGoes, TellsOn};
 ghost use Rattle.desk_core.specs.Desk.{DeskValue};
@@ -8,6 +8,7 @@ ghost use Rattle.desk_core.specs.Stands.{Stands, manager_of, journal_of, last_of
 ghost use Rattle.esdk_batch.specs.Managing.{managing_of};
 ghost use Rattle.esdk_batch.specs.Batch.{OnlyWritten, RunsBatch};
 ghost use Rattle.esdk_batch.specs.Failures.{CountsFailures, tally_of};
+ghost use Rattle.esdk_batch.specs.Moments.{ReadsClock};
 ghost use Rattle.esdk_batch.specs.Progress.{AreEnded, is_ended};
 ghost use Rattle.esdk_batch.specs.Underway.{IsWorth};
 
@@ -16,12 +17,15 @@ use crate::rounds::run_rounds;
 use batch_report::{BatchReport, JobLine};
 use desk_core::Desk;
 use esdk_base::{Clock, Entropy, Shelf};
-use job_file::Jobs;
+use job_file::{Job, Jobs};
 use keyring_trait::Manager;
 use std::alloc::{AllocError, Global};
 
 /// Runs the jobs in turns over the desk, and reports of each. Fails where memory runs out, and the
-/// batch ends there.
+/// batch ends there; then sessions of its jobs may be left live, and files that they wrote not put
+/// in their places. Else the sessions are live that were live before.
+///
+/// The shelf is told first which names are going to be read.
 ///
 /// The window is the first jobs that haven't ended, as many as it is wide. In each round every job
 /// in it has one turn, in the order of the jobs. A turn reads the clock once, first. A job's first
@@ -33,6 +37,10 @@ use std::alloc::{AllocError, Global};
 /// end was seen, the session is ended instead, and what that gives is appended in the same way. X6
 /// comes where 2^62 bytes were taken and the end wasn't seen. A refusal ends the job, and its
 /// session is dropped; what was appended stays, and the other jobs go on.
+///
+/// Where a job ended, however it did, the file that it writes is finished once: a message for
+/// anyone, the content of one for its owner alone. X3 comes also where that fails of a job that
+/// was done.
 ///
 /// Each job that ends with X3, X4 or X5 is a failure that the shelf, the entropy or the manager
 /// counted; X3 comes without one where the file that a job reads isn't there. Whatever comes, no
@@ -52,6 +60,10 @@ pub fn run_batch<M: Manager, F: Shelf, W: Entropy, C: Clock>(
         (M.tells (manager_of desk.old)) (M.exact (manager_of desk.old)))
         jobs.now v.last (F.state shelf.old) (F.state shelf.new) (W.state entropy.old)
         (W.state entropy.new) (journal_of desk.old) (journal_of desk.new)) }
+    ensures moments { ReadsClock (C.moments clock.old) (C.moments clock.new)
+        (journal_of desk.old) (journal_of desk.new) }
+    ensures sessions { (v : DeskValue) → Stands desk.old v → OnOk result ((w : DeskValue)
+        × Stands desk.new w × ((session : ℕ) → w.live session ≡ v.live session)) }
     ensures others { OnlyWritten jobs.now.jobs (F.state shelf.old).files (F.state shelf.new).files }
     ensures told { is_some (F.state shelf.new).files ≡ is_some (F.state shelf.old).files }
     ensures failures { IfOk result (CountsFailures jobs.now.jobs
@@ -72,6 +84,7 @@ pub fn run_batch<M: Manager, F: Shelf, W: Entropy, C: Clock>(
 {
     // A manager goes on from where it is: `draws` says so.
     let _draws = desk.draws();
+    announce(jobs.jobs(), shelf)?;
     let mut buffer = vec![in alloc; 0u8; jobs.piece() as usize]?;
     let mut progress = all_waiting(alloc, jobs.jobs().len())?;
     run_rounds(
@@ -86,6 +99,16 @@ pub fn run_batch<M: Manager, F: Shelf, W: Entropy, C: Clock>(
         clock,
     )?;
     report_of(alloc, progress)
+}
+
+/// Tells the shelf which names the jobs read.
+fn announce<F: Shelf>(jobs: &[Job], shelf: &mut F) -> Result<(), AllocError>
+    ensures { F.state shelf.new ≡ F.state shelf.old }
+{
+    for job in jobs {
+        shelf.will_read(job.from.as_str())?;
+    }
+    Ok(())
 }
 
 /// The report of jobs that all ended.

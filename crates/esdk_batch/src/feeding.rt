@@ -10,6 +10,7 @@ ghost use Rattle.esdk_batch.specs.Ending.{EndsSession, FeedsPiece};
 ghost use Rattle.esdk_base.specs.Shelf.{is_missing};
 ghost use Rattle.esdk_batch.specs.Failures.{PieceCounts};
 ghost use Rattle.esdk_batch.specs.Files.{KeepsOthers};
+ghost use Rattle.esdk_batch.specs.Moments.{GainsAt};
 ghost use Rattle.esdk_batch.specs.Underway.{IsLiveAt, IsWorth};
 
 use crate::files::put;
@@ -47,6 +48,7 @@ pub(crate) fn feed_piece<M: Manager, F: Shelf>(
         → IfOk result (λ end. (w : DeskValue) × Stands desk.new w × FeedsPiece
         (managing_of (M.meaning first) (M.meaning last) (M.tells first) (M.exact first))
         session s piece.now v w to.now (F.state shelf.old).files (F.state shelf.new).files end) }
+    ensures moment { GainsAt now (journal_of desk.old) (journal_of desk.new) }
     ensures kept { KeepsOthers (F.state shelf.old).files (F.state shelf.new).files to.now }
     ensures counts { is_missing (F.state shelf.old).files to.now ≡ false
         → IfOk result (λ end. PieceCounts to.now end (F.state shelf.old) (F.state shelf.new)

@@ -2,13 +2,15 @@
 //!
 //! `specs/Batch.antt` says what a batch comes to, and `specs/SealStory.antt` and
 //! `specs/OpenStory.antt` what it comes to for each job; `specs/Underway.antt` says how a job
-//! stands between its turns. `specs/Failures.antt` says which failures were counted.
+//! stands between its turns. `specs/Failures.antt` says which failures were counted, and
+//! `specs/Moments.antt` at which moments the manager was asked.
 #![tactic(auto)]
 
 mod batch;
 mod feeding;
 mod files;
 mod opening;
+mod placing;
 mod progress;
 mod rounds;
 mod turns;

@@ -20,6 +20,7 @@ ghost use Rattle.keyring_trait.specs.Manager.{ManagerGoes};
 ghost use Rattle.esdk_batch.specs.Managing.{Admits, Went, manager_now, managing_of};
 ghost use Rattle.esdk_batch.specs.Failures.{TurnCounts, tally_of};
 ghost use Rattle.esdk_batch.specs.Files.{KeepsOthers, MakesFile};
+ghost use Rattle.esdk_batch.specs.Moments.{GainsAt};
 ghost use Rattle.esdk_batch.specs.Ending.{EndsFor};
 ghost use Rattle.esdk_batch.specs.Opening.{BeginsFile, request_of};
 ghost use Rattle.esdk_batch.specs.SealStory.{SealAsked};
@@ -80,6 +81,7 @@ pub(crate) fn open_job<M: Manager, F: Shelf, W: Entropy>(
         → IfOk result
         (λ next. (w : DeskValue) × Stands desk.new w × AddsLines job.now Waiting next v w) }
     ensures kind { IfOk result (λ next. HasKind job.now.work next) }
+    ensures moment { GainsAt now (journal_of desk.old) (journal_of desk.new) }
     ensures kept { KeepsOthers (F.state shelf.old).files (F.state shelf.new).files job.now.to }
     ensures counts { IfOk result (λ next. TurnCounts job.now next
         (tally_of (F.state shelf.old) (W.state entropy.old).faults
@@ -169,6 +171,7 @@ fn open_sealing<M: Manager, F: Shelf, W: Entropy>(
         → request.now ≡ request_of asked → Stands desk.old v → IfOk result
         (λ next. (w : DeskValue) × Stands desk.new w × AddsLines job Waiting next v w) }
     ensures kind { (work : Work) → Seal ≡ kind_of work → IfOk result (λ next. HasKind work next) }
+    ensures moment { GainsAt now (journal_of desk.old) (journal_of desk.new) }
     ensures kept { KeepsOthers (F.state shelf.old).files (F.state shelf.new).files to.now }
     ensures counts { (job : Job) → job.to ≡ to.now → IfOk result (λ next. TurnCounts job next
         (tally_of (F.state shelf.old) (W.state entropy.old).faults

@@ -8,6 +8,7 @@ ghost use Rattle.keyring_trait.specs.Manager.{ManagerGoes};
 ghost use Rattle.esdk_batch.specs.Batch.{OnlyWritten};
 ghost use Rattle.esdk_batch.specs.Failures.{AllCounted, Tally, tally_of};
 ghost use Rattle.esdk_batch.specs.Managing.{Admits, Went, manager_now, managing_of};
+ghost use Rattle.esdk_batch.specs.Moments.{ReadsClock};
 ghost use Rattle.esdk_batch.specs.Progress.{IsFirstRunning, all_turns_left, is_ended};
 ghost use Rattle.esdk_batch.specs.Underway.{IsWorth};
 ghost use Rattle.esdk_batch.specs.Rounds.{AreApart, AreReady, Beginning, HaveBegun, IsOpened, Stand, all_waits};
@@ -64,6 +65,8 @@ pub(crate) fn run_rounds<M: Manager, F: Shelf, W: Entropy, C: Clock>(
         (manager_now (M.meaning (manager_of desk.new)) (M.tells (manager_of desk.new))
         (M.exact (manager_of desk.new))
         (M.bears (manager_of desk.new) (journal_of desk.new)) (M.within (manager_of desk.new))) }
+    ensures moments { ReadsClock (C.moments clock.old) (C.moments clock.new)
+        (journal_of desk.old) (journal_of desk.new) }
     ensures others { OnlyWritten jobs.now (F.state shelf.old).files (F.state shelf.new).files }
     ensures told { is_some (F.state shelf.new).files ≡ is_some (F.state shelf.old).files }
     ensures counts { (began : Tally)
@@ -123,6 +126,8 @@ fn run_round<M: Manager, F: Shelf, W: Entropy, C: Clock>(
         → OnOk result ((w : DeskValue) × Stands desk.new w
         × Stand (managing_of (M.meaning start) (M.meaning last) (M.tells start) (M.exact start))
         jobs.now width began (F.state shelf.new).files (W.state entropy.new) w progress.new) }
+    ensures moments { ReadsClock (C.moments clock.old) (C.moments clock.new)
+        (journal_of desk.old) (journal_of desk.new) }
     ensures others { OnlyWritten jobs.now (F.state shelf.old).files (F.state shelf.new).files }
     ensures told { is_some (F.state shelf.new).files ≡ is_some (F.state shelf.old).files }
     ensures counts { (began : Tally)

@@ -11,11 +11,13 @@ ghost use Rattle.esdk_batch.specs.Turns.{AddsLines, DrawsBytes, DrawsNumber, Has
 ghost use Rattle.esdk_batch.specs.Underway.{FurtherTurn, HasSession, IsLiveAt, IsReady, IsWorth, TakesTurn};
 ghost use Rattle.esdk_batch.specs.Failures.{HasFile, TurnCounts, tally_of};
 ghost use Rattle.esdk_batch.specs.Files.{KeepsOthers, most_input};
+ghost use Rattle.esdk_batch.specs.Moments.{GainsAt, TakesMoment};
 ghost use Rattle.esdk_batch.specs.declared.progress.Progress.TheVariants as stages;
 
 use crate::feeding::{end_session, feed_piece};
 use crate::files::read_piece;
 use crate::opening::{open_job, served_since};
+use crate::placing::put_in_place;
 use crate::progress::{Live, Progress, ended, kind_of};
 use batch_report::JobEnd;
 use desk_core::Desk;
@@ -26,7 +28,8 @@ use std::alloc::{AllocError, Global};
 
 /// A turn of a job, which reads the clock once, first. The first turn opens the job's session. Each
 /// further turn reads one piece of its file, feeds all of it and appends what the session gives; at
-/// the file's end it ends the session. A job that ended has no turn.
+/// the file's end it ends the session. Where the job ended, what it wrote is put in its place. A job
+/// that ended has no turn.
 pub(crate) fn take_turn<M: Manager, F: Shelf, W: Entropy, C: Clock>(
     alloc: Global,
     job: &Job,
@@ -65,6 +68,8 @@ pub(crate) fn take_turn<M: Manager, F: Shelf, W: Entropy, C: Clock>(
         × AddsLines job.now progress.old progress.new v w) }
     ensures kind { OnOk result
         (HasKind job.now.work progress.old → HasKind job.now.work progress.new) }
+    ensures moment { is_ended progress.old ≡ false → TakesMoment (C.moments clock.old)
+        (C.moments clock.new) (journal_of desk.old) (journal_of desk.new) }
     ensures kept { KeepsOthers (F.state shelf.old).files (F.state shelf.new).files job.now.to }
     ensures counts { is_ended progress.old ≡ false
         → HasFile (F.state shelf.old).files job.now progress.old
@@ -86,11 +91,13 @@ pub(crate) fn take_turn<M: Manager, F: Shelf, W: Entropy, C: Clock>(
 {
     match progress {
         Progress::Waiting => {
-            *progress = open_job(alloc, job, clock.now(), desk, shelf, entropy)?;
+            let next = open_job(alloc, job, clock.now(), desk, shelf, entropy)?;
+            *progress = put_in_place(job, next, shelf);
             Ok(())
         }
         Progress::Live(live) => {
-            *progress = go_on(alloc, job, *live, clock.now(), buffer, desk, shelf)?;
+            let next = go_on(alloc, job, *live, clock.now(), buffer, desk, shelf)?;
+            *progress = put_in_place(job, next, shelf);
             Ok(())
         }
         Progress::Ended(_) => Ok(()),
@@ -131,6 +138,7 @@ fn go_on<M: Manager, F: Shelf>(
         → IfOk result (λ next. (w : DeskValue) × Stands desk.new w
         × AddsLines job.now (stages.Live live) next v w) }
     ensures kind { IfOk result (λ next. HasKind job.now.work next) }
+    ensures moment { GainsAt now (journal_of desk.old) (journal_of desk.new) }
     ensures kept { KeepsOthers (F.state shelf.old).files (F.state shelf.new).files job.now.to }
     ensures counts { (entropy : ℕ) → HasFile (F.state shelf.old).files job.now (stages.Live live)
         → IfOk result (λ next. TurnCounts job.now next

@@ -9,36 +9,49 @@ use Rattle.esdk_batch.specs.Rounds.{Beginning, all_waits}
 use Rattle.esdk_batch.specs.Failures.{Tally, tally_of}
 use Rattle.esdk_batch.proofs.AllCounting.{counted_all, counted_none}
 use Rattle.esdk_batch.proofs.Beginnings.{count_waits, stand_begins}
-use Rattle.esdk_batch.proofs.Conclusion.{batch_ends_at}
+use Rattle.esdk_batch.proofs.Beside.{rest_ended}
+use Rattle.esdk_batch.proofs.Conclusion.{batch_ends_at, begun_as, counted_as, on_ok}
 use Rattle.esdk_batch.proofs.Managers.{admits_between}
 use Rattle.esdk_batch.proofs.batch.run_batch.Goals as goal
 
 pub run_rounds-requires-clause-room : goal.run_rounds-requires-clause-room
 run_rounds-requires-clause-room g c =
     let progress = c.in_ok-progress.progress.items in
-    let jobs : c.jobs.result.now ≡ c.args.jobs.now.jobs = c.jobs.ensures.jobs in
-    let count : length progress ≡ length c.jobs.result.now = c.in_ok-progress.ensures.count in
-    omega (arith, ap all_waits c.deref_mut.ensures.value, count_waits progress c.in_ok-progress.ensures.waiting, count, c.jobs.ensures.file.few, ap length jobs, c.requires.room)
+    let jobs : c.jobs-2.result.now ≡ c.args.jobs.now.jobs = c.jobs-2.ensures.jobs in
+    let count : length progress ≡ length c.jobs-2.result.now = c.in_ok-progress.ensures.count in
+    omega (arith, ap all_waits c.deref_mut.ensures.value, count_waits progress c.in_ok-progress.ensures.waiting, count, c.jobs-2.ensures.file.few, ap length jobs, c.requires.room)
 
 pub returns-clause-runs : goal.returns-clause-runs
 returns-clause-runs g c = λ v stands.
+    let shelf = g.F.Shelf.state c.announce.new.shelf in
     let old = c.deref_mut.result.now in
     let new = c.run_rounds.new.progress in
     let wait = subst (All (λ one. one ≡ Waiting)) (sym c.deref_mut.ensures.value) c.in_ok-progress.ensures.waiting in
-    let began : Beginning = record { files = (g.F.Shelf.state c.args.shelf.now).files; entropy = g.W.Entropy.state c.args.entropy.now; journal = v.journal; last = v.last } in
+    let began : Beginning = record { live = v.live; files = shelf.files; entropy = g.W.Entropy.state c.args.entropy.now; journal = v.journal; last = v.last } in
     let (w, then, stand) = c.in_ok-run_rounds.ensures.stand (manager_of c.args.desk.now) (manager_of c.run_rounds.new.desk) began v (admits_between _ _) stands
-    (stand_begins _ c.jobs-2.result.now c.width.result began.files began.entropy v old wait) in
+    (stand_begins _ c.jobs-3.result.now c.width.result began.files began.entropy v old wait) in
     let made = c.in_ok-progress.progress in
     let kept : length new ≡ length old = c.run_rounds.auto.progress in
     let as_made : length old ≡ length made.items = ap length c.deref_mut.ensures.value in
-    let count : length made.items ≡ length c.jobs.result.now = c.in_ok-progress.ensures.count in
-    let jobs : c.jobs.result.now ≡ c.args.jobs.now.jobs = c.jobs.ensures.jobs in
-    let again : c.jobs-2.result.now ≡ c.args.jobs.now.jobs = c.jobs-2.ensures.jobs in
+    let count : length made.items ≡ length c.jobs-2.result.now = c.in_ok-progress.ensures.count in
+    let jobs : c.jobs-2.result.now ≡ c.args.jobs.now.jobs = c.jobs-2.ensures.jobs in
+    let again : c.jobs-3.result.now ≡ c.args.jobs.now.jobs = c.jobs-3.ensures.jobs in
     let items = with_items_is made new (omega (arith, kept, as_made, made.ok.0)) in
     IfOk-weaker c.report_of.result _ _
-    (λ lines ended. batch_ends_at _ c.args.jobs.now v w _ _ _ _ _ _ lines c.jobs-2.result.now c.width.result new again c.width.ensures.width (sym items ∙ ended)
+    (λ lines ended. begun_as _ c.args.jobs.now v.last _ shelf _ _ _ _ _ lines c.announce.ensures
+    (batch_ends_at _ c.args.jobs.now v w shelf _ _ _ _ _ lines c.jobs-3.result.now c.width.result new again c.width.ensures.width (sym items ∙ ended)
     (omega (arith, kept, as_made, count, ap length jobs, ap length again))
-    stands.journal then.journal stand) c.report_of.ensures
+    stands.journal then.journal stand)) c.report_of.ensures
+
+pub returns-clause-sessions : goal.returns-clause-sessions
+returns-clause-sessions g c = λ v stands.
+    let shelf = g.F.Shelf.state c.announce.new.shelf in
+    let old = c.deref_mut.result.now in
+    let wait = subst (All (λ one. one ≡ Waiting)) (sym c.deref_mut.ensures.value) c.in_ok-progress.ensures.waiting in
+    let began : Beginning = record { live = v.live; files = shelf.files; entropy = g.W.Entropy.state c.args.entropy.now; journal = v.journal; last = v.last } in
+    let (w, then, stand) = c.in_ok-run_rounds.ensures.stand (manager_of c.args.desk.now) (manager_of c.run_rounds.new.desk) began v (admits_between _ _) stands
+    (stand_begins _ c.jobs-3.result.now c.width.result began.files began.entropy v old wait) in
+    on_ok c.report_of.result (w, then, λ session. sym (rest_ended c.run_rounds.new.progress w.live c.in_ok-run_rounds.ensures.ended session) ∙ stand.rest session)
 
 pub returns-clause-failures : goal.returns-clause-failures
 returns-clause-failures g c =
@@ -49,6 +62,7 @@ returns-clause-failures g c =
     let kept : length new ≡ length old = c.run_rounds.auto.progress in
     let as_made : length old ≡ length made.items = ap length c.deref_mut.ensures.value in
     let items = with_items_is made new (omega (arith, kept, as_made, made.ok.0)) in
-    let began : Tally = tally_of (g.F.Shelf.state c.args.shelf.now) (g.W.Entropy.state c.args.entropy.now).faults (g.M.Manager.meaning (manager_of c.args.desk.now)).faults in
-    let all = c.in_ok-run_rounds.ensures.counts began (counted_none c.jobs-2.result.now began old wait) in
-    IfOk-weaker c.report_of.result _ _ (λ lines ended. counted_all c.jobs-2.result.now c.args.jobs.now.jobs began _ new lines c.jobs-2.ensures.jobs (sym items ∙ ended) all) c.report_of.ensures
+    let began : Tally = tally_of (g.F.Shelf.state c.announce.new.shelf) (g.W.Entropy.state c.args.entropy.now).faults (g.M.Manager.meaning (manager_of c.args.desk.now)).faults in
+    let all = c.in_ok-run_rounds.ensures.counts began (counted_none c.jobs-3.result.now began old wait) in
+    IfOk-weaker c.report_of.result _ _ (λ lines ended. counted_as c.args.jobs.now.jobs _ _ _ (g.F.Shelf.state c.announce.new.shelf) _ lines c.announce.ensures
+    (counted_all c.jobs-3.result.now c.args.jobs.now.jobs began _ new lines c.jobs-3.ensures.jobs (sym items ∙ ended) all)) c.report_of.ensures

@@ -8,12 +8,14 @@ use Rattle.esdk_batch.proofs.Faulting.{entropy_sound, feed_rose, keyring_counted
 use Rattle.esdk_batch.proofs.FeedCalls.{Calls, always_more, always_not, always_unput, call_lives, dropped_worth, now_at}
 use Rattle.esdk_batch.proofs.Gaining.{others_more, others_none}
 use Rattle.esdk_batch.proofs.Managers.{went_none, went_on}
-use Rattle.esdk_batch.proofs.Moments.{Views, went_on_same}
+use Rattle.esdk_batch.proofs.ManagerViews.{Views, went_on_same}
+use Rattle.esdk_batch.proofs.Moments.{fed_gains, gains_more, gains_none, gains_same}
 use Rattle.esdk_batch.proofs.feeding.feed_piece.Goals as goal
 
 pub loop-left-init : goal.loop-left-init
 loop-left-init g c = record {
   live = c.requires.live;
+  moment = gains_none c.args.now _ _ refl;
   kept = others_none _ c.args.to.now;
   counted = λ there. (there, omega arith);
   went = went_none _ c.requires.still;
@@ -33,6 +35,8 @@ loop-left-preserved g c =
     } in
     record {
       live = call_lives views g.M.Manager.found c.loop-left.desk c.feed.new.self c.args.session c.args.now c.loop-left.left.now c.in-Ok.used call before.live;
+      moment = gains_more c.args.now _ _ _ before.moment
+          (fed_gains _ c.loop-left.desk c.feed.new.self before.live.0 c.args.session c.args.now c.loop-left.left.now (Ok c.in-Ok.used) before.live.1 (feed.feeds before.live.0 before.live.1));
       kept = others_more _ _ _ c.args.to.now before.kept c.put.ensures.kept;
       counted = λ there. (gained_there _ _ c.args.to.now _ c.in-Ok-put.ensures.puts (before.counted there).0, omega (arith, (before.counted there).1, c.put.ensures.later));
       went = went_on (now_at views c.args.desk.now) (now_at views c.loop-left.desk) (now_at views c.feed.new.self) before.went call.went;
@@ -109,6 +113,28 @@ returns-clause-feeds g c = λ first last v s admits stands live.
     feeds_all _ c.args.session s c.args.piece.now c.loop-left.left.now v c.loop-left.desk c.args.to.now _ _
     (none_left c.loop-left.left.now c.is_empty.result c.is_empty.ensures c.loop-left-test.false)
     (c.loop-left.invariant.on first last v s admits stands live)
+
+-- ---- the moment
+
+pub returns-in-Err-clause-moment : goal.returns-in-Err-clause-moment
+returns-in-Err-clause-moment g c =
+    let before = c.loop-left.invariant in
+    gains_more c.args.now _ _ _ before.moment
+    (fed_gains _ c.loop-left.desk c.feed.new.self before.live.0 c.args.session c.args.now c.loop-left.left.now (Err c.in-Err.error) before.live.1 (c.in-Err.ensures.feeds before.live.0 before.live.1))
+
+pub returns-in_err-end_of-in-Err-clause-moment : goal.returns-in_err-end_of-in-Err-clause-moment
+returns-in_err-end_of-in-Err-clause-moment g c =
+    let before = c.loop-left.invariant in
+    gains_more c.args.now _ _ _ before.moment
+    (fed_gains _ c.loop-left.desk c.feed.new.self before.live.0 c.args.session c.args.now c.loop-left.left.now (Err c.in-Err.error) before.live.1 (c.in-Err.ensures.feeds before.live.0 before.live.1))
+
+pub returns-in_default-clause-moment : goal.returns-in_default-clause-moment
+returns-in_default-clause-moment g c =
+    let before = c.loop-left.invariant in
+    gains_same c.args.now _ _ _
+    (gains_more c.args.now _ _ _ before.moment
+    (fed_gains _ c.loop-left.desk c.feed.new.self before.live.0 c.args.session c.args.now c.loop-left.left.now (Ok c.in-Ok.used) before.live.1 (c.in-Ok.ensures.feeds before.live.0 before.live.1)))
+    c.drop_session-dropped.ensures.journal
 
 -- ---- what was counted
 

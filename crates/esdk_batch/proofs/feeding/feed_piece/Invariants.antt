@@ -6,6 +6,7 @@ use Rattle.desk_core.specs.Session.{SessionValue}
 use Rattle.desk_core.specs.Stands.{Stands, journal_of, manager_of, work_at}
 use Rattle.esdk_batch.specs.Files.{KeepsOthers}
 use Rattle.esdk_batch.specs.Managing.{Admits, Went, manager_now, managing_of}
+use Rattle.esdk_batch.specs.Moments.{GainsAt}
 use Rattle.esdk_batch.specs.Underway.{IsLiveAt}
 use Rattle.esdk_batch.proofs.DeskFeeding.{FeedsOn}
 use Rattle.esdk_batch.proofs.feeding.feed_piece.Given as goal
@@ -16,6 +17,7 @@ decreases-loop-left g l = work_at l.desk l.session (length l.left)
 abbrev pub invariant-loop-left : goal.invariant-loop-left
 invariant-loop-left g l = record {
   live : IsLiveAt l.desk l.session;
+  moment : GainsAt l.now (journal_of l.fn.desk) (journal_of l.desk);
   kept : KeepsOthers (g.F.Shelf.state l.fn.shelf).files (g.F.Shelf.state l.shelf).files l.to;
   counted : is_missing (g.F.Shelf.state l.fn.shelf).files l.to ≡ false
       → (is_missing (g.F.Shelf.state l.shelf).files l.to ≡ false) × ((g.F.Shelf.state l.fn.shelf).faults ≤ (g.F.Shelf.state l.shelf).faults);

@@ -30,8 +30,12 @@ returns-in-Ok-clause-turn g c = λ first last job required v entropy work to sta
     let begun = has_begun c.none.result c.in_ok-copy.field-0 c.args.given.now opens.short (v.last + 1) c.in-Ok.session c.none.ensures c.in_ok-copy.ensures opens.answer in
     let turn : Turn ℕ = open_opened c.none.result c.in_ok-copy.field-0 opens.short (v.last + 1) in
     let u : DeskValue = after_turn (drawn v) (v.last + 1) [] turn in
-    let file = c.begin.ensures.begins u (Opening (opening_of c.args.given.now)) opens.stands (opening_live v c.args.given.now turn c.in-Ok.session begun) in
-    (file.0, file.1, open_begins_at _ job c.args.given.now required v u file.0 [] _ _ entropy c.in-Ok.session c.args.to.now c.begin.result work to (draws_next v [] turn) begun.same file.2)
+    let file = c.begin.ensures.begins u (Opening (opening_of c.args.given.now)) opens.stands (opening_live v c.args.given.now turn c.in-Ok.session begun) in (
+      file.0,
+      file.1,
+      open_begins_at _ job c.args.given.now required v u file.0 [] _ _ entropy c.in-Ok.session c.args.to.now c.begin.result work to (draws_next v [] turn) begun.same
+          (stands.undrawn (v.last + 1) (omega arith)) file.2,
+    )
 
 pub returns-in-Ok-clause-numbers : goal.returns-in-Ok-clause-numbers
 returns-in-Ok-clause-numbers g c =

@@ -1,5 +1,6 @@
 -- What the first turn of an encrypt job comes to, by what the entropy, the desk and the shelf answered.
-use Rattle.std.proofs.Common.{rules, ◌≡◌, ◌+◌, ◌*◌, ℕ, List, None, length, refl, ap, arith}
+use Rattle.std.proofs.Common.{rules, ◌≡◌, ◌∙◌, ◌+◌, ◌*◌, ℕ, List, None, length, refl, ap, arith}
+use Rattle.std.proofs.lemmas.Map.{update_here}
 use Rattle.esdk_fields.specs.declared.refusals.Outside.TheVariants as outsides
 use Rattle.keyring_trait.specs.declared.journal.JournalLine.{JournalLine}
 use Rattle.keyring_trait.specs.declared.journal.Kind.TheVariants.{Seal}
@@ -13,10 +14,11 @@ use Rattle.esdk_batch.proofs.Counting.{rose_none, rose_zero}
 use Rattle.esdk_batch.proofs.Faulting.{entropy_sound, keyring_counted, seal_rose, shelf_sound}
 use Rattle.esdk_batch.proofs.FirstLines.{number_drawn, seal_begun_adds, seal_ended_adds}
 use Rattle.esdk_batch.proofs.FirstTurns.{draws_next, draws_on}
-use Rattle.esdk_batch.proofs.Moments.{Views, admits_same, desk_moment}
+use Rattle.esdk_batch.proofs.ManagerViews.{Views, admits_same, desk_moment}
+use Rattle.esdk_batch.proofs.Moments.{gains_none, gains_same, sealed_gains}
 use Rattle.esdk_batch.proofs.SealBegins.{draws_nothing, is_begun, opens_none, seal_begins_at, sealing_of}
 use Rattle.esdk_batch.proofs.SealTurns.{has_begun, opened_so, says_at, sealing_live}
-use Rattle.esdk_batch.proofs.Openings.{live_after, seal_error_lives, seal_lives}
+use Rattle.esdk_batch.proofs.Openings.{live_after, seal_error_lives, seal_error_none, seal_lives}
 use Rattle.esdk_batch.proofs.TurnCounting.{counts_from, ended_counts}
 use Rattle.esdk_batch.proofs.opening.open_sealing.Goals as goal
 
@@ -72,7 +74,7 @@ returns-in-Ok-opened-clause-turn g c = λ first last job asked v admits work to 
       file.0,
       file.1,
       seal_begins_at manager job asked v u file.0 lines _ _ _ _ random b.materials c.in-Ok-opened.session c.served_since-served.result c.args.to.now c.begin.result work to (draws_next v lines turn) b.same
-          c.in-Ok.ensures.bytes begun file.2,
+          (stands.undrawn (v.last + 1) (omega arith)) c.in-Ok.ensures.bytes begun file.2,
     )
 
 pub returns-in-Ok-opened-clause-numbers : goal.returns-in-Ok-opened-clause-numbers
@@ -135,7 +137,8 @@ returns-in_ok-end_of-in-Err-clause-turn g c = λ first last job asked v admits w
       _,
       o.stands,
       opens_none manager job asked v _ lines _ _ _ random o.reply o.short (v.last + 1) wraps c.in-Err.error c.in_ok-end_of-in-Err.field-0 c.served_since-served.result c.ended-in-Err.result work
-          (draws_next v lines turn) c.in-Ok.ensures.bytes count admits.wraps said o.serves o.answer c.in_ok-end_of-in-Err.ensures c.ended-in-Err.ensures,
+          (draws_next v lines turn) (stands.undrawn (v.last + 1) (omega arith))
+          (update_here v.live (v.last + 1) turn.left ∙ seal_error_none (request_of asked) random o.reply o.short (v.last + 1) c.in-Err.error o.answer) c.in-Ok.ensures.bytes count admits.wraps said o.serves o.answer c.in_ok-end_of-in-Err.ensures c.ended-in-Err.ensures,
     )
 
 pub returns-in_ok-end_of-in-Err-clause-lines : goal.returns-in_ok-end_of-in-Err-clause-lines
@@ -157,6 +160,27 @@ returns-in_ok-end_of-in-Err-clause-lines g c = λ job asked v work request stand
       o.stands,
       seal_ended_adds job asked c.ended-in-Err.result v u c.args.now c.in_ok-end_of-in-Err.field-0 c.served_since-served.result (served_by o.reply) work c.ended-in-Err.ensures refl o.serves,
     )
+
+-- ---- the moment
+
+pub returns-in_default-clause-moment : goal.returns-in_default-clause-moment
+returns-in_default-clause-moment g c = gains_none c.args.now _ _ refl
+
+pub returns-in-Ok-opened-clause-moment : goal.returns-in-Ok-opened-clause-moment
+returns-in-Ok-opened-clause-moment g c =
+    let (v, stands) = c.requires.worth in
+    gains_same c.args.now _ _ _ (sealed_gains _ c.args.desk.now c.open_seal-opened.new.self v c.args.request.now c.args.now c.fill.new.out _ stands (c.in-Ok-opened.ensures.opens v stands))
+    c.begin.ensures.journal
+
+pub returns-in_ok-end_of-in-Err-clause-moment : goal.returns-in_ok-end_of-in-Err-clause-moment
+returns-in_ok-end_of-in-Err-clause-moment g c =
+    let (v, stands) = c.requires.worth in
+    sealed_gains _ c.args.desk.now c.open_seal-opened.new.self v c.args.request.now c.args.now c.fill.new.out _ stands (c.in-Err.ensures.opens v stands)
+
+pub returns-in_err-end_of-in-Err-clause-moment : goal.returns-in_err-end_of-in-Err-clause-moment
+returns-in_err-end_of-in-Err-clause-moment g c =
+    let (v, stands) = c.requires.worth in
+    sealed_gains _ c.args.desk.now c.open_seal-opened.new.self v c.args.request.now c.args.now c.fill.new.out _ stands (c.in-Err.ensures.opens v stands)
 
 -- ---- what was counted
 

@@ -4,6 +4,7 @@ use Rattle.std.proofs.lemmas.List.{get_or_default}
 use Rattle.esdk_batch.specs.Progress.{is_ended}
 use Rattle.esdk_batch.proofs.AllCounting.{counted_after, has_file_at}
 use Rattle.esdk_batch.proofs.Managers.{admits_between}
+use Rattle.esdk_batch.proofs.Moments.{reads_turn}
 use Rattle.esdk_batch.proofs.Standing.{others_after}
 use Rattle.esdk_batch.proofs.Windows.{round_begun, round_skips, round_turns}
 use Rattle.esdk_batch.proofs.rounds.run_round.Goals as goal
@@ -13,6 +14,7 @@ loop-at-preserved-then-is_ended g c = record {
   on = round_skips _ _ c.args.jobs.now c.args.width c.args.first c.args.desk.now c.loop-at.desk c.args.progress.now c.loop-at.progress _ _ _ _ c.loop-at.at c.loop-at.turns
       c.loop-at.invariant.on (omega (arith, c.loop-at-test.true)) c.requires.first c.index-progress-at.result c.index-progress-at.is (ap is_ended c.index-progress-at.is ∙ sym c.is_ended.ensures ∙ c.if-is_ended.true);
   counts = c.loop-at.invariant.counts;
+  moments = c.loop-at.invariant.moments;
 }
 
 pub loop-at-preserved : goal.loop-at-preserved
@@ -37,6 +39,7 @@ loop-at-preserved g c =
           let has = has_file_at c.args.jobs.now progress at c.index-jobs-at.result one began _ within each c.index-jobs-at.is was all in
           counted_after c.args.jobs.now progress at c.index-jobs-at.result one c.take_turn.new.progress began _ _ within each c.index-jobs-at.is was runs c.requires.apart
           turn.kept (turn.counts runs has) all;
+      moments = reads_turn _ _ _ _ _ _ c.loop-at.invariant.moments (turn.moment runs);
     }
 
 pub returns-clause-opened : goal.returns-clause-opened
@@ -47,3 +50,10 @@ pub returns-in_err-take_turn-clause-others : goal.returns-in_err-take_turn-claus
 returns-in_err-take_turn-clause-others g c =
     others_after c.args.jobs.now c.loop-at.at c.index-jobs-at.result _ _ _ (omega (arith, c.loop-at-test.true, c.loop-at.invariant.on.each)) c.index-jobs-at.is
     c.in_err-take_turn.ensures.kept c.loop-at.invariant.on.others
+
+pub returns-in_err-take_turn-clause-moments : goal.returns-in_err-take_turn-clause-moments
+returns-in_err-take_turn-clause-moments g c =
+    let progress = c.loop-at.progress in
+    let within : c.loop-at.at < length progress = omega (arith, c.loop-at-test.true, c.loop-at.invariant.on.each) in
+    let runs = ap is_ended (get_or_default progress c.loop-at.at c.index-progress-at-in-loop-at.result c.index-progress-at.result within) ∙ sym c.is_ended.ensures ∙ c.if-is_ended.false in
+    reads_turn _ _ _ _ _ _ c.loop-at.invariant.moments (c.in_err-take_turn.ensures.moment runs)

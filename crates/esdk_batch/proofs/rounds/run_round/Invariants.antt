@@ -2,6 +2,7 @@
 use Rattle.desk_core.specs.Stands.{journal_of, manager_of}
 use Rattle.esdk_batch.specs.Failures.{AllCounted, Tally, tally_of}
 use Rattle.esdk_batch.specs.Managing.{manager_now, managing_of}
+use Rattle.esdk_batch.specs.Moments.{ReadsClock}
 use Rattle.esdk_batch.proofs.Windows.{RoundOn}
 use Rattle.esdk_batch.proofs.rounds.run_round.Given as goal
 
@@ -15,4 +16,5 @@ invariant-loop-at g l = record {
       (g.W.Entropy.state l.fn.entropy) (g.W.Entropy.state l.entropy) l.at l.turns;
   counts : (began : Tally) → AllCounted l.jobs began (tally_of (g.F.Shelf.state l.fn.shelf) (g.W.Entropy.state l.fn.entropy).faults (g.M.Manager.meaning (manager_of l.fn.desk)).faults) l.fn.progress
       → AllCounted l.jobs began (tally_of (g.F.Shelf.state l.shelf) (g.W.Entropy.state l.entropy).faults (g.M.Manager.meaning (manager_of l.desk)).faults) l.progress;
+  moments : ReadsClock (g.C.Clock.moments l.fn.clock) (g.C.Clock.moments l.clock) (journal_of l.fn.desk) (journal_of l.desk);
 }

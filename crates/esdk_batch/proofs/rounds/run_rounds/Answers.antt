@@ -1,5 +1,6 @@
 -- One round more.
 use Rattle.std.proofs.Common.{arith}
+use Rattle.esdk_batch.proofs.Moments.{reads_more}
 use Rattle.esdk_batch.proofs.Windows.{rounds_more}
 use Rattle.esdk_batch.proofs.rounds.run_rounds.Goals as goal
 
@@ -13,5 +14,9 @@ loop-first-preserved g c =
       on = rounds_more _ _ c.args.jobs.now c.args.width c.args.desk.now c.loop-first.desk c.run_round.new.desk c.args.progress.now c.loop-first.progress c.run_round.new.progress _ _ _ _ _ _
           c.loop-first.invariant.on (omega (arith, c.run_round.auto.progress, c.loop-first.invariant.on.each)) round.room round.ready round.opened round.went round.others round.told round.stand;
       counts = λ began first. round.counts began (c.loop-first.invariant.counts began first);
+      moments = reads_more _ _ _ _ _ _ c.loop-first.invariant.moments round.moments;
       past = round.past;
     }
+
+pub returns-in_err-run_round-clause-moments : goal.returns-in_err-run_round-clause-moments
+returns-in_err-run_round-clause-moments g c = reads_more _ _ _ _ _ _ c.loop-first.invariant.moments c.in_err-run_round.ensures.moments

@@ -4,6 +4,7 @@ use Rattle.std.specs.Prelude.{All}
 use Rattle.desk_core.specs.Stands.{journal_of, manager_of}
 use Rattle.esdk_batch.specs.Failures.{AllCounted, Tally, tally_of}
 use Rattle.esdk_batch.specs.Managing.{manager_now, managing_of}
+use Rattle.esdk_batch.specs.Moments.{ReadsClock}
 use Rattle.esdk_batch.specs.Progress.{all_turns_left, is_ended}
 use Rattle.esdk_batch.proofs.Windows.{RoundsOn}
 use Rattle.esdk_batch.proofs.rounds.run_rounds.Given as goal
@@ -18,6 +19,7 @@ invariant-loop-first g l = record {
       (g.W.Entropy.state l.fn.entropy) (g.W.Entropy.state l.entropy);
   counts : (began : Tally) → AllCounted l.jobs began (tally_of (g.F.Shelf.state l.fn.shelf) (g.W.Entropy.state l.fn.entropy).faults (g.M.Manager.meaning (manager_of l.fn.desk)).faults) l.fn.progress
       → AllCounted l.jobs began (tally_of (g.F.Shelf.state l.shelf) (g.W.Entropy.state l.entropy).faults (g.M.Manager.meaning (manager_of l.desk)).faults) l.progress;
+  moments : ReadsClock (g.C.Clock.moments l.fn.clock) (g.C.Clock.moments l.clock) (journal_of l.fn.desk) (journal_of l.desk);
   past : All (λ one. is_ended one ≡ true) (take l.past l.progress);
 }
 

@@ -6,6 +6,7 @@ use Rattle.esdk_batch.proofs.FedTurns.{broken_so, fed_as, fed_so, reported_is}
 use Rattle.esdk_batch.proofs.FurtherLines.{broken_lines_so, draws_none, fed_lines, known, no_lines_so}
 use Rattle.esdk_batch.proofs.FurtherTurns.{finished_so, unread_so}
 use Rattle.esdk_batch.proofs.Managers.{admits_between}
+use Rattle.esdk_batch.proofs.Moments.{gains_none}
 use Rattle.esdk_batch.proofs.TurnCounting.{counts_from, piece_as, piece_ended, piece_goes, there_mid, unread_counts}
 use Rattle.esdk_batch.proofs.turns.go_on.Goals as goal
 
@@ -101,6 +102,17 @@ returns-in-None-clause-lines g c = λ v stands knows.
           (reported_is c.args.live.served c.served_since.result c.either-served.result (journal_of c.feed_piece.new.desk) v.journal fed.gained _ c.either-served.ensures
           c.served_since.ensures (journal ∙ fed.desk.journal) (ap length (c.journal-lines.ensures.lines v stands))),
     )
+
+-- ---- the moment
+
+pub returns-in-Err-clause-moment : goal.returns-in-Err-clause-moment
+returns-in-Err-clause-moment g c = gains_none c.args.now _ _ c.drop_session-dropped.ensures.journal
+
+pub returns-then-count-eq0-clause-moment : goal.returns-then-count-eq0-clause-moment
+returns-then-count-eq0-clause-moment g c = gains_none c.args.now _ _ c.end_session.ensures.journal
+
+pub returns-in_err-end-clause-moment : goal.returns-in_err-end-clause-moment
+returns-in_err-end-clause-moment g c = gains_none c.args.now _ _ c.end_session.ensures.journal
 
 -- ---- what was counted
 

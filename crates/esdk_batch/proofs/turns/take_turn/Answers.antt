@@ -1,52 +1,111 @@
--- A turn is that of opening the job, or a further one, or none.
-use Rattle.std.proofs.Common.{◌≡◌, ◌∙◌, true, false, ap, sym, subst}
+-- A turn is that of opening the job, or a further one, or none; and the job's file is put in its place.
+use Rattle.std.proofs.Common.{◌≡◌, ◌∙◌, true, false, ap, arith, refl, sym, subst}
 use Rattle.esdk_batch.specs.declared.progress.Progress.{Progress}
 use Rattle.esdk_batch.specs.declared.progress.Progress.TheVariants as stages
 use Rattle.esdk_batch.specs.Failures.{HasFile}
-use Rattle.esdk_batch.specs.Progress.{is_ended}
+use Rattle.esdk_batch.specs.Progress.{is_ended, turns_left}
 use Rattle.esdk_batch.specs.Turns.{Knows}
 use Rattle.esdk_batch.specs.Underway.{HasSession}
+use Rattle.esdk_batch.proofs.Unplaced.{counts_placed, kept_placed, kind_placed, lines_placed, number_placed, turn_placed, turns_first, turns_placed}
 use Rattle.esdk_batch.proofs.TakenTurns.{further_taken, lines_as, none_taken, turn_as}
 use Rattle.esdk_batch.proofs.turns.take_turn.Goals as goal
 
-pub returns-in_ok-progress-in-Waiting-clause-turn :
-    goal.returns-in_ok-progress-in-Waiting-clause-turn
-returns-in_ok-progress-in-Waiting-clause-turn g c = λ first last v admits stands has.
-    let turn = c.in_ok-progress-in-Waiting.ensures.turn first last v admits stands in
-    (turn.0, turn.1, turn_as _ c.args.job.now c.args.progress.now stages.Waiting c.in_ok-progress-in-Waiting.field-0 v turn.0 _ _ _ _ c.in-Waiting.is turn.2)
+-- ---- a first turn
 
-pub returns-in_ok-progress-in-Waiting-clause-lines :
-    goal.returns-in_ok-progress-in-Waiting-clause-lines
-returns-in_ok-progress-in-Waiting-clause-lines g c = λ v stands knows.
-    let lines = c.in_ok-progress-in-Waiting.ensures.lines v stands in
-    (lines.0, lines.1, lines_as c.args.job.now c.args.progress.now stages.Waiting c.in_ok-progress-in-Waiting.field-0 v lines.0 c.in-Waiting.is lines.2)
-
-pub returns-in_ok-progress-in-Live-clause-turn : goal.returns-in_ok-progress-in-Live-clause-turn
-returns-in_ok-progress-in-Live-clause-turn g c = λ first last v admits stands has.
-    let turn = c.in_ok-progress-in-Live.ensures.turn first last v admits stands (subst (λ (p : Progress). HasSession v.live p) c.in-Live.is has) in (
+pub returns-in_ok-next-in-Waiting-clause-turn : goal.returns-in_ok-next-in-Waiting-clause-turn
+returns-in_ok-next-in-Waiting-clause-turn g c = λ first last v admits stands has.
+    let turn = c.in_ok-next-in-Waiting.ensures.turn first last v admits stands in (
       turn.0,
       turn.1,
-      turn_as _ c.args.job.now c.args.progress.now (stages.Live c.in-Live.live) c.in_ok-progress-in-Live.field-0 v turn.0 _ _ _ _ c.in-Live.is
-          (further_taken _ c.args.job.now c.in-Live.live c.in_ok-progress-in-Live.field-0 v turn.0 _ _ _ turn.2),
+      turn_as _ c.args.job.now c.args.progress.now stages.Waiting c.put_in_place.result v turn.0 _ _ _ _ c.in-Waiting.is
+          (turn_placed _ c.args.job.now stages.Waiting c.in_ok-next-in-Waiting.next c.put_in_place.result v turn.0 _ _ _ _ _ c.put_in_place.ensures turn.2),
     )
 
-pub returns-in_ok-progress-in-Live-clause-lines : goal.returns-in_ok-progress-in-Live-clause-lines
-returns-in_ok-progress-in-Live-clause-lines g c = λ v stands knows.
-    let lines = c.in_ok-progress-in-Live.ensures.lines v stands (subst (λ (p : Progress). Knows c.args.job.now.work p v.live) c.in-Live.is knows) in
-    (lines.0, lines.1, lines_as c.args.job.now c.args.progress.now (stages.Live c.in-Live.live) c.in_ok-progress-in-Live.field-0 v lines.0 c.in-Live.is lines.2)
+pub returns-in_ok-next-in-Waiting-clause-numbers : goal.returns-in_ok-next-in-Waiting-clause-numbers
+returns-in_ok-next-in-Waiting-clause-numbers g c = number_placed c.args.progress.now stages.Waiting c.in_ok-next-in-Waiting.next c.put_in_place.result _ _ _ _ c.in-Waiting.is refl c.put_in_place.ensures c.in_ok-next-in-Waiting.ensures.numbers
+
+pub returns-in_ok-next-in-Waiting-clause-lines : goal.returns-in_ok-next-in-Waiting-clause-lines
+returns-in_ok-next-in-Waiting-clause-lines g c = λ v stands knows.
+    let lines = c.in_ok-next-in-Waiting.ensures.lines v stands in (
+      lines.0,
+      lines.1,
+      lines_as c.args.job.now c.args.progress.now stages.Waiting c.put_in_place.result v lines.0 c.in-Waiting.is
+          (lines_placed c.args.job.now stages.Waiting c.in_ok-next-in-Waiting.next c.put_in_place.result v lines.0 _ _ c.put_in_place.ensures lines.2),
+    )
+
+pub returns-in_ok-next-in-Waiting-clause-kind : goal.returns-in_ok-next-in-Waiting-clause-kind
+returns-in_ok-next-in-Waiting-clause-kind g c = λ was. kind_placed c.args.job.now.work c.in_ok-next-in-Waiting.next c.put_in_place.result _ _ c.put_in_place.ensures c.in_ok-next-in-Waiting.ensures.kind
+
+pub returns-in_ok-next-in-Waiting-clause-moment : goal.returns-in_ok-next-in-Waiting-clause-moment
+returns-in_ok-next-in-Waiting-clause-moment g c = λ runs. record { moment = c.now.result; answers = (c.now.ensures.moment, c.now.ensures.moments); gains = c.in_ok-next-in-Waiting.ensures.moment }
+
+pub returns-in_err-next-in-Waiting-clause-moment : goal.returns-in_err-next-in-Waiting-clause-moment
+returns-in_err-next-in-Waiting-clause-moment g c = λ runs. record { moment = c.now.result; answers = (c.now.ensures.moment, c.now.ensures.moments); gains = c.in_err-next-in-Waiting.ensures.moment }
+
+pub returns-in_ok-next-in-Waiting-clause-kept : goal.returns-in_ok-next-in-Waiting-clause-kept
+returns-in_ok-next-in-Waiting-clause-kept g c = kept_placed _ c.in_ok-next-in-Waiting.next c.put_in_place.result _ _ c.args.job.now.to c.put_in_place.ensures c.in_ok-next-in-Waiting.ensures.kept
+
+pub returns-in_ok-next-in-Waiting-clause-falls : goal.returns-in_ok-next-in-Waiting-clause-falls
+returns-in_ok-next-in-Waiting-clause-falls g c = λ left.
+    omega (arith, turns_placed c.in_ok-next-in-Waiting.next c.put_in_place.result _ _ c.put_in_place.ensures, ap turns_left c.in-Waiting.is, turns_first c.in_ok-next-in-Waiting.next _ _ c.in_ok-next-in-Waiting.ensures.numbers)
+
+pub returns-in_ok-next-in-Waiting-clause-counts : goal.returns-in_ok-next-in-Waiting-clause-counts
+returns-in_ok-next-in-Waiting-clause-counts g c = λ runs has. counts_placed c.args.job.now _ _ _ _ _ c.in_ok-next-in-Waiting.next c.put_in_place.result c.put_in_place.ensures c.in_ok-next-in-Waiting.ensures.counts
+
+-- ---- a further turn
+
+pub returns-in_ok-next-in-Live-clause-turn : goal.returns-in_ok-next-in-Live-clause-turn
+returns-in_ok-next-in-Live-clause-turn g c = λ first last v admits stands has.
+    let turn = c.in_ok-next-in-Live.ensures.turn first last v admits stands (subst (λ (p : Progress). HasSession v.live p) c.in-Live.is has) in (
+      turn.0,
+      turn.1,
+      turn_as _ c.args.job.now c.args.progress.now (stages.Live c.in-Live.live) c.put_in_place-in-Live.result v turn.0 _ _ _ _ c.in-Live.is
+          (turn_placed _ c.args.job.now (stages.Live c.in-Live.live) c.in_ok-next-in-Live.next c.put_in_place-in-Live.result v turn.0 _ _ _ _ _ c.put_in_place-in-Live.ensures
+          (further_taken _ c.args.job.now c.in-Live.live c.in_ok-next-in-Live.next v turn.0 _ _ _ turn.2)),
+    )
+
+pub returns-in_ok-next-in-Live-clause-numbers : goal.returns-in_ok-next-in-Live-clause-numbers
+returns-in_ok-next-in-Live-clause-numbers g c =
+    number_placed c.args.progress.now (stages.Live c.in-Live.live) c.in_ok-next-in-Live.next c.put_in_place-in-Live.result _ _ _ _ c.in-Live.is refl c.put_in_place-in-Live.ensures c.in_ok-next-in-Live.ensures.numbers
+
+pub returns-in_ok-next-in-Live-clause-lines : goal.returns-in_ok-next-in-Live-clause-lines
+returns-in_ok-next-in-Live-clause-lines g c = λ v stands knows.
+    let lines = c.in_ok-next-in-Live.ensures.lines v stands (subst (λ (p : Progress). Knows c.args.job.now.work p v.live) c.in-Live.is knows) in (
+      lines.0,
+      lines.1,
+      lines_as c.args.job.now c.args.progress.now (stages.Live c.in-Live.live) c.put_in_place-in-Live.result v lines.0 c.in-Live.is
+          (lines_placed c.args.job.now (stages.Live c.in-Live.live) c.in_ok-next-in-Live.next c.put_in_place-in-Live.result v lines.0 _ _ c.put_in_place-in-Live.ensures lines.2),
+    )
+
+pub returns-in_ok-next-in-Live-clause-kind : goal.returns-in_ok-next-in-Live-clause-kind
+returns-in_ok-next-in-Live-clause-kind g c = λ was. kind_placed c.args.job.now.work c.in_ok-next-in-Live.next c.put_in_place-in-Live.result _ _ c.put_in_place-in-Live.ensures c.in_ok-next-in-Live.ensures.kind
+
+pub returns-in_ok-next-in-Live-clause-moment : goal.returns-in_ok-next-in-Live-clause-moment
+returns-in_ok-next-in-Live-clause-moment g c = λ runs. record { moment = c.now-in-Live.result; answers = (c.now-in-Live.ensures.moment, c.now-in-Live.ensures.moments); gains = c.in_ok-next-in-Live.ensures.moment }
+
+pub returns-in_err-next-in-Live-clause-moment : goal.returns-in_err-next-in-Live-clause-moment
+returns-in_err-next-in-Live-clause-moment g c = λ runs. record { moment = c.now-in-Live.result; answers = (c.now-in-Live.ensures.moment, c.now-in-Live.ensures.moments); gains = c.in_err-next-in-Live.ensures.moment }
+
+pub returns-in_ok-next-in-Live-clause-kept : goal.returns-in_ok-next-in-Live-clause-kept
+returns-in_ok-next-in-Live-clause-kept g c = kept_placed _ c.in_ok-next-in-Live.next c.put_in_place-in-Live.result _ _ c.args.job.now.to c.put_in_place-in-Live.ensures c.in_ok-next-in-Live.ensures.kept
+
+pub returns-in_ok-next-in-Live-clause-falls : goal.returns-in_ok-next-in-Live-clause-falls
+returns-in_ok-next-in-Live-clause-falls g c = λ left.
+    omega (arith, turns_placed c.in_ok-next-in-Live.next c.put_in_place-in-Live.result _ _ c.put_in_place-in-Live.ensures, ap turns_left c.in-Live.is, c.in_ok-next-in-Live.ensures.falls)
+
+pub returns-in_ok-next-in-Live-clause-counts : goal.returns-in_ok-next-in-Live-clause-counts
+returns-in_ok-next-in-Live-clause-counts g c = λ runs has.
+    counts_placed c.args.job.now _ _ _ _ _ c.in_ok-next-in-Live.next c.put_in_place-in-Live.result c.put_in_place-in-Live.ensures
+    (c.in_ok-next-in-Live.ensures.counts (g.W.Entropy.state c.args.entropy.now).faults
+    (subst (λ (p : Progress). HasFile (g.F.Shelf.state c.args.shelf.now).files c.args.job.now p) c.in-Live.is has))
+
+-- ---- none
 
 pub returns-in-Ended-clause-turn : goal.returns-in-Ended-clause-turn
 returns-in-Ended-clause-turn g c = λ first last v admits stands has. (v, stands, none_taken _ c.args.job.now c.args.progress.now v _ _ has)
 
--- ---- what was counted
-
-pub returns-in_ok-progress-in-Waiting-clause-counts : goal.returns-in_ok-progress-in-Waiting-clause-counts
-returns-in_ok-progress-in-Waiting-clause-counts g c = λ runs has. c.in_ok-progress-in-Waiting.ensures.counts
-
-pub returns-in_ok-progress-in-Live-clause-counts : goal.returns-in_ok-progress-in-Live-clause-counts
-returns-in_ok-progress-in-Live-clause-counts g c = λ runs has.
-    c.in_ok-progress-in-Live.ensures.counts (g.W.Entropy.state c.args.entropy.now).faults
-    (subst (λ (p : Progress). HasFile (g.F.Shelf.state c.args.shelf.now).files c.args.job.now p) c.in-Live.is has)
+pub returns-in-Ended-clause-moment : goal.returns-in-Ended-clause-moment
+returns-in-Ended-clause-moment g c = λ runs. let no : true ≡ false = ap is_ended (sym c.in-Ended.is) ∙ runs in absurd cc
 
 pub returns-in-Ended-clause-counts : goal.returns-in-Ended-clause-counts
 returns-in-Ended-clause-counts g c = λ runs has. let no : true ≡ false = ap is_ended (sym c.in-Ended.is) ∙ runs in absurd cc
