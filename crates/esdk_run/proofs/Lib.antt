@@ -17,3 +17,4 @@ pub mod Batches
 pub mod ReadJobs
 pub mod EachJob
 pub mod DoneJobs
+mod Ages

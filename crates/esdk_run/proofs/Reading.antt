@@ -1,7 +1,7 @@
 -- What is read of the bytes that a decryption took, with a reader's keys.
 use Rattle.std.proofs.Common.{◌≡◌, ◌⊎◌, ◌∙◌, ℕ, List, inl, inr, sym, ap, subst}
 use Rattle.std.specs.Io.KnownBytes.{Appends}
-use Rattle.esdk_base.specs.Sink.{AppendsFront}
+use Rattle.whole_input.specs.Written.{WritesBeyond}
 use Rattle.esdk_fields.specs.declared.faults.Fault.{Fault}
 use Rattle.esdk_fields.specs.declared.refusals.Outside.TheVariants as outsides
 use Rattle.context_codec.specs.Context.{KeyValue}
@@ -11,7 +11,7 @@ use Rattle.esdk_decrypt.specs.declared.errors.DecryptError.{DecryptError}
 use Rattle.esdk_decrypt.specs.declared.errors.DecryptError.TheVariants as errors
 use Rattle.esdk_decrypt.specs.Decrypt.{Asked, Decrypts, EndsSo, HasFault, Releases, ReleasesFront, fault_at_end, fault_of}
 use Rattle.esdk_decrypt.specs.Told.{Reader, asked_by, judged_by}
-use Rattle.esdk_decrypt.proofs.Readers.{answers_unlocking, judged_reader, never_fails}
+use Rattle.esdk_decrypt.proofs.Readers.{answers_unlocking, judged_first, judged_reader, never_fails}
 use Rattle.esdk_report.specs.declared.failure.Failure.{Failure}
 use Rattle.esdk_report.specs.declared.failure.Failure.TheVariants as failures
 use Rattle.esdk_run.specs.Objects.{Objects}
@@ -40,12 +40,27 @@ gains_read reader before after bytes answer releases = record {
   gained = subst (λ (j : Judged). Appends before.output.written after.output.written (content j)) (judged_reader reader bytes answer releases.answered) releases.gained;
 }
 
+-- the bytes before the last piece are judged with the same answer
 gains_front : (reader : Reader) (before after : Objects) → ReleasesFront (asked_by reader) before.input after.input before.output after.output → GainsFront reader before after
-gains_front reader before after front = record {
-  bytes = front.bytes;
-  came = front.came;
-  front = subst (λ (j : Judged). AppendsFront before.output.written after.output.written (content j)) (judged_reader reader front.bytes front.answer front.answered) front.front;
-}
+gains_front reader before after front =
+    let last = front.last in
+    let all : judged front.bytes reader.settings front.answer ≡ judged_by reader front.bytes = judged_reader reader front.bytes front.answer front.answered in
+    let first : judged last.before reader.settings front.answer ≡ judged_by reader last.before = judged_first reader front.bytes last.before last.piece front.answer last.all front.answered in
+    record {
+      bytes = front.bytes;
+      came = front.came;
+      last = record {
+        before = last.before;
+        piece = last.piece;
+        all = last.all;
+        few = last.few;
+        was = record {
+          sound = ap (λ (j : Judged). fault_of j.verdict) (sym first) ∙ last.was.sound;
+          written = subst (λ (j : Judged). WritesBeyond before.output after.output (content j) (content (judged_by reader front.bytes))) first
+              (subst (λ (j : Judged). WritesBeyond before.output after.output (content (judged last.before reader.settings front.answer)) (content j)) all last.was.written);
+        };
+      };
+    }
 
 reads_fault : (reader : Reader) (before after : Objects) (fault : Fault) → HasFault (asked_by reader) before.input after.input before.output after.output fault
     → ReadsFault reader before after fault
@@ -58,6 +73,13 @@ reads_fault reader before after fault has =
         | inl early ↦ inl (ap (λ (j : Judged). fault_of j.verdict) (sym same) ∙ early)
         | inr late ↦ inr (late.0, ap (λ (j : Judged). fault_at_end j.verdict) (sym same) ∙ late.1)
       ];
+      last = record {
+        before = has.last.before;
+        piece = has.last.piece;
+        all = has.last.all;
+        few = has.last.few;
+        was = ap (λ (j : Judged). fault_of j.verdict) (sym (judged_first reader has.bytes has.last.before has.last.piece has.answer has.last.all has.releases.answered)) ∙ has.last.was;
+      };
     }
 
 reads_whole : (reader : Reader) (before after : Objects) (code : ℕ) (context : List KeyValue)

@@ -13,3 +13,4 @@ pub mod Batch
 pub mod Generate
 pub mod Served
 pub mod EachJob
+pub mod Ages

@@ -2,7 +2,7 @@
 use Rattle.std.specs.Prelude.{◌≡◌, ◌⊎◌, ℕ, ◌≤◌, List, ◌++◌, length, true, false, Some, None}
 use Rattle.std.specs.Io.KnownBytes.{Appends}
 use Rattle.esdk_fields.specs.Counts.{Rose}
-use Rattle.esdk_base.specs.Sink.{AppendsFront}
+use Rattle.esdk_base.specs.Streams.{SinkState}
 use Rattle.esdk_fields.specs.declared.faults.Fault.{Fault}
 use Rattle.esdk_fields.specs.declared.refusals.Outside.TheVariants as outsides
 use Rattle.context_codec.specs.Context.{KeyValue}
@@ -11,8 +11,9 @@ use Rattle.body_format.specs.declared.verdicts.Verdict.TheVariants.{Whole}
 use Rattle.message_format.specs.Judgement.{content}
 use Rattle.message_format.specs.Reading.{unlocking}
 use Rattle.stream_open.specs.Session.{is_framed}
-use Rattle.whole_input.specs.Pieces.{most_piece}
+use Rattle.whole_input.specs.Pieces.{APieceBehind, most_piece}
 use Rattle.whole_input.specs.Taken.{Came, EndSeen, MostTaken}
+use Rattle.whole_input.specs.Written.{WritesBeyond}
 use Rattle.esdk_decrypt.specs.Decrypt.{HasContext, fault_at_end, fault_of}
 use Rattle.esdk_decrypt.specs.Told.{Reader, judged_by}
 use Rattle.esdk_report.specs.declared.failure.Failure.{Failure}
@@ -25,11 +26,16 @@ pub record GainsRead (reader : Reader) (before after : Objects) (bytes : List �
   pub came : Came before.input after.input bytes
   pub gained : Appends before.output.written after.output.written (content (judged_by reader bytes))
 
--- Bytes were taken, and the output gained a front of what is read of them.
+-- Bytes that come first have no fault and what is read of them was written, but only a front of what is read of all bytes beyond it.
+pub record ReadsBeyond (reader : Reader) (output put : SinkState) (bytes first : List ℕ) : Type 0 where
+  pub sound : fault_of (judged_by reader first).verdict ≡ None
+  pub written : WritesBeyond output put (content (judged_by reader first)) (content (judged_by reader bytes))
+
+-- Bytes were taken. What is read of those before the last piece was written, but not all that is read of the piece beyond it.
 pub record GainsFront (reader : Reader) (before after : Objects) : Type 0 where
   pub bytes : List ℕ
   pub came : Came before.input after.input bytes
-  pub front : AppendsFront before.output.written after.output.written (content (judged_by reader bytes))
+  pub last : APieceBehind (ReadsBeyond reader before.output after.output bytes) bytes
 
 -- The whole input was taken and is a whole message, the output gained its content, and the report was told its whole context, or that memory was wanting for it.
 pub record ReadsWhole (reader : Reader) (before after : Objects) (code : ℕ) : Type 0 where
@@ -41,12 +47,13 @@ pub record ReadsWhole (reader : Reader) (before after : Objects) (code : ℕ) : 
   pub unlocked : HasContext (unlocking bytes reader.settings reader.given reader.required reader.keys) context
   pub told : TellsOrLacksMemory context code before.report after.report
 
--- The bytes that were taken have this fault, or they are the whole input and it has it. The output gained what is read of them.
+-- The bytes that were taken have this fault, or they are the whole input and it has it; those before the last piece have none. The output gained what is read of them.
 pub record ReadsFault (reader : Reader) (before after : Objects) (fault : Fault) : Type 0 where
   pub bytes : List ℕ
   pub gains : GainsRead reader before after bytes
   pub cause : (fault_of (judged_by reader bytes).verdict ≡ Some fault)
       ⊎ (EndSeen before.input after.input bytes × (fault_at_end (judged_by reader bytes).verdict ≡ Some fault))
+  pub last : APieceBehind (λ first. fault_of (judged_by reader first).verdict ≡ None) bytes
 
 -- The bytes that were taken have no fault, and no more were taken for this reason. The output gained what is read of them.
 pub record ReadsNoFault (reader : Reader) (before after : Objects) (cause : List ℕ → Type 0) : Type 0 where

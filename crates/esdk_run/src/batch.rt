@@ -3,6 +3,7 @@ ghost use Rattle.std.specs.Prelude.{◌≡◌, ◌<◌, ◌^◌, is_some, length
 ghost use Rattle.esdk_base.specs.Streams.{SinkState, SourceState};
 ghost use Rattle.esdk_batch.specs.Batch.{OnlyWritten};
 ghost use Rattle.esdk_batch.specs.Failures.{CountsFailures, tally_of};
+ghost use Rattle.esdk_run.specs.Ages.{ServesFileInTime, ServesInTime, ShowsAges};
 ghost use Rattle.esdk_run.specs.Batch.{BatchFails, JobsAre, JobsFail, ReportFails, RunsJobFile, RunsWithin, WritesReport, jobs_in, status_of};
 ghost use Rattle.esdk_run.specs.FileReading.{FileFails, ReadCause};
 ghost use Rattle.esdk_run.specs.Objects.{objects};
@@ -55,6 +56,8 @@ pub fn batch_jobs<P: Keyring, O: Sink, F: Shelf, W: Entropy, C: Clock>(
         (objects input (O.state output.old) (F.state shelf.old) (W.state entropy.old) report)
         (objects input (O.state output.new) (F.state shelf.new) (W.state entropy.new) reported)
         (output.new ≡ output.old) (entropy.new ≡ entropy.old)) }
+    ensures ages { IfOk result.ended (λ _. ShowsAges name.now (F.state shelf.old)
+        (O.state output.old) (O.state output.new) (C.moments clock.old) (C.moments clock.new)) }
 {
     let Outcome { ended, tree } = run_job_file(alloc, name, shelf, entropy, clock, plugs);
     let report = match ended {
@@ -117,6 +120,8 @@ fn run_job_file<P: Keyring, F: Shelf, W: Entropy, C: Clock>(
     ensures fails { IfErr result.ended
         (JobsFail (trees_of P.meaning plugs.items result.tree) name.now
         (F.state shelf.old) (F.state shelf.new) (entropy.new ≡ entropy.old)) }
+    ensures ages { IfOk result.ended (ServesFileInTime name.now (F.state shelf.old)
+        (C.moments clock.old) (C.moments clock.new)) }
 {
     let jobs = match read_job_file(alloc, shelf, name) {
         Ok(jobs) => jobs,
@@ -185,6 +190,8 @@ fn run_over<K: Keyring, F: Shelf, W: Entropy, C: Clock>(
     ensures runs { IfOk result (λ outcome. IfOk outcome.ended (RunsWithin
         (managing_over jobs.now.cache (K.meaning tree) (K.meaning outcome.tree)) jobs.now
         (F.state shelf.old) (F.state shelf.new) (W.state entropy.old) (W.state entropy.new))) }
+    ensures ages { IfOk result (λ outcome. IfOk outcome.ended
+        (ServesInTime jobs.now (C.moments clock.old) (C.moments clock.new))) }
     ensures goes { IfOk result (λ outcome.
         TreeOutlasts jobs.now.cache (K.meaning tree) (K.meaning outcome.tree)) }
     ensures failures { IfOk result (λ outcome. IfOk outcome.ended (CountsFailures jobs.now.jobs

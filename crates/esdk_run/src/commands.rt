@@ -1,10 +1,11 @@
 //! The commands, each with its status and its line on the report.
-ghost use Rattle.std.specs.Prelude.{◌≡◌, ◌+◌, ◌<◌, ◌≤◌, ◌^◌, ⊤, false, true, length, Ok};
+ghost use Rattle.std.specs.Prelude.{◌≡◌, ℕ, ◌+◌, ◌<◌, ◌≤◌, ◌^◌, ⊤, List, false, true, length, Ok};
 ghost use Rattle.esdk_args.specs.declared.request.ListWords.{ListWords};
 ghost use Rattle.esdk_args.specs.declared.request.Request.TheVariants as requests;
 ghost use Rattle.esdk_args.specs.Words.{words_of};
 ghost use Rattle.esdk_base.specs.Streams.{EntropyState, OnTold, SourceState};
 ghost use Rattle.esdk_list.specs.List.{Lists, input_fault};
+ghost use Rattle.esdk_run.specs.Ages.{KeepsAges};
 ghost use Rattle.esdk_run.specs.Generate.{GenFails, WritesLine};
 ghost use Rattle.esdk_run.specs.Migrate.{MigrateFails, WritesMigrated};
 ghost use Rattle.esdk_run.specs.Objects.{as_before, objects};
@@ -69,6 +70,11 @@ pub fn carry_out<P: Keyring, S: Source, O: Sink, R: Sink, F: Shelf, W: Entropy, 
 
     // At most 2^62 bytes are taken.
     ensures taken { (S.state input.new).given ≤ (S.state input.old).given + 2 ^ 62 }
+
+    // An entry of a batch's cache is as old as the clock says, which is read once in each turn.
+    ensures ages { (name : List ℕ) → words_of words.now ≡ Ok (requests.Batch name)
+        → KeepsAges name (F.state shelf.old) (O.state output.old) (O.state output.new)
+        (C.moments clock.old) (C.moments clock.new) result.status.code }
 {
     match read_words(alloc, words) {
         Ok(Request::List(asked)) => Ended {
@@ -248,6 +254,8 @@ fn run_batch<P: Keyring, O: Sink, R: Sink, F: Shelf, W: Entropy, C: Clock>(
         (W.state entropy.new) (R.state report.new))
         (as_before ⊤ (output.new ≡ output.old) (shelf.new ≡ shelf.old) (entropy.new ≡ entropy.old))
         result.status.code }
+    ensures ages { KeepsAges name.now (F.state shelf.old) (O.state output.old) (O.state output.new)
+        (C.moments clock.old) (C.moments clock.new) result.status.code }
 {
     let Outcome { ended, tree } = batch_jobs(
         alloc,

@@ -45,13 +45,13 @@ fn insert_pair(alloc: Global, word: &PairWord, context: &mut Context) -> Result<
 pub fn required_of(alloc: Global, words: &[PairWord]) -> Result<KeySet, AllocError>
     ensures { IfOk result (λ keys. keys ≡ required_in words.now) }
 {
-    let mut keys = KeySet::new(alloc);
+    let mut keys = Vec::new(alloc);
     for word in words {
         if word.required {
-            keys.insert(alloc, word.key.as_str())?;
+            keys.push(word.key.copy()?)?;
         }
     }
-    Ok(keys)
+    Ok(KeySet::of(keys))
 }
 
 /// What refused pairs are called in the program.

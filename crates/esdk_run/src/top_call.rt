@@ -8,6 +8,7 @@ ghost use Rattle.esdk_args.specs.declared.request.Request.TheVariants as request
 ghost use Rattle.esdk_args.specs.Words.{words_of};
 ghost use Rattle.esdk_base.specs.Streams.{OnTold};
 ghost use Rattle.esdk_list.specs.List.{input_fault};
+ghost use Rattle.esdk_run.specs.Ages.{KeepsAges};
 ghost use Rattle.esdk_run.specs.EachJob.{DoesWhatItMust, SaysEachJudgement};
 ghost use Rattle.esdk_run.specs.Objects.{as_before, objects};
 ghost use Rattle.esdk_run.specs.Run.{AgreesWith, RunsAs, draws, is_status, reads_clock, reads_input, reads_shelf, writes_shelf};
@@ -155,6 +156,11 @@ pub fn run<P: Keyring, S: Source, O: Sink, R: Sink, F: Shelf, W: Entropy, C: Clo
         → RunsWhatIsHeld (trees_of P.meaning plugs.items result.tree) name
         (F.state shelf.old) (F.state shelf.new)
         (O.state output.old) (O.state output.new) result.status.code }
+
+    // `batch`: an entry of the cache is as old as the clock says, which is read once in each turn.
+    ensures ages { (name : List ℕ) → words_of words.now ≡ Ok (requests.Batch name)
+        → KeepsAges name (F.state shelf.old) (O.state output.old) (O.state output.new)
+        (C.moments clock.old) (C.moments clock.new) result.status.code }
 
     // `batch`: what is read for each decrypt job, by the keys of a steady tree that tells them, with
     // the job's given and required keys. Of jobs that the shelf tells each that must be is done,

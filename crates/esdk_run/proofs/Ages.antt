@@ -1,0 +1,56 @@
+-- What a batch's report shows of the ages of its cache's entries.
+use Rattle.std.proofs.Common.{◌≡◌, ◌∙◌, ℕ, List, [], ◌++◌, Ok, Err, inl, inr, sym, ap, subst}
+use Rattle.std.specs.Prelude.{IfOk}
+use Rattle.std.specs.declared.option.Option.{Option}
+use Rattle.std.specs.declared.result.Result.{Result}
+use Rattle.esdk_base.specs.Clock.{Moments}
+use Rattle.esdk_base.specs.Streams.{EntropyState, ShelfState, SinkState}
+use Rattle.keyring_trait.specs.declared.journal.JournalLine.{JournalLine}
+use Rattle.cmm_caching.specs.Journal.{KeepsWithin}
+use Rattle.cmm_caching.specs.Limits.{LimitsValue}
+use Rattle.job_file.specs.JobFile.{JobFile}
+use Rattle.batch_report.specs.declared.job_lines.JobLine.{JobLine}
+use Rattle.esdk_args.specs.declared.request.Request.{Request}
+use Rattle.esdk_args.specs.declared.request.Request.TheVariants as requests
+use Rattle.esdk_args.specs.declared.request.WordsFault.{WordsFault}
+use Rattle.esdk_batch.specs.Batch.{RunsBatch, SaysWhatWasServed}
+use Rattle.esdk_batch.specs.Managing.{Managing}
+use Rattle.esdk_batch.specs.Moments.{ReadsClock}
+use Rattle.esdk_report.specs.declared.failure.Failure.{Failure}
+use Rattle.esdk_report.specs.Report.{Reports}
+use Rattle.esdk_run.specs.Ages.{KeepsAges, ServesInTime, ShowsAges}
+use Rattle.esdk_run.proofs.Showing.{each_has_a_line}
+use Rattle.esdk_run.proofs.Statuses.{not_done, not_seven}
+
+-- a batch whose journal was empty before
+pub serves_in_time : {E : Type 0} (manager : Managing) (file : JobFile) (old new : ShelfState) (entropy spent : EntropyState) (before after shown : List JournalLine) (clock ticked : Option Moments)
+    (limits : Option LimitsValue) (r : Result (List JobLine) E) → before ≡ [] → shown ≡ after → limits ≡ file.cache → KeepsWithin limits shown → ReadsClock clock ticked before after
+    → IfOk r (RunsBatch manager file 0 old new entropy spent before after) → IfOk r (ServesInTime file clock ticked)
+serves_in_time manager file old new entropy spent before after shown clock ticked limits (Err error) none is_shown is within reads runs = tt
+serves_in_time manager file old new entropy spent before after shown clock ticked limits (Ok lines) none is_shown is within reads runs =
+    let all : after ≡ runs.gained = runs.journal ∙ ap (λ (b : List JournalLine). b ++ runs.gained) none in
+    record {
+      each = each_has_a_line _ _ _ file.jobs runs.draws lines runs.jobs;
+      journal = after;
+      within = subst (λ (j : List JournalLine). KeepsWithin file.cache j) is_shown (subst (λ (l : Option LimitsValue). KeepsWithin l shown) is within);
+      served = subst (λ (j : List JournalLine). SaysWhatWasServed file.jobs lines j) (sym all) runs.served;
+      moments = subst (λ (b : List JournalLine). ReadsClock clock ticked b after) none reads;
+    }
+
+-- ---- a run of `batch`, as its command ends it
+
+pub ages_kept : (name other : List ℕ) (shelf : ShelfState) (output put : SinkState) (clock ticked : Option Moments) (code : ℕ) → other ≡ name
+    → ShowsAges other shelf output put clock ticked → KeepsAges name shelf output put clock ticked code
+ages_kept name other shelf output put clock ticked code same shows = λ reported. subst (λ (n : List ℕ). ShowsAges n shelf output put clock ticked) same shows
+
+pub no_ages : (name : List ℕ) (shelf : ShelfState) (output put report reported : SinkState) (clock ticked : Option Moments) (code : ℕ) (failure : Failure) → Reports failure code report reported
+    → KeepsAges name shelf output put clock ticked code
+no_ages name shelf output put report reported clock ticked code failure said (inl zero) = absurd (not_done failure code report reported said zero)
+no_ages name shelf output put report reported clock ticked code failure said (inr seven) = absurd (not_seven failure code report reported said seven)
+
+-- and as its words ask for it
+pub ages_asked : (words : Result Request WordsFault) (name other : List ℕ) (shelf : ShelfState) (output put : SinkState) (clock ticked : Option Moments) (code : ℕ) → words ≡ Ok (requests.Batch other)
+    → KeepsAges other shelf output put clock ticked code → words ≡ Ok (requests.Batch name) → KeepsAges name shelf output put clock ticked code
+ages_asked words name other shelf output put clock ticked code was keeps is =
+    let same : other ≡ name = (let both : Ok (requests.Batch other) ≡ Ok (requests.Batch name) = sym was ∙ is in cc) in
+    subst (λ (n : List ℕ). KeepsAges n shelf output put clock ticked code) same keeps
