@@ -1,11 +1,15 @@
 //! The seeded generator, and the system's clock.
 
-use esdk_base::{Clock, Entropy, RngEntropy, SystemClock};
+use esdk_base::{Clock, Entropy};
+use esdk_system::{RngEntropy, SystemClock};
 use rand_chacha::ChaCha20Rng;
 use rand_core::SeedableRng;
 
 /// The first second of 2020, as `date` prints it.
 const START_OF_2020: u64 = 1_577_836_800;
+
+/// The first second of 2100.
+const START_OF_2100: u64 = 4_102_444_800;
 
 /// Whether the next bytes are these.
 fn fills(entropy: &mut RngEntropy, want: [u8; 8]) -> bool {
@@ -39,6 +43,7 @@ fn without_a_generator_each_fill_fails(rt: HostRuntime) {
 }
 
 #[test]
-fn the_present_is_after_2020(rt: HostRuntime) {
-    assert!(rt; SystemClock::new(rt).now() > START_OF_2020);
+fn the_present_is_in_this_century_in_seconds(rt: HostRuntime) {
+    let now = SystemClock::new(rt).now();
+    assert!(rt; START_OF_2020 < now && now < START_OF_2100);
 }

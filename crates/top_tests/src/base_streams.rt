@@ -1,7 +1,8 @@
 //! Readers and writers of std, as sources and sinks.
 
 use crate::scratch_path::scratch_path;
-use esdk_base::{Sink, Source, StdSink, StdSource};
+use esdk_base::{Sink, Source};
+use esdk_system::{StdSink, StdSource};
 use std::fs::File;
 use std::io::{ErrorKind, Read};
 use std::{fs, io};
@@ -33,6 +34,27 @@ impl Read for Breaking {
         buf[0] = 7;
         Ok(1)
     }
+}
+
+/// A reader that is interrupted at each read but the last, and then gives one byte.
+#[derive(Drop)]
+struct Interrupted(u32);
+
+impl Read for Interrupted {
+    fn read(&mut self, buf: &mut [u8]) -> io::Result<usize> {
+        if self.0 > 0 || buf.is_empty() {
+            self.0 = self.0.saturating_sub(1);
+            return Err(io::Error::from(ErrorKind::Interrupted));
+        }
+        buf[0] = 7;
+        Ok(1)
+    }
+}
+
+#[test]
+fn a_read_that_is_interrupted_is_made_again(rt: HostRuntime) {
+    assert!(rt; gives(&mut StdSource::new(Interrupted(999)), &[7]));
+    assert!(rt; breaks(&mut StdSource::new(Interrupted(1000))));
 }
 
 #[test]

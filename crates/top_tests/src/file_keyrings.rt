@@ -3,8 +3,9 @@
 
 use crate::known_wraps::{known_cipher, opened, other_cipher, other_key, wrapping_key, wraps};
 use crate::scratch_path::scratch_path;
-use esdk_base::{FileShelf, Shelf};
+use esdk_base::{Readers, Shelf};
 use esdk_memory::MemShelf;
+use esdk_system::FileShelf;
 use keydir_keyring::KeydirKeyring;
 use keyring_trait::Keyring;
 use raw_aes_keyring::RawError;
@@ -28,7 +29,9 @@ fn a_namespace_is_reserved(rt: HostRuntime) {
 /// Makes the file hold this key alone.
 fn places(rt: HostRuntime, path: &str, key: &[u8; 32]) -> bool {
     let mut shelf = FileShelf::new(rt);
-    shelf.create(path).is_ok() && shelf.append(path, key).is_ok()
+    shelf.create(path).is_ok()
+        && shelf.append(path, key).is_ok()
+        && shelf.finish(path, Readers::Owner).is_ok()
 }
 
 /// Whether the keyring makes the known wrap, and opens it.

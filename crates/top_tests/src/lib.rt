@@ -30,6 +30,8 @@ mod managers;
 #[cfg(test)]
 mod opening;
 #[cfg(test)]
+mod placing_shelf;
+#[cfg(test)]
 mod recalling;
 #[cfg(test)]
 mod scratch_path;

@@ -3,6 +3,7 @@
 
 use crate::base_memory::{blob, numbers};
 use crate::opening::known_manager;
+use crate::placing_shelf::PlacingShelf;
 use desk_core::Desk;
 use esdk_base::{Entropy, Shelf};
 use esdk_batch::{BatchReport, Jobs, read_jobs, report_text, run_batch};
@@ -123,4 +124,30 @@ fn second_fails(alloc: Global, call: u64) -> bool {
 fn jobs_are_run_in_turns(rt: HostRuntime) {
     assert!(rt; second_fails(rt.alloc(), 4));
     assert!(rt; second_fails(rt.alloc(), 6));
+}
+
+/// Whether the second of these jobs fails alone where its file can't be put in its place, and the
+/// files of both are finished once.
+fn second_stays_out(alloc: Global, jobs: &Jobs, files: MemShelf, bytes: Blob) -> bool {
+    let mut shelf = PlacingShelf::new(files);
+    let mut entropy = ListEntropy::new(bytes, Vec::new(alloc));
+    second_fails_at_a_desk(alloc, jobs, &mut shelf, &mut entropy) && shelf.finished_each_once()
+}
+
+/// Whether it does on a shelf in memory.
+fn second_is_unplaced(alloc: Global) -> bool {
+    let mut files = MemShelf::new(alloc, Vec::new(alloc));
+    if !takes_files(alloc, &mut files) {
+        return false;
+    }
+    match (two_jobs(alloc), blob(alloc, &[0x22; 152])) {
+        (Some(jobs), Some(bytes)) => second_stays_out(alloc, &jobs, files, bytes),
+        _ => false,
+    }
+}
+
+/// What a job wrote is put in its place once, and where that fails it isn't done.
+#[test]
+fn what_a_job_wrote_is_finished_once(rt: HostRuntime) {
+    assert!(rt; second_is_unplaced(rt.alloc()));
 }

@@ -1,0 +1,94 @@
+//! A shelf that can't put one file in its place.
+
+ghost use Rattle.std.specs.Prelude.{◌≡◌, ◌≤◌, None};
+ghost use Rattle.esdk_fields.specs.Counts.{Rose};
+
+use esdk_base::{Failed, Readers, Shelf};
+use esdk_memory::MemShelf;
+use std::alloc::AllocError;
+
+/// The name that it can't finish.
+const STUCK: &str = "d";
+
+/// A shelf in memory that can't finish one name, and counts how often that name was finished and
+/// how often others were, each for anyone.
+#[derive(Drop)]
+pub(crate) struct PlacingShelf {
+    shelf: MemShelf,
+    given: u64,
+    faults: u64,
+    stuck: u32,
+    placed: u32,
+}
+
+impl PlacingShelf {
+    /// That shelf, none of whose names was finished.
+    pub(crate) fn new(shelf: MemShelf) -> PlacingShelf {
+        PlacingShelf {
+            shelf,
+            given: 0,
+            faults: 0,
+            stuck: 0,
+            placed: 0,
+        }
+    }
+
+    /// Whether the name that it can't finish was finished once, and so was one other.
+    pub(crate) fn finished_each_once(&self) -> bool {
+        self.stuck == 1 && self.placed == 1
+    }
+
+    /// Counts a fault.
+    fn fault(&mut self) -> Failed
+        ensures given { self.new.given ≡ self.old.given }
+        ensures later { self.old.faults ≤ self.new.faults }
+        ensures rose { Rose self.old.faults self.new.faults }
+    {
+        self.faults = self.faults.saturating_add(1);
+        Failed
+    }
+}
+
+impl Shelf for PlacingShelf {
+    ghost state = { λ s. record { files = None; given = s.given; faults = s.faults } };
+
+    fn read_at(&mut self, name: &str, at: u64, out: &mut [u8]) -> Result<usize, Failed> {
+        match self.shelf.read_at(name, at, out) {
+            Ok(count) => {
+                self.given = self.given.saturating_add(count as u64);
+                Ok(count)
+            }
+            Err(_) => Err(self.fault()),
+        }
+    }
+
+    fn create(&mut self, name: &str) -> Result<(), Failed> {
+        match self.shelf.create(name) {
+            Ok(()) => Ok(()),
+            Err(_) => Err(self.fault()),
+        }
+    }
+
+    fn append(&mut self, name: &str, bytes: &[u8]) -> Result<(), Failed> {
+        match self.shelf.append(name, bytes) {
+            Ok(()) => Ok(()),
+            Err(_) => Err(self.fault()),
+        }
+    }
+
+    fn will_read(&mut self, name: &str) -> Result<(), AllocError> {
+        Ok(())
+    }
+
+    fn finish(&mut self, name: &str, readers: Readers) -> Result<(), Failed> {
+        let Readers::Anyone = readers else {
+            return Ok(());
+        };
+        if name != STUCK {
+            self.placed = self.placed.saturating_add(1);
+            return Ok(());
+        }
+        self.stuck = self.stuck.saturating_add(1);
+        Err(self.fault())
+    }
+}
