@@ -1,0 +1,71 @@
+# esdk-into: outputs that are whole or not there. tests/scripts reads it.
+# shellcheck shell=sh disable=SC2016,SC2094,SC2154 # texts for other shells; one file read and written; names of tests/scripts
+
+outputs() {
+    printf 'text' >plain
+    run "$share/esdk-into" made cat <plain
+    ended "an output" 0
+    want "an output is put in place" cmp made plain
+    want "a new file is its owner's alone" [ "$(stat -c %a made)" = 600 ]
+    chmod 640 made
+    run "$share/esdk-into" made tr a-z A-Z <made
+    want "input and output are one file" holds made TEXT
+    want "a file keeps its mode" [ "$(stat -c %a made)" = 640 ]
+    run "$share/esdk-into" made sh -c 'echo half; exit 3'
+    ended "a command that fails" 3
+    want "a command that fails changes nothing" holds made TEXT
+    run "$share/esdk-into" none sh -c 'echo half; exit 3'
+    want "a command that fails makes nothing" [ ! -e none ]
+    run "$share/esdk-into" made sh -c 'echo half; kill -9 $$'
+    ended "a command that is killed" 137
+    run "$share/esdk-into" made ./no-command
+    ended "a command that isn't there" 127
+    run "$share/esdk-into" made cat <&-
+    ended "a command that has no input" 1
+    run "$share/esdk-into" made sh -c 'ulimit -f 1; head -c 100000 /dev/zero'
+    ended "an output that doesn't fit" 153
+    run "$share/esdk-into" made bash -o pipefail -c '(echo half; exit 3) | cat'
+    ended "a pipe that fails on its left" 3
+    want "after all of these the file is as before" holds made TEXT
+    want "after all of these nothing is left" nothing_left .
+    for file in '-x' 'two words' "$(printf 'line\nfeed')" "$(printf 'byte\377')" "$(head -c 250 /dev/zero | tr '\0' l)"; do
+        run "$share/esdk-into" "$file" echo "$file"
+        want "a name as $file" holds "./$file" "$file"
+    done
+    run "$share/esdk-into" sealed "$ESDK" encrypt --keyring=key file=plain <plain
+    run "$share/esdk-into" opened "$ESDK" decrypt --keyring=key file=plain <sealed
+    want "the program's output" cmp opened plain
+    head -c 150 sealed >cut.esdk
+    run "$share/esdk-into" opened "$ESDK" decrypt --keyring=key file=plain <cut.esdk
+    ended "the program's refusal" 1
+    want "the program's line" holds report 'esdk: M10 Truncated'
+}
+
+places() {
+    ln -s plain link
+    for file in link folder /dev/null missing/file; do
+        run "$share/esdk-into" "$file" echo no
+        ended "a place as $file" 4
+    done
+    want "what a link leads to is as before" holds plain text
+    for file in '' folder/; do
+        run "$share/esdk-into" "$file" echo no
+        ended "a name as $file" 2
+    done
+    run "$share/esdk-into" made
+    ended "no command" 2
+}
+
+# A command that wrote a half is stopped, together with what it started.
+stopped_outputs() {
+    for signal in HUP INT QUIT TERM; do
+        rm -f going
+        begin "$share/esdk-into" made sh -c 'echo half; sleep 60 & echo $! >going.part; mv going.part going; wait'
+        want "a command that goes on" await [ -e going ]
+        stop "$signal"
+        ended "$signal in the middle" "$((128 + $(number_of "$signal")))"
+        want "$signal in the middle changes nothing" holds made TEXT
+        want "$signal in the middle leaves nothing" nothing_left .
+        want "$signal in the middle ends what the command started" await is_gone "$(cat going)"
+    done
+}

@@ -1,0 +1,278 @@
+#!/usr/bin/env python3
+"""Stands in for the program `esdk` in tests of the scripts around it, where it isn't built.
+
+It has `encrypt`, `decrypt`, `list` and `batch`, keyring files of one key line, and the lines and
+statuses that these tests meet. What it writes and reads are messages of the format, by
+vectors/opening.py over the package `cryptography`; it proves nothing, and holds files whole.
+"""
+
+import json
+import os
+import pathlib
+import sys
+
+HERE = pathlib.Path(__file__).resolve().parent
+sys.path.insert(0, str(HERE.parent / "vectors"))
+sys.dont_write_bytecode = True
+
+from cryptography.exceptions import InvalidTag  # noqa: E402
+from cryptography.hazmat.primitives.ciphers.aead import AESGCM  # noqa: E402
+from opening import (  # noqa: E402
+    FINAL,
+    FRAMED,
+    SUITE,
+    Reader,
+    Refused,
+    context_text,
+    derived,
+    read_context,
+    sized,
+    unit_aad,
+    unwrap,
+    wrapped,
+)
+
+
+class Fault(Exception):
+    """A line on standard error, and the status."""
+
+    def __init__(self, status, line):
+        super().__init__(line)
+        self.status = status
+        self.line = line
+
+
+def keyring(name):
+    try:
+        text = pathlib.Path(name).read_bytes()
+    except OSError:
+        raise Fault(4, "X3 ShelfFault") from None
+    parts = text.removesuffix(b"\n").split(b" ")
+    if len(parts) != 3:
+        raise Fault(3, "K2 BadShape 1")
+    try:
+        namespace, name, key = (part.decode() for part in parts)
+        if len(key) != 64:
+            raise ValueError
+        return namespace, name, bytes.fromhex(key)
+    except ValueError:
+        raise Fault(3, "K3 BadKey 1") from None
+
+
+def seal(text, wrapping, frame, stored, context):
+    """A message in frames. The required pairs are those of the context that aren't stored."""
+    message_id, data_key = os.urandom(32), os.urandom(32)
+    key = derived(data_key, message_id, SUITE + b"DERIVEKEY")
+    header = b"\x02" + SUITE + message_id + sized(context_text(stored)) + (1).to_bytes(2, "big")
+    header += wrapped(wrapping, data_key, context) + bytes([FRAMED]) + frame.to_bytes(4, "big")
+    header += derived(data_key, message_id, b"COMMITKEY")
+    required = context_text({name: context[name] for name in context if name not in stored})
+    parts = [header, AESGCM(key).encrypt(bytes(12), b"", header + required)]
+    count = max(1, -(-len(text) // frame))
+    for sequence in range(1, count + 1):
+        content = text[(sequence - 1) * frame : sequence * frame]
+        number = sequence.to_bytes(4, "big")
+        iv = bytes(8) + number
+        final = sequence == count
+        kind = b"Final Frame" if final else b"Frame"
+        mark = FINAL + number + iv + len(content).to_bytes(4, "big") if final else number + iv
+        parts.append(mark + AESGCM(key).encrypt(iv, content, unit_aad(message_id, kind, sequence, len(content))))
+    return b"".join(parts)
+
+
+def read_header(reader):
+    if reader.take(1) != b"\x02":
+        raise Fault(1, f"M1 BadVersion {reader.rest.getvalue()[0]}")
+    if reader.take(2) != SUITE:
+        raise Fault(1, "M2 UnsupportedSuite")
+    message_id = reader.take(32)
+    stored = read_context(reader.sized())
+    entries = [(reader.sized(), reader.sized(), reader.sized()) for _ in range(reader.number(2))]
+    _, frame, commitment = reader.number(1), reader.number(4), reader.take(32)
+    return message_id, stored, entries, frame, commitment
+
+
+def opened(message, wrapping, given, write):
+    """Writes the text of a message frame by frame, and answers its whole context."""
+    reader = Reader(message)
+    message_id, stored, entries, frame, commitment = read_header(reader)
+    header = message[: reader.rest.tell()]
+    for name, value in given.items():
+        if stored.get(name, value) != value:
+            raise Fault(1, f"M12 ContextMismatch {json.dumps(name)}")
+    context = {**stored, **given}
+    try:
+        data_key = unwrap(entries, [wrapping], context)
+    except Refused:
+        raise Fault(1, "M15 NoKeyOpens") from None
+    if derived(data_key, message_id, b"COMMITKEY") != commitment:
+        raise Fault(1, "M16 Commitment")
+    key = derived(data_key, message_id, SUITE + b"DERIVEKEY")
+    required = context_text({name: given[name] for name in given if name not in stored})
+    try:
+        AESGCM(key).decrypt(bytes(12), reader.take(16), header + required)
+    except InvalidTag:
+        raise Fault(1, "M17 HeaderTag") from None
+    final, sequence = False, 1
+    while not final:
+        mark = reader.take(4)
+        final = mark == FINAL
+        if (reader.number(4) if final else int.from_bytes(mark, "big")) != sequence:
+            raise Fault(1, f"M18 WrongSequence {sequence}")
+        iv = reader.take(12)
+        length = reader.number(4) if final else frame
+        kind = b"Final Frame" if final else b"Frame"
+        try:
+            sealed = reader.take(length + 16)
+            write(AESGCM(key).decrypt(iv, sealed, unit_aad(message_id, kind, sequence, length)))
+        except InvalidTag:
+            raise Fault(1, f"M20 UnitTag {sequence}") from None
+        sequence += 1
+    if reader.rest.read(1):
+        raise Fault(1, "M22 TrailingBytes")
+    return context
+
+
+def open_whole(message, wrapping, given, write):
+    try:
+        return opened(message, wrapping, given, write)
+    except Refused:
+        raise Fault(1, "M10 Truncated") from None
+
+
+def options(words, known):
+    """The options and the pairs of a command's words."""
+    given, pairs, words = {}, [], list(words)
+    while words:
+        word = words.pop(0)
+        if word == "--":
+            pairs += words
+            break
+        name, found, value = word.partition("=")
+        if not name.startswith("-"):
+            pairs.append(word)
+        elif name not in known or name in given or not (found or words):
+            raise Fault(2, "words NotRead")
+        else:
+            given[name] = value if found else words.pop(0)
+    return given, pairs
+
+
+def split_pairs(words):
+    """The pairs, and which of their keys are required."""
+    pairs, required = {}, set()
+    for at, word in enumerate(words, 1):
+        name, found, value = word.partition("=")
+        if not found or not name.removesuffix(":"):
+            raise Fault(2, f"words BadPair {at}")
+        if name.endswith(":"):
+            name = name[:-1]
+            required.add(name)
+        if name in pairs:
+            raise Fault(6, f"Q3 DuplicateKey {json.dumps(name)}")
+        pairs[name] = value
+    return pairs, required
+
+
+def without(pairs, required):
+    return {name: value for name, value in pairs.items() if name not in required}
+
+
+def encrypt(words):
+    given, pairs = options(words, ["--keyring", "--frame"])
+    if "--keyring" not in given:
+        raise Fault(2, "words NotRead")
+    if not given.get("--frame", "1").isdigit():
+        raise Fault(2, "words BadNumber --frame")
+    context, required = split_pairs(pairs)
+    wrapping = keyring(given["--keyring"])
+    text = sys.stdin.buffer.read()
+    frame = int(given.get("--frame", "4096"))
+    sys.stdout.buffer.write(seal(text, wrapping, frame, without(context, required), context))
+
+
+def decrypt(words):
+    given, pairs = options(words, ["--keyring"])
+    if "--keyring" not in given:
+        raise Fault(2, "words NotRead")
+    context, _ = split_pairs(pairs)
+    wrapping = keyring(given["--keyring"])
+    context = open_whole(sys.stdin.buffer.read(), wrapping, context, sys.stdout.buffer.write)
+    sys.stderr.write(json.dumps(context, ensure_ascii=False, sort_keys=True, separators=(",", ":")) + "\n")
+
+
+def listing(_):
+    try:
+        header = read_header(Reader(sys.stdin.buffer.read()))
+    except Refused:
+        raise Fault(1, "M10 Truncated") from None
+    print("version: 2\nsuite: 0478\ncontext: " + json.dumps(header[1], separators=(",", ":"), ensure_ascii=False))
+
+
+def job_file(name):
+    """The keyring file's name and the jobs, judged as the program does where these tests need it."""
+    try:
+        text = pathlib.Path(name).read_bytes()
+    except OSError:
+        raise Fault(4, "X3 ShelfFault") from None
+    if len(text) > 1048576:
+        raise Fault(3, "K10 FileTooLong")
+    try:
+        file = json.loads(text.decode())
+    except ValueError:
+        raise Fault(3, "K1 NotJson") from None
+    jobs = file["jobs"]
+    if file["version"] != 1 or not 1 <= len(jobs) <= 1000:
+        raise Fault(3, "K2 BadShape 0")
+    taken = {job["from"] for job in jobs} | {file["keyring"], name}
+    for job in jobs:
+        if job["to"] in taken:
+            raise Fault(3, f"K9 NamesClash {json.dumps(job['to'])}")
+        taken.add(job["to"])
+    return file["keyring"], jobs
+
+
+def run_job(job, wrapping):
+    try:
+        read = pathlib.Path(job["from"]).read_bytes()
+        if job["do"] == "encrypt":
+            context = job.get("context", {})
+            made = [seal(read, wrapping, 4096, without(context, job.get("required", [])), context)]
+        else:
+            made = []
+            open_whole(read, wrapping, job.get("given", {}), made.append)
+        pathlib.Path(job["to"]).write_bytes(b"".join(made))
+    except OSError:
+        raise Fault(4, "X3 ShelfFault") from None
+
+
+def batch(words):
+    given, _ = options(words, ["--jobs"])
+    name, jobs = job_file(given["--jobs"])
+    wrapping = keyring(name)
+    status = 0
+    for at, job in enumerate(jobs, 1):
+        try:
+            run_job(job, wrapping)
+            print("job", at, job["do"], "done direct")
+        except Fault as fault:
+            print("job", at, job["do"], fault.line, "none")
+            status = 7
+    sys.exit(status)
+
+
+def main():
+    commands = {"encrypt": encrypt, "decrypt": decrypt, "list": listing, "batch": batch}
+    words = sys.argv[1:]
+    try:
+        if not words or words[0] not in commands or any("\udc80" <= letter <= "\udcff" for letter in "".join(words)):
+            raise Fault(2, "words NotRead")
+        commands[words[0]](words[1:])
+    except Fault as fault:
+        sys.stdout.flush()
+        print("esdk:", fault.line, file=sys.stderr)
+        sys.exit(fault.status)
+
+
+if __name__ == "__main__":
+    main()
