@@ -1,0 +1,204 @@
+# shellcheck shell=bash disable=SC2154
+# Files of a batch that are one file, are no files, or change while it runs; and their rights. Part of tests/outside, which reads it.
+
+# Runs a batch in the folder, and says what came to the job of this number: batch_in FOLDER NUMBER
+# Counts it as wrong where the status isn't 0 or 7, or the run doesn't end.
+batch_in() {
+    local status=0
+    (cd "$1" && timeout 20 "$program" batch --jobs jobs >../output 2>../report) || status=$?
+    [ "$status" = 0 ] || [ "$status" = 7 ] || fail "a batch in $1" "status $status, $(cat report)"
+    echo "status $status, $(sed -n "s/^job $2 //p" output)" >>answers
+}
+
+# Makes a folder anew with the files of a batch: a keyring file with a plug, its key, two plaintexts and a folder.
+make_folder() {
+    rm -rf "$1"
+    mkdir -p "$1/sub"
+    cp three "$1/ring"
+    cp esdk.key nine "$1"
+    echo another >"$1/other"
+}
+
+# Makes the other names of a file, and says all of them: other_names FOLDER FILE
+other_names() {
+    ln "$1/$2" "$1/hard_$2"
+    ln -s "$2" "$1/soft_$2"
+    ln -s "$(readlink -f "$1")/$2" "$1/far_$2"
+    echo "./$2" ".//$2" "sub/../$2" "$(readlink -f "$1")/$2" "hard_$2" "soft_$2" "far_$2"
+}
+
+# The checksums of these files of a folder.
+sums() { (cd "$1" && cat ring esdk.key nine other jobs | cksum); }
+
+# Counts it as wrong where the last answer isn't this one: answered WHAT "PATTERN"
+answered() { [[ $(tail -n 1 answers) =~ ^($2)$ ]] || fail "$1" "$(tail -n 1 answers)"; }
+
+# A job whose `to` is a name of a file that is read, and isn't the name by which it is read. That job is refused, and all files are as before.
+names_of_one_file() {
+    local file name before
+    : >answers
+    for file in nine other ring jobs esdk.key; do
+        make_folder one
+        : >one/jobs
+        for name in $(other_names one "$file") $([ "$file" != esdk.key ] || echo esdk.key); do
+            job_file one/jobs ring 4 "encrypt nine first" "encrypt nine $name" "encrypt other third"
+            before=$(sums one)
+            batch_in one 2
+            answered "writing $file as $name" 'status 7, encrypt X3 ShelfFault (direct|none)'
+            [ "$(sums one)" = "$before" ] || fail "writing $file as $name" "a file changed"
+            opens_as "writing $file as $name" one/first nine
+            opens_as "writing $file as $name" one/third one/other
+            no_parts "writing $file as $name" one
+            rm -f one/first one/third
+        done
+    done
+    show_places "a job that writes a file that is read, by another of its names"
+}
+
+# Two jobs that write one file by two names: the first is done, the second refused.
+two_names_of_an_output() {
+    local name
+    : >answers
+    make_folder one
+    for name in ./out .//out sub/../out "$(readlink -f one)/out" soft_out; do
+        [ "$name" != soft_out ] || { echo before >one/out; ln -s out one/soft_out; }
+        job_file one/jobs ring 4 "encrypt nine out" "encrypt other $name"
+        batch_in one 2
+        answered "writing out and $name" 'status 7, encrypt X3 ShelfFault direct'
+        opens_as "writing out and $name" one/out nine
+        no_parts "writing out and $name" one
+        rm -f one/out
+    done
+    show_places "two jobs that write one file by two names"
+}
+
+# A link is followed to what isn't read, and stays a link; one that leads to nothing is refused.
+links_as_outputs() {
+    : >answers
+    make_folder one
+    echo before >one/sub/out
+    ln -s sub/out one/link
+    ln -s sub/nothing one/loose
+    job_file one/jobs ring 4 "encrypt nine link" "encrypt other loose"
+    batch_in one 1
+    answered "writing by a link" 'status 7, encrypt done direct'
+    [ -L one/link ] || fail "writing by a link" "the link is gone"
+    opens_as "writing by a link" one/sub/out nine
+    [ ! -e one/sub/nothing ] || fail "writing by a link to nothing" "a file was made"
+    no_parts "writing by a link" one
+    no_parts "writing by a link" one/sub
+    show_places "a job that writes by a link to another folder"
+}
+
+# Named pipes, devices and folders in place of each file: refused at once, and left alone.
+no_regular_files() {
+    local name status
+    make_folder one
+    mkfifo one/pipe
+    ln -s pipe one/soft_pipe
+    : >answers
+    for name in pipe soft_pipe sub /dev/null /dev/zero; do
+        job_file one/jobs ring 4 "encrypt $name first" "encrypt nine second"
+        batch_in one 1
+        answered "reading $name" 'status 7, encrypt X3 ShelfFault (direct|none)'
+        opens_as "beside reading $name" one/second nine
+        job_file one/jobs ring 4 "encrypt nine $name" "encrypt nine second"
+        batch_in one 1
+        answered "writing $name" 'status 7, encrypt X3 ShelfFault (direct|none)'
+        if [ ! -p one/pipe ] || [ ! -L one/soft_pipe ] || [ ! -d one/sub ] || [ ! -c /dev/null ]; then fail "writing $name" "it is gone"; fi
+        job_file one/jobs "$name" 4 "encrypt nine second"
+        refused_file one "a batch with $name as keyring file" jobs
+        refused_file one "a batch with $name as job file" "$name"
+        no_parts "$name" one
+    done
+    show_places "a job with a named pipe, a device or a folder as source or output"
+}
+
+# A batch that can't read one of its own files: refused_file FOLDER WHAT JOBS
+refused_file() {
+    local status=0
+    (cd "$1" && timeout 20 "$program" batch --jobs "$3" >../output 2>../report) || status=$?
+    ended "$2" "$status" 4 'esdk: X3 ShelfFault'
+}
+
+# Who may read what was written: has_rights WHAT FILE MODE
+has_rights() {
+    local mode
+    mode=$(stat -c %a "$2")
+    echo "mode $mode" >>answers
+    [ "$mode" = "$3" ] || fail "$1" "$2 has mode $mode, and not $3"
+}
+
+rights() {
+    local mask mode
+    make_folder one
+    cp framed one/message
+    job_file one/jobs ring 4 "encrypt nine sealed" "decrypt message opened"
+    : >answers
+    for mask in 000 022 027 077; do
+        (umask "$mask" && cd one && "$program" batch --jobs jobs >../output 2>../report) || fail "umask $mask" "$(cat output report)"
+        has_rights "umask $mask" one/sealed "$(printf '%o' $((0666 & ~0$mask)))"
+        has_rights "umask $mask" one/opened 600
+        rm -f one/sealed one/opened
+    done
+    for mode in 600 640 666 755; do
+        echo before | tee one/sealed >one/opened
+        chmod "$mode" one/sealed one/opened
+        (cd one && "$program" batch --jobs jobs >../output 2>../report) || fail "over a file of mode $mode" "$(cat output report)"
+        has_rights "over a file of mode $mode" one/sealed "$mode"
+        has_rights "over a file of mode $mode" one/opened "$mode"
+    done
+    no_parts rights one
+    show_places "the rights of files that a batch writes"
+    : >answers
+    chmod 444 one/sealed
+    echo before >one/opened
+    batch_in one 1
+    answered "over a file that nobody may write" 'status 7, encrypt X3 ShelfFault (direct|none)'
+    show_places "over a file that nobody may write"
+}
+
+# While a batch of 64 jobs side by side runs, other files are renamed over its sources, and an output is replaced by a link: each message that is done is of one file whole.
+changing_files() {
+    local i pid line status=0 jobs=()
+    rm -rf many
+    mkdir many
+    cp ring many/ring
+    for i in $(seq 8); do
+        head -c 6000000 /dev/urandom >many/in"$i"
+        head -c 6000000 /dev/urandom >many/new"$i"
+        cp many/in"$i" many/old"$i"
+        jobs+=("encrypt in$i out$i")
+    done
+    job_file many/jobs ring 64 "${jobs[@]}"
+    echo victim >many/victim
+    (cd many && exec "$program" batch --jobs jobs >../output 2>../report) &
+    pid=$!
+    for i in $(seq 8); do
+        sleep 0.04
+        cp many/new"$i" many/other"$i"
+        mv many/other"$i" many/in"$i"
+        [ "$i" != 2 ] || ln -sf victim many/out2
+    done
+    wait $pid || status=$?
+    ended "a batch whose sources are replaced while it runs" "$status" "0 7" ''
+    echo victim | cmp -s - many/victim || fail "an output that is replaced by a link while a batch runs" "it was written by the link"
+    for i in $(seq 8); do
+        line=$(sed -n "s/^job $i //p" output)
+        [ ! -L many/out"$i" ] || continue
+        [[ $line == 'encrypt done direct' ]] || { [ "$line" = 'encrypt X3 ShelfFault direct' ] || fail "source $i" "$line"; continue; }
+        "$program" decrypt --keyring ring <many/out"$i" >opened 2>opening || fail "source $i" "$(cat opening)"
+        cmp -s opened many/old"$i" || cmp -s opened many/new"$i" || fail "source $i" "its message is of no file that was there"
+    done
+    no_parts "a batch whose sources are replaced while it runs" many
+    rm -rf many
+}
+
+files_of_a_batch() {
+    names_of_one_file
+    two_names_of_an_output
+    links_as_outputs
+    no_regular_files
+    rights
+    changing_files
+}
