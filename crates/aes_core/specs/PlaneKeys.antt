@@ -14,5 +14,7 @@ plane_key schedule zero = key_at schedule 0
 plane_key schedule (suc r) = with_constant (key_at schedule (suc r))
 
 -- planes have the round keys of a schedule in each of `count` blocks
-pub record HasKeys {P : Type 0} (bit : P → ℕ → ℕ → ℕ) (count : ℕ) (keys : List (Planes P)) (schedule : List (List ℕ)) : Type 0 where
-  pub is_key : (r b : ℕ) → r < 15 → b < count → (d : Planes P) → block bit (slice_index_or keys r d) b ≡ plane_key schedule r
+pub record HasKeys {P : Type 0} (bit : P → ℕ → ℕ → ℕ) (count : ℕ) (keys : List (Planes P))
+    (schedule : List (List ℕ)) : Type 0 where
+  pub is_key : (r b : ℕ) → r < 15 → b < count → (d : Planes P)
+      → block bit (slice_index_or keys r d) b ≡ plane_key schedule r

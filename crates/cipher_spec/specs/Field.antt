@@ -9,8 +9,8 @@ abbrev pub add_if : ℕ → ℕ → ℕ → ℕ
 add_if zero z v = z
 add_if (suc bit) z v = bit_xor z v
 
--- b times x, modulo x ^ 8 + x ^ 4 + x ^ 3 + x + 1 (4.2.1): a shift to the left, and {1b} added where
--- bit 7 was 1
+-- b times x, modulo x ^ 8 + x ^ 4 + x ^ 3 + x + 1 (4.2.1): a shift to the left, and {1b} added
+-- where bit 7 was 1
 abbrev pub xtime : ℕ → ℕ
 xtime b = add_if (bit_at b 7) (b * 2 % 2 ^ 8) 0x1B
 

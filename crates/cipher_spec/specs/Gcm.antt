@@ -1,5 +1,5 @@
--- AES-256 in Galois/Counter Mode (NIST SP 800-38D), with initialization vectors of 12 bytes and tags
--- of 16 bytes, as functions on lists of bytes. Section numbers are the standard's.
+-- AES-256 in Galois/Counter Mode (NIST SP 800-38D), with initialization vectors of 12 bytes and
+-- tags of 16 bytes, as functions on lists of bytes. Section numbers are the standard's.
 use Rattle.std.specs.Prelude.{ℕ, zero, suc, ◌+◌, ◌*◌, ◌/◌, ◌%◌, ◌^◌, List, [], ◌∷◌, ◌++◌, length, take, drop, map, replicate, slice_index, bit_xor, Option, Some, None, if◌then◌else◌}
 use Rattle.std.specs.List.{range_with_len}
 use Rattle.std.specs.Int.{w32, w64, w128, from_be_bytes, to_be_bytes}
@@ -21,15 +21,16 @@ counter initial (suc n) = inc32 (counter initial n)
 unfoldable pub mask : List ℕ → List ℕ → ℕ → ℕ
 mask key initial i = slice_index (aes key (counter initial (i / 16))) (i % 16)
 
--- GCTR: each byte of a text, and the enciphered counter blocks' byte at its place added; of the last
--- block no more than the text has (6.5)
+-- GCTR: each byte of a text, and the enciphered counter blocks' byte at its place added; of the
+-- last block no more than the text has (6.5)
 abbrev pub gctr : List ℕ → List ℕ → List ℕ → List ℕ
 gctr key initial text =
     map (λ i. bit_xor (slice_index text i) (mask key initial i)) (range_with_len 0 (length text))
 
 -- block k of a text, with zeros for the bytes past the text's end
 abbrev pub block_at : List ℕ → ℕ → ℕ
-block_at text k = from_be_bytes w128 (map (λ i. slice_index text (16 * k + i)) (range_with_len 0 16))
+block_at text k = from_be_bytes w128 (map (λ i. slice_index text (16 * k + i))
+    (range_with_len 0 16))
 
 -- a text in blocks, filled up with zeros to whole ones (7.1, step 4)
 abbrev pub blocks : List ℕ → List ℕ
@@ -55,7 +56,8 @@ cipher_of key iv text = gctr key (inc32 (pre_counter iv)) text
 -- the authentication tag of associated data and a ciphertext (7.1, steps 4 to 6; 7.2, steps 5 to 7)
 unfoldable pub tag_of : List ℕ → List ℕ → List ℕ → List ℕ → List ℕ
 tag_of key iv aad cipher =
-    gctr key (pre_counter iv) (to_be_bytes w128 (ghash (hash_key key) (blocks aad ++ blocks cipher ++ lengths aad cipher ∷ [])))
+    gctr key (pre_counter iv) (to_be_bytes w128 (ghash (hash_key key)
+    (blocks aad ++ blocks cipher ++ lengths aad cipher ∷ [])))
 
 -- authenticated encryption: the ciphertext and the tag (7.1)
 unfoldable pub sealed : List ℕ → List ℕ → List ℕ → List ℕ → List ℕ × List ℕ

@@ -1,6 +1,6 @@
--- The hash of Galois/Counter Mode (NIST SP 800-38D). A block is 128 bits, as a number below 2 ^ 128:
--- the standard's bit 0 is the highest bit of the number, and the sum of two blocks is their xor.
--- Section numbers are the standard's.
+-- The hash of Galois/Counter Mode (NIST SP 800-38D). A block is 128 bits, as a number below 2 ^
+-- 128: the standard's bit 0 is the highest bit of the number, and the sum of two blocks is their
+-- xor. Section numbers are the standard's.
 use Rattle.std.specs.Prelude.{ℕ, zero, suc, ◌-◌, ◌*◌, ◌/◌, ◌%◌, ◌^◌, List, [], ◌∷◌, bit_xor}
 use Rattle.std.specs.Int.{bit_at}
 use Rattle.cipher_spec.specs.Field.{add_if}
@@ -9,8 +9,8 @@ use Rattle.cipher_spec.specs.Field.{add_if}
 abbrev pub reduction : ℕ
 reduction = 225 * 2 ^ 120
 
--- the block after v among V 0, V 1, ..: v moved one bit to the right, and R added where the bit that
--- falls out is 1 (6.3, step 3)
+-- the block after v among V 0, V 1, ..: v moved one bit to the right, and R added where the bit
+-- that falls out is 1 (6.3, step 3)
 abbrev pub half : ℕ → ℕ
 half v = add_if (v % 2) (v / 2) reduction
 

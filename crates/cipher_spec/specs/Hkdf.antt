@@ -1,13 +1,13 @@
--- HKDF (RFC 5869), the derivation of keys from a key, over any digest with blocks of `block` bytes and
--- digests of `size` bytes, the RFC's HashLen. Section numbers are the RFC's.
+-- HKDF (RFC 5869), the derivation of keys from a key, over any digest with blocks of `block` bytes
+-- and digests of `size` bytes, the RFC's HashLen. Section numbers are the RFC's.
 use Rattle.std.specs.Prelude.{ℕ, zero, suc, List, [], ◌∷◌, ◌++◌, take}
 use Rattle.std.specs.Int.{div_ceil}
 use Rattle.sha2.specs.Sha256.{sha256}
 use Rattle.sha2.specs.Sha512.{sha512}
 use Rattle.cipher_spec.specs.Hmac.{hmac}
 
--- PRK = HMAC-Hash(salt, IKM) (2.2). A salt that is not given is a string of HashLen zeros; the empty
--- salt means the same, since HMAC pads its key with zeros.
+-- PRK = HMAC-Hash(salt, IKM) (2.2). A salt that is not given is a string of HashLen zeros; the
+-- empty salt means the same, since HMAC pads its key with zeros.
 unfoldable pub extract : (List ℕ → List ℕ) → ℕ → List ℕ → List ℕ → List ℕ
 extract digest block salt ikm = hmac digest block salt ikm
 

@@ -1,5 +1,5 @@
 -- Sets of keys: what they hold with one more key, and with more of them.
-use Rattle.std.proofs.Common.{◌≡◌, ◌↔◌, ◌⊎◌, inl, inr, ℕ, ◌+◌, Bool, true, false, ◌||◌, List, [], ◌∷◌, ◌++◌, refl, sym, ap, subst, ◌∙◌, append_assoc, arith, Ordering}
+use Rattle.std.proofs.Common.{◌≡◌, ◌↔◌, ◌⊎◌, inl, inr, ℕ, ◌+◌, Bool, true, false, ◌||◌, List, [], ◌∷◌, ◌++◌, get_or, refl, sym, ap, subst, ◌∙◌, append_assoc, arith, Ordering}
 use Rattle.std.specs.Prelude.{Contains}
 use Rattle.std.specs.List.{AllByRecursion, list_all}
 use Rattle.std.specs.List.Sorted.{IsStrictlySortedBy}
@@ -9,10 +9,12 @@ use Rattle.std.specs.Str.{bytes_eq, is_utf8}
 use Rattle.std.specs.Cmp.Lexicographic.{bytes_decides}
 use Rattle.std.proofs.lemmas.Cmp.{nat_list_cmp_total}
 use Rattle.std.proofs.lemmas.Bool.{or_cases, or_left, or_right, and_parts}
-use Rattle.std.proofs.lemmas.List.{append-nil}
+use Rattle.std.proofs.lemmas.List.{append-nil, get_or-map, length-map}
 use Rattle.std.proofs.lemmas.List.Elements.{All-from_recursion, recursion_from_All}
 use Rattle.std.proofs.lemmas.List.Sums.{AllPass-from_list_all, list_all-from_AllPass}
 use Rattle.std.proofs.lemmas.Map.Keys.{Less-from_sorted, sorted_from_all_adjacent}
+use Rattle.context_codec.specs.Context.{KeyValue, IsAscending}
+use Rattle.context_codec.specs.Parts.{keys_of}
 use Rattle.context_codec.specs.KeySet.{AreAscendingKeys, IsKeySet, has, with_key, with_keys}
 use Rattle.context_codec.proofs.Keys.{key_cmp, equal_same, greater_less}
 use Rattle.context_codec.proofs.Members.{passes_from, list_any-from}
@@ -165,3 +167,12 @@ with_keys_behind front (k ∷ more) up =
 -- the keys of a set, put one by one into the empty set
 pub with_keys-from_nil : (keys : List (List ℕ)) → AreAscendingKeys keys → with_keys [] keys ≡ keys
 with_keys-from_nil keys up = with_keys_behind [] keys (sorted_keys keys up)
+
+-- ---- the keys of a context
+
+-- the keys of pairs that ascend by their keys ascend
+pub AreAscendingKeys-keys_of : (pairs : List KeyValue) → IsAscending pairs → AreAscendingKeys (keys_of pairs)
+AreAscendingKeys-keys_of pairs up k d lt =
+    let first : get_or (keys_of pairs) k d ≡ (get_or pairs k (d, d)).0 = get_or-map (λ (p : KeyValue). p.0) pairs k (d, d) d (omega (arith, length-map pairs (λ (p : KeyValue). p.0))) in
+    let second : get_or (keys_of pairs) (k + 1) d ≡ (get_or pairs (k + 1) (d, d)).0 = get_or-map (λ (p : KeyValue). p.0) pairs (k + 1) (d, d) d (omega (arith, length-map pairs (λ (p : KeyValue). p.0))) in
+    rw (first, second) (up k (d, d) (omega (arith, length-map pairs (λ (p : KeyValue). p.0))))

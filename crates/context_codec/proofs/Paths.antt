@@ -7,9 +7,9 @@ use Rattle.esdk_fields.specs.declared.faults.Fault.TheVariants.{BadContext}
 use Rattle.context_codec.specs.Context.{KeyValue, are_texts}
 use Rattle.context_codec.specs.Split.{context_fault}
 use Rattle.context_codec.specs.Found.{FindsPairs, FindsTexts}
-use Rattle.context_codec.specs.Read.{RefusesAs, refusal}
+use Rattle.context_codec.specs.Read.{ReadRefusesAs, refusal}
 
-pub refuses : (bytes : List ℕ) (fault : ContextFault) → context_fault bytes ≡ Some fault → RefusesAs (refusal fault) (context_fault bytes)
+pub refuses : (bytes : List ℕ) (fault : ContextFault) → context_fault bytes ≡ Some fault → ReadRefusesAs (refusal fault) (context_fault bytes)
 refuses bytes fault e = ap (option_map BadContext) e
 
 split_cases : (o : Option (Vec KeyValue)) (pairs : Option (List KeyValue)) → FindsPairs o pairs → pairs ≡ option_map (λ v. v.items) o

@@ -1,5 +1,5 @@
--- Encryption contexts, and the one text of each.
--- AWS Encryption SDK Specification: "Structures", Encryption Context; "Message Header", AAD, Key Value Pairs.
+-- Encryption contexts, and the one text of each. AWS Encryption SDK Specification: "Structures",
+-- Encryption Context; "Message Header", AAD, Key Value Pairs.
 use Rattle.std.specs.Prelude.{◌≡◌, ℕ, ◌≤◌, Bool, true, ◌&&◌, List, [], ◌∷◌, ◌++◌, length}
 use Rattle.std.specs.Ordering.{nat_cmp}
 use Rattle.std.specs.declared.cmp.Ordering.TheVariants.{Less}

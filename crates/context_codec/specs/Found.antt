@@ -29,4 +29,5 @@ IsSortedByKeys pairs = IsSortedBy (λ p q. is_lt (slice_cmp nat_cmp p.0 q.0)) pa
 pub record HasTie (pairs : List KeyValue) : Type 0 where
   pub at : ℕ
   pub within : at + 1 < length pairs
-  pub tied : (d : KeyValue) → ¬ (KeyLess (slice_index_or pairs at d) (slice_index_or pairs (at + 1) d))
+  pub tied : (d : KeyValue) → ¬ (KeyLess (slice_index_or pairs at d)
+      (slice_index_or pairs (at + 1) d))

@@ -1,5 +1,6 @@
--- The pairs that a header stores and those that a caller gives, joined into the whole context.
--- AWS Encryption SDK Specification, "Default CMM", Decrypt Materials; "Structures", Encryption Context. The faults M12 and M14 are this library's.
+-- The pairs that a header stores and those that a caller gives, joined into the whole context. AWS
+-- Encryption SDK Specification, "Default CMM", Decrypt Materials; "Structures", Encryption Context.
+-- The faults M12 and M14 are this library's.
 use Rattle.std.specs.Prelude.{◌≡◌, ℕ, Bool, false, not, List, length, Option, Some, None, option_map, find, nat_lt, if◌then◌else◌}
 use Rattle.std.specs.Map.{lookup}
 use Rattle.std.specs.Option.{option_or}
@@ -26,9 +27,11 @@ mismatch stored given = option_map (λ p. ContextMismatch p.0) (find (clashes gi
 
 -- M14: the text of the whole context is longer than a field of two bytes can say
 abbrev pub too_long : List KeyValue → Option Fault
-too_long whole = if nat_lt 65535 (length (ctx_text whole)) then Some (ContextTooLong (length (ctx_text whole))) else None
+too_long whole = if nat_lt 65535 (length (ctx_text whole))
+    then Some (ContextTooLong (length (ctx_text whole))) else None
 
--- What is wrong with the two together. The stored pairs ascend, so that M12 names the least such key.
+-- What is wrong with the two together. The stored pairs ascend, so that M12 names the least such
+-- key.
 unfoldable pub join_fault : List KeyValue → List KeyValue → Option Fault
 join_fault stored given = option_or (mismatch stored given) (too_long (whole_of stored given))
 

@@ -22,7 +22,8 @@ has keys key = list_any (bytes_eq key) keys
 -- one more key, at its place; a key that is there stays
 unfoldable pub with_key : List (List ℕ) → List ℕ → List (List ℕ)
 with_key [] key = key ∷ []
-with_key (k ∷ keys) key = match_ordering (slice_cmp nat_cmp key k) (key ∷ k ∷ keys) (k ∷ keys) (k ∷ with_key keys key)
+with_key (k ∷ keys) key = match_ordering (slice_cmp nat_cmp key k) (key ∷ k ∷ keys) (k ∷ keys)
+    (k ∷ with_key keys key)
 
 -- these keys, and more keys one after another
 abbrev pub with_keys : List (List ℕ) → List (List ℕ) → List (List ℕ)

@@ -1,6 +1,7 @@
--- The parts of an encryption context: the pairs that a header stores, and those that are only authenticated.
--- AWS Encryption SDK Specification, "Structures", Encryption Context; "Required Encryption Context CMM"; "Message Header", AAD.
-use Rattle.std.specs.Prelude.{ℕ, Bool, not, List, [], ◌∷◌, filter, unwrap_or}
+-- The parts of an encryption context: the pairs that a header stores, and those that are only
+-- authenticated. AWS Encryption SDK Specification, "Structures", Encryption Context; "Required
+-- Encryption Context CMM"; "Message Header", AAD.
+use Rattle.std.specs.Prelude.{ℕ, Bool, not, List, [], ◌∷◌, map, filter, unwrap_or}
 use Rattle.std.specs.List.{list_any}
 use Rattle.std.specs.BTreeMap.{insert_entry}
 use Rattle.std.specs.Ordering.{nat_cmp}
@@ -12,6 +13,10 @@ use Rattle.context_codec.specs.Split.{split}
 -- some pair has the key
 abbrev pub holds : List KeyValue → List ℕ → Bool
 holds pairs key = list_any (has_key key) pairs
+
+-- the keys of the pairs, in their order
+abbrev pub keys_of : List KeyValue → List (List ℕ)
+keys_of pairs = map (λ p. p.0) pairs
 
 -- the pair's key is one of these
 abbrev pub is_among : List (List ℕ) → KeyValue → Bool

@@ -19,7 +19,8 @@ pub record IsPairAt (key : List ℕ) (pairs : List KeyValue) (i : ℕ) : Type 0 
 pub record IsPlace (key : List ℕ) (pairs : List KeyValue) (i : ℕ) : Type 0 where
   pub within : i ≤ length pairs
   pub absent : list_any (has_key key) pairs ≡ false
-  pub inserted : (value : List ℕ) → insert_entry (slice_cmp nat_cmp) pairs key value ≡ insert pairs i (key, value)
+  pub inserted : (value : List ℕ)
+      → insert_entry (slice_cmp nat_cmp) pairs key value ≡ insert pairs i (key, value)
 
 -- The key is at this index among the keys.
 pub record IsKeyAt (key : List ℕ) (keys : List (List ℕ)) (i : ℕ) : Type 0 where

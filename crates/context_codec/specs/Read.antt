@@ -6,10 +6,10 @@ use Rattle.esdk_fields.specs.declared.refusals.FieldError.{FieldError}
 use Rattle.esdk_fields.specs.declared.refusals.FieldError.TheVariants as errors
 
 -- the error is M3 with what is wrong; want of memory may come at any time
-abbrev pub RefusesAs : FieldError → Option ContextFault → Type 0
-RefusesAs errors.Memory fault = Unit {0}
-RefusesAs errors.Stopped fault = ⊥
-RefusesAs (errors.Fault f) fault = option_map BadContext fault ≡ Some f
+abbrev pub ReadRefusesAs : FieldError → Option ContextFault → Type 0
+ReadRefusesAs errors.Memory fault = Unit {0}
+ReadRefusesAs errors.Stopped fault = ⊥
+ReadRefusesAs (errors.Fault f) fault = option_map BadContext fault ≡ Some f
 
 -- M3 as an error
 abbrev pub refusal : ContextFault → FieldError

@@ -5,7 +5,8 @@ use Rattle.std.specs.List.Sorted.{IsPermutation}
 use Rattle.std.specs.Str.{IsUtf8}
 use Rattle.context_codec.specs.Context.{KeyValue, pairs_text, IsAscending}
 
--- The bytes are the count and the pairs one after another, in this order. No pairs are also spelled by no bytes.
+-- The bytes are the count and the pairs one after another, in this order. No pairs are also spelled
+-- by no bytes.
 abbrev pub IsSpelling : List ℕ → List KeyValue → Type 0
 IsSpelling bytes pairs = (bytes ≡ pairs_text pairs) ⊎ ((bytes ≡ []) × (pairs ≡ []))
 
@@ -17,7 +18,8 @@ AreTexts pairs = All (λ p. IsUtf8 p.0 × IsUtf8 p.1) pairs
 abbrev pub AreDistinct : List KeyValue → Type 0
 AreDistinct pairs = AllPairs (λ p q. p.0 ≢ q.0) pairs
 
--- The bytes are a spelling of texts with distinct keys, which are the context's pairs in some order.
+-- The bytes are a spelling of texts with distinct keys, which are the context's pairs in some
+-- order.
 pub record IsSpelledContext (bytes : List ℕ) (context : List KeyValue) : Type 0 where
   pub pairs : List KeyValue
   pub spelled : IsSpelling bytes pairs

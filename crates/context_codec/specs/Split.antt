@@ -1,4 +1,5 @@
--- Reading the text of a context: AWS Encryption SDK Specification, "Message Header", AAD, Key Value Pairs.
+-- Reading the text of a context: AWS Encryption SDK Specification, "Message Header", AAD, Key Value
+-- Pairs.
 use Rattle.std.specs.Prelude.{◌≡◌, ℕ, Bool, true, not, List, [], ◌∷◌, length, Option, Some, None, ◌==◌, if◌then◌else◌, count_by}
 use Rattle.std.specs.List.{list_all}
 use Rattle.std.specs.List.Sorted.{IsPermutation}
@@ -40,7 +41,8 @@ keys_once pairs = list_all (λ p. count_by (has_key p.0) pairs == 1) pairs
 abbrev pub fault_in : Option (List KeyValue) → Option ContextFault
 fault_in None = Some Length
 fault_in (Some pairs) =
-    if not (are_texts pairs) then Some Utf8 else if not (keys_once pairs) then Some Duplicate else None
+    if not (are_texts pairs) then Some Utf8 else if not (keys_once pairs) then Some Duplicate
+    else None
 
 -- what is wrong with the bytes, as the text of a context
 unfoldable pub context_fault : List ℕ → Option ContextFault

@@ -1,6 +1,6 @@
 //! Contexts, and what is asked of them.
 
-ghost use Rattle.std.specs.Prelude.{◌≡◌, ◌≢◌, ◌↔◌, [], length, All, IsNone, IfOk, option_map};
+ghost use Rattle.std.specs.Prelude.{◌≡◌, ◌≢◌, ◌↔◌, not, [], length, All, IsNone, IfOk, find, option_map};
 ghost use Rattle.std.specs.Map.{lookup};
 ghost use Rattle.std.specs.Str.{bytes_eq};
 ghost use Rattle.context_codec.specs.Context.{IsAscending, IsContext, ctx_text};
@@ -9,6 +9,7 @@ ghost use Rattle.context_codec.specs.Parts.{holds};
 use crate::lengths::text_len;
 use crate::pair::Pair;
 use crate::places::pair_place;
+use esdk_fields::Text;
 use std::alloc::{AllocError, Global};
 use std::marker::Model;
 
@@ -66,6 +67,19 @@ impl Context {
         ensures { result ≡ holds self.now key.now }
     {
         value_of(&self.pairs, key).is_some()
+    }
+
+    /// The first of the keys that no pair has. Of keys that ascend it is the least such.
+    pub fn first_missing<'a>(&self, keys: &'a [Text]) -> Option<&'a Text>
+        ensures { option_map (λ key. key.now) result ≡ find
+            (λ key. not (holds self.now key)) keys.now }
+    {
+        for key in keys {
+            if !self.contains_key(key.as_str()) {
+                return Some(key);
+            }
+        }
+        None
     }
 
     /// The pairs, in the order of their keys.

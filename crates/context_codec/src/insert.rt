@@ -5,7 +5,7 @@ ghost use Rattle.std.specs.BTreeMap.{insert_entry};
 ghost use Rattle.std.specs.Ordering.{nat_cmp};
 ghost use Rattle.std.specs.Cmp.Lexicographic.{slice_cmp};
 ghost use Rattle.context_codec.specs.Context.{ctx_text};
-ghost use Rattle.context_codec.specs.Insert.{grown, refusal_of, RefusesAs};
+ghost use Rattle.context_codec.specs.Insert.{grown, refusal_of, RefusesAs, pair_error_text};
 
 use crate::context::Context;
 use crate::pair::Pair;
@@ -24,12 +24,27 @@ pub enum PairError {
     Memory,
 }
 
-impl fmt::Display for PairError {
-    fn fmt<W: fmt::Write>(&self, f: &mut fmt::Formatter<W>) -> fmt::Result {
+impl PairError {
+    /// What is shown of it.
+    #[tactic(auto, unfolding(crate::specs::Insert::pair_error_text))]
+    fn shown(&self) -> &'static str
+        ensures { result.now ≡ pair_error_text self.now }
+    {
         match self {
-            PairError::Refusal(refusal) => fmt::Display::fmt(refusal, f),
-            PairError::Memory => f.write_str("memory ran out"),
+            PairError::Refusal(refusal) => refusal.name(),
+            PairError::Memory => "memory ran out",
         }
+    }
+}
+
+impl fmt::Display for PairError {
+    ghost use Rattle.std.specs.Prelude.{Some};
+    ghost use Rattle.context_codec.specs.Insert.{pair_error_text};
+
+    ghost output = { λ e. Some (pair_error_text e) };
+
+    fn fmt<W: fmt::Write>(&self, f: &mut fmt::Formatter<W>) -> fmt::Result {
+        f.write_str(self.shown())
     }
 }
 

@@ -1,7 +1,7 @@
 //! The laws of contexts, of the bytes that spell them and of key sets, each a function with an
 //! empty body whose contract is the law.
 
-ghost use Rattle.context_codec.specs.Laws.{SplitsSpellings, ReadsSpelledContexts, SpellsSomeContext, SpellsOneContext, TakesTexts, RefusesOtherBytes, RefusesOtherTexts, RefusesDuplicates, ReadsBack, HoldsOneMoreKey, AscendsWithOneMoreKey, JoinsPairs, FindsTheLeastKey, FindsThePairOfTheLeastKey};
+ghost use Rattle.context_codec.specs.Laws.{SplitsSpellings, ReadsSpelledContexts, SpellsSomeContext, SpellsOneContext, TakesTexts, RefusesOtherBytes, RefusesOtherTexts, RefusesDuplicates, ReadsBack, HoldsOneMoreKey, AscendsWithOneMoreKey, KeepsAscendingKeys, JoinsPairs, FindsTheLeastKey, FindsThePairOfTheLeastKey};
 
 /// The reader splits bytes into pairs exactly where the bytes are the spelling of these pairs: the
 /// count and the pairs one after another.
@@ -60,6 +60,11 @@ pub fn one_more_key_is_held()
 /// With one more key, at its place, the keys of a set still ascend.
 pub fn one_more_key_keeps_the_order()
     ensures { AscendsWithOneMoreKey }
+{}
+
+/// The keys of a set, put one by one into the empty set, are that set again.
+pub fn a_set_is_made_of_its_keys()
+    ensures { KeepsAscendingKeys }
 {}
 
 /// The whole of stored and given pairs ascends, and holds the stored pairs and the given ones whose

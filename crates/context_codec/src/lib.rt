@@ -27,11 +27,11 @@ pub use insert::PairError;
 pub use joining::{Joined, join};
 pub use key_set::KeySet;
 pub use laws::{
-    duplicate_keys_are_refused, one_context_is_spelled, one_more_key_is_held,
-    one_more_key_keeps_the_order, other_bytes_are_refused, other_texts_are_refused,
-    spelled_contexts_are_read, spelled_texts_are_taken, spellings_are_split,
-    stored_and_given_pairs_are_joined, taken_bytes_spell_a_context, the_least_key_is_found,
-    the_pair_of_the_least_key_is_found, written_contexts_are_read,
+    a_set_is_made_of_its_keys, duplicate_keys_are_refused, one_context_is_spelled,
+    one_more_key_is_held, one_more_key_keeps_the_order, other_bytes_are_refused,
+    other_texts_are_refused, spelled_contexts_are_read, spelled_texts_are_taken,
+    spellings_are_split, stored_and_given_pairs_are_joined, taken_bytes_spell_a_context,
+    the_least_key_is_found, the_pair_of_the_least_key_is_found, written_contexts_are_read,
 };
 pub use pair::Pair;
 pub use read::read_field;

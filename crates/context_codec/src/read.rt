@@ -6,7 +6,7 @@ ghost use Rattle.std.specs.List.Sorted.{IsPermutation};
 ghost use Rattle.context_codec.specs.Context.{IsAscending};
 ghost use Rattle.context_codec.specs.Split.{context_fault, SpellsContext};
 ghost use Rattle.context_codec.specs.Found.{FindsTexts, IsSortedByKeys, HasTie};
-ghost use Rattle.context_codec.specs.Read.{RefusesAs, refusal};
+ghost use Rattle.context_codec.specs.Read.{ReadRefusesAs, refusal};
 
 use crate::context::Context;
 use crate::pair::Pair;
@@ -26,7 +26,7 @@ pub fn read_field(alloc: Global, bytes: &[u8]) -> Result<Context, FieldError>
     requires { length bytes.now ≤ 65535 }
     ensures found { IfOk result (SpellsContext bytes.now) }
     ensures sound { OnOk result (context_fault bytes.now ≡ None) }
-    ensures fault { IfErr result (λ e. RefusesAs e (context_fault bytes.now)) }
+    ensures fault { IfErr result (λ e. ReadRefusesAs e (context_fault bytes.now)) }
 {
     let Some(raw) = split_of(alloc, bytes)? else {
         return Err(refused(ContextFault::Length));

@@ -1,4 +1,5 @@
--- Encrypted data keys and their text. Standard: AWS Encryption SDK, message header, "Encrypted Data Key Entries".
+-- Encrypted data keys and their text. Standard: AWS Encryption SDK, message header, "Encrypted Data
+-- Key Entries".
 use Rattle.std.specs.Prelude.{ℕ, ◌≤◌, List, ◌++◌, length}
 use Rattle.esdk_fields.specs.Sized.{sized}
 

@@ -1,4 +1,5 @@
--- Reading an encrypted data key, field by field. Standard: AWS Encryption SDK, message header, "Encrypted Data Key Entries".
+-- Reading an encrypted data key, field by field. Standard: AWS Encryption SDK, message header,
+-- "Encrypted Data Key Entries".
 use Rattle.std.specs.Prelude.{◌≡◌, Option, Some, None, Result, Ok, Err}
 use Rattle.esdk_fields.specs.Place.{Place}
 use Rattle.esdk_fields.specs.Reading.{Reading, Read, Wanting, Reader, ◌>>=◌, done}
@@ -17,7 +18,8 @@ abbrev pub ReadsPart : {X Y : Type 0} → (X → Y) → Option X → Place → R
 ReadsPart view (Some x) new reading = reading ≡ Read (view x) new
 ReadsPart view None new reading = reading ≡ Wanting
 
--- A whole entry was read, and the cursor stands behind it. Else, and where memory ran out, the cursor stays.
+-- A whole entry was read, and the cursor stands behind it. Else, and where memory ran out, the
+-- cursor stays.
 abbrev pub ReadsEntry : {E : Type 0} → Result (Option Entry) E → Place → Place → Type 0
 ReadsEntry (Ok (Some e)) old new = entry old ≡ Read e new
 ReadsEntry (Ok None) old new = (entry old ≡ Wanting) × (new ≡ old)

@@ -9,7 +9,8 @@ use Rattle.edk_codec.specs.EntryReader.{entry}
 
 -- bytes that begin with an entry's text are read as this entry, and reading stands behind the text
 abbrev pub WrittenIsRead : Type 0
-WrittenIsRead = (e : Entry) (rest : List ℕ) → IsEntry e → entry (start (edk_text e ++ rest)) ≡ Read e (record { at = length (edk_text e); left = rest })
+WrittenIsRead = (e : Entry) (rest : List ℕ) → IsEntry e
+    → entry (start (edk_text e ++ rest)) ≡ Read e (record { at = length (edk_text e); left = rest })
 
 -- where an entry is read, the bytes begin with its text, and reading stands behind it
 pub record BeginsWithEntry (bytes : List ℕ) (e : Entry) (end : Place) : Type 0 where
@@ -18,7 +19,8 @@ pub record BeginsWithEntry (bytes : List ℕ) (e : Entry) (end : Place) : Type 0
   pub behind : end.at ≡ length (edk_text e)
 
 abbrev pub ReadIsWritten : Type 0
-ReadIsWritten = (bytes : List ℕ) (e : Entry) (end : Place) → AreBytes bytes → entry (start bytes) ≡ Read e end → BeginsWithEntry bytes e end
+ReadIsWritten = (bytes : List ℕ) (e : Entry) (end : Place) → AreBytes bytes
+    → entry (start bytes) ≡ Read e end → BeginsWithEntry bytes e end
 
 -- no bytes of an entry are refused: more are wanted, or it is read
 abbrev pub NoneRefused : Type 0

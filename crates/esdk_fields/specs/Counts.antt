@@ -1,4 +1,5 @@
--- Counts of 64 bits. A count never falls, and stands still at 2^64 - 1; there its object is called worn.
+-- Counts of 64 bits. A count never falls, and stands still at 2^64 - 1; there its object is called
+-- worn.
 use Rattle.std.specs.Prelude.{◌≡◌, ℕ, ◌+◌, ◌-◌, ◌^◌, ◌<◌, ◌≤◌, min, Result, OnOk, OnErr, MatchResult}
 
 -- a count once n more were counted

@@ -11,7 +11,8 @@ StopsAt stops.Memory reading = Unit {0}
 StopsAt stops.Wanting reading = reading ≡ Wanting
 StopsAt (stops.Fault fault at) reading = reading ≡ Refused fault at
 
--- The result, seen by view, is what is read, and the cursor stands behind it; or it stopped as the reading says.
+-- The result, seen by view, is what is read, and the cursor stands behind it; or it stopped as the
+-- reading says.
 abbrev pub Gives : {X Y : Type 0} → (X → Y) → Result X Stop → Place → Reading Y → Type 0
 Gives view (Ok x) next reading = reading ≡ Read (view x) next
 Gives view (Err stop) next reading = StopsAt stop reading

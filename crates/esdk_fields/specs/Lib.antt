@@ -9,3 +9,5 @@ pub mod Sequential
 pub mod Laws
 pub mod Lending
 pub mod Counts
+pub mod Names
+pub mod Limits

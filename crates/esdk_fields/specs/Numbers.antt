@@ -1,4 +1,5 @@
--- Big-endian numbers: the first byte is worth most. Standard: AWS Encryption SDK Specification, message format, where all numbers are unsigned and big-endian.
+-- Big-endian numbers: the first byte is worth most. Standard: AWS Encryption SDK Specification,
+-- message format, where all numbers are unsigned and big-endian.
 use Rattle.std.specs.Prelude.{ℕ, List}
 use Rattle.std.specs.Int.{Width, from_be_bytes, to_be_bytes}
 

@@ -5,7 +5,8 @@ use Rattle.esdk_fields.specs.declared.faults.Fault.{Fault}
 use Rattle.esdk_fields.specs.Place.{Place, past}
 use Rattle.esdk_fields.specs.Numbers.{from_big_endian}
 
--- A value was read, and the next field begins there. Or the field that ends at that offset has that fault. Or more bytes are wanted.
+-- A value was read, and the next field begins there. Or the field that ends at that offset has that
+-- fault. Or more bytes are wanted.
 pub data Reading (A : Type 0) : Type 0 where
   Read : (value : A) (next : Place) → Reading A
   Refused : (fault : Fault) (at : ℕ) → Reading A
@@ -36,7 +37,8 @@ done x p = Read x p
 
 -- n bytes, and what they mean
 abbrev pub field : {A : Type 0} → (List ℕ → A) → ℕ → Reader A
-field means n p = if nat_lt (length p.left) n then Wanting else Read (means (take n p.left)) (past n p)
+field means n p = if nat_lt (length p.left) n then Wanting
+    else Read (means (take n p.left)) (past n p)
 
 -- n bytes as they are
 abbrev pub bytes : ℕ → Reader (List ℕ)

@@ -1,4 +1,5 @@
--- The law that carries the order of judgement: fields are read from left to right, and each is judged at its last byte.
+-- The law that carries the order of judgement: fields are read from left to right, and each is
+-- judged at its last byte.
 use Rattle.std.specs.Prelude.{◌≡◌, ℕ, ◌-◌, ◌≤◌, drop, nat_le, if◌then◌else◌}
 use Rattle.esdk_fields.specs.Place.{Place, cut}
 use Rattle.esdk_fields.specs.Reading.{Reading, Read, Refused, Wanting, Reader}
@@ -21,7 +22,8 @@ KeepsRest p (Read x next) = next.left ≡ drop (next.at - p.at) p.left
 KeepsRest p (Refused fault at) = Unit {0}
 KeepsRest p Wanting = Unit {0}
 
--- Reading goes from left to right; it judges each field at its last byte, no earlier and no later; and it leaves the bytes that follow alone.
+-- Reading goes from left to right; it judges each field at its last byte, no earlier and no later;
+-- and it leaves the bytes that follow alone.
 pub record IsSequential {A : Type 0} (read : Reader A) : Type 0 where
   pub onward : (p : Place) → EndsFrom p.at (read p)
   pub cuts : (n : ℕ) (p : Place) → p.at ≤ n → read (cut n p) ≡ cut_reading n (read p)

@@ -1,5 +1,5 @@
--- Bytes behind their length. Standard: AWS Encryption SDK Specification, message header, where a length of two bytes stands before each field of
--- variable length.
+-- Bytes behind their length. Standard: AWS Encryption SDK Specification, message header, where a
+-- length of two bytes stands before each field of variable length.
 use Rattle.std.specs.Prelude.{ℕ, List, ◌++◌, length}
 use Rattle.std.specs.Int.{w16}
 use Rattle.esdk_fields.specs.Numbers.{to_big_endian}

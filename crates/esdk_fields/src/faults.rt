@@ -77,6 +77,8 @@ pub enum Fault {
     BadReserved(u32),
     /// M26: the length of the initialization vectors of a message of version 1 isn't 12; that byte.
     BadIvLength(u8),
+    /// M27: a group of the base64 armour is wrong; its number, from 1.
+    BadArmour(u64),
 }
 
 impl Fault {
@@ -120,6 +122,7 @@ impl Fault {
             Fault::BadType(kind) => Ok(Fault::BadType(*kind)),
             Fault::BadReserved(reserved) => Ok(Fault::BadReserved(*reserved)),
             Fault::BadIvLength(length) => Ok(Fault::BadIvLength(*length)),
+            Fault::BadArmour(group) => Ok(Fault::BadArmour(*group)),
         }
     }
 }

@@ -2,137 +2,91 @@
 //! whole line, with its values, is `fault_text`'s, `refusal_text`'s, `file_text`'s or
 //! `outside_text`'s.
 
+ghost use Rattle.std.specs.Prelude.{◌≡◌};
+ghost use Rattle.esdk_fields.specs.Names.{field_error_text};
+
 use crate::faults::{ContextFault, Fault};
 use crate::refusals::{FieldError, FileRefusal, Outside, Refusal};
 use std::error::Error;
 use std::fmt;
 
-impl Fault {
-    /// The number and the name.
-    fn name(&self) -> &'static str {
-        match self {
-            Fault::BadVersion(_) => "M1 BadVersion",
-            Fault::UnsupportedSuite(_) => "M2 UnsupportedSuite",
-            Fault::BadContext(_) => "M3 BadContext",
-            Fault::NoDataKeys => "M4 NoDataKeys",
-            Fault::TooManyDataKeys(_) => "M5 TooManyDataKeys",
-            Fault::BadContentType(_) => "M6 BadContentType",
-            Fault::BadFrameLength(_) => "M7 BadFrameLength",
-            Fault::HeaderTooLong(_) => "M8 HeaderTooLong",
-            Fault::UnitTooLong(_) => "M9 UnitTooLong",
-            Fault::Truncated => "M10 Truncated",
-            Fault::ReservedKey => "M11 ReservedKey",
-            Fault::ContextMismatch(_) => "M12 ContextMismatch",
-            Fault::MissingRequired(_) => "M13 MissingRequired",
-            Fault::ContextTooLong(_) => "M14 ContextTooLong",
-            Fault::NoKeyOpens => "M15 NoKeyOpens",
-            Fault::Commitment => "M16 Commitment",
-            Fault::HeaderTag => "M17 HeaderTag",
-            Fault::WrongSequence { .. } => "M18 WrongSequence",
-            Fault::FinalTooLong(_) => "M19 FinalTooLong",
-            Fault::UnitTag(_) => "M20 UnitTag",
-            Fault::BlockTooLong(_) => "M21 BlockTooLong",
-            Fault::TrailingBytes => "M22 TrailingBytes",
-            Fault::Uncommitted(_) => "M23 Uncommitted",
-            Fault::BadType(_) => "M24 BadType",
-            Fault::BadReserved(_) => "M25 BadReserved",
-            Fault::BadIvLength(_) => "M26 BadIvLength",
-        }
-    }
-}
-
 impl fmt::Display for Fault {
+    ghost use Rattle.std.specs.Prelude.{Some};
+    ghost use Rattle.esdk_fields.specs.Names.{fault_name};
+
+    ghost output = { λ e. Some (fault_name e) };
+
     fn fmt<W: fmt::Write>(&self, f: &mut fmt::Formatter<W>) -> fmt::Result {
         f.write_str(self.name())
-    }
-}
-
-impl Refusal {
-    /// The number and the name.
-    fn name(&self) -> &'static str {
-        match self {
-            Refusal::ReservedPrefix(_) => "Q1 ReservedPrefix",
-            Refusal::ContextTooLong(_) => "Q2 ContextTooLong",
-            Refusal::DuplicateKey(_) => "Q3 DuplicateKey",
-            Refusal::RequiredAbsent(_) => "Q4 RequiredAbsent",
-            Refusal::NoGenerator => "Q5 NoGenerator",
-            Refusal::GeneratorHasKey => "Q6 GeneratorHasKey",
-            Refusal::TooManyDataKeys(_) => "Q7 TooManyDataKeys",
-            Refusal::HeaderTooLong(_) => "Q8 HeaderTooLong",
-            Refusal::TooManyFrames => "Q9 TooManyFrames",
-            Refusal::OverDeclared(_) => "Q10 OverDeclared",
-        }
     }
 }
 
 impl fmt::Display for Refusal {
+    ghost use Rattle.std.specs.Prelude.{Some};
+    ghost use Rattle.esdk_fields.specs.Names.{refusal_name};
+
+    ghost output = { λ e. Some (refusal_name e) };
+
     fn fmt<W: fmt::Write>(&self, f: &mut fmt::Formatter<W>) -> fmt::Result {
         f.write_str(self.name())
-    }
-}
-
-impl FileRefusal {
-    /// The number and the name.
-    fn name(&self) -> &'static str {
-        match self {
-            FileRefusal::NotJson => "K1 NotJson",
-            FileRefusal::BadShape(_) => "K2 BadShape",
-            FileRefusal::BadKey(_) => "K3 BadKey",
-            FileRefusal::ReservedNamespace => "K4 ReservedNamespace",
-            FileRefusal::ClashingKeys(_, _) => "K5 ClashingKeys",
-            FileRefusal::TooDeep => "K6 TooDeep",
-            FileRefusal::TooManyLeaves => "K7 TooManyLeaves",
-            FileRefusal::NoSuchPlug(_) => "K8 NoSuchPlug",
-            FileRefusal::NamesClash(_) => "K9 NamesClash",
-            FileRefusal::FileTooLong => "K10 FileTooLong",
-            FileRefusal::NotRaw(_) => "K11 NotRaw",
-        }
     }
 }
 
 impl fmt::Display for FileRefusal {
+    ghost use Rattle.std.specs.Prelude.{Some};
+    ghost use Rattle.esdk_fields.specs.Names.{file_name};
+
+    ghost output = { λ e. Some (file_name e) };
+
     fn fmt<W: fmt::Write>(&self, f: &mut fmt::Formatter<W>) -> fmt::Result {
         f.write_str(self.name())
     }
 }
 
-impl Outside {
-    /// The number and the name.
-    fn name(&self) -> &'static str {
-        match self {
-            Outside::SourceFault => "X1 SourceFault",
-            Outside::SinkFault => "X2 SinkFault",
-            Outside::ShelfFault => "X3 ShelfFault",
-            Outside::EntropyFault => "X4 EntropyFault",
-            Outside::KeyringFault => "X5 KeyringFault",
-            Outside::InputTooLong => "X6 InputTooLong",
-        }
-    }
-}
-
 impl fmt::Display for Outside {
+    ghost use Rattle.std.specs.Prelude.{Some};
+    ghost use Rattle.esdk_fields.specs.Names.{outside_name};
+
+    ghost output = { λ e. Some (outside_name e) };
+
     fn fmt<W: fmt::Write>(&self, f: &mut fmt::Formatter<W>) -> fmt::Result {
         f.write_str(self.name())
     }
 }
 
 impl fmt::Display for ContextFault {
+    ghost use Rattle.std.specs.Prelude.{Some};
+    ghost use Rattle.esdk_fields.specs.Names.{kind_name};
+
+    ghost output = { λ e. Some (kind_name e) };
+
     fn fmt<W: fmt::Write>(&self, f: &mut fmt::Formatter<W>) -> fmt::Result {
-        f.write_str(match self {
-            ContextFault::Length => "Length",
-            ContextFault::Utf8 => "Utf8",
-            ContextFault::Duplicate => "Duplicate",
-        })
+        f.write_str(self.name())
+    }
+}
+
+impl FieldError {
+    /// What is shown of it: the fault's number and name, or what else came.
+    #[tactic(auto, unfolding(crate::specs::Names::field_error_text))]
+    fn shown(&self) -> &'static str
+        ensures { result.now ≡ field_error_text self.now }
+    {
+        match self {
+            FieldError::Fault(fault) => fault.name(),
+            FieldError::Stopped => "an earlier call answered an error",
+            FieldError::Memory => "memory ran out",
+        }
     }
 }
 
 impl fmt::Display for FieldError {
+    ghost use Rattle.std.specs.Prelude.{Some};
+    ghost use Rattle.esdk_fields.specs.Names.{field_error_text};
+
+    ghost output = { λ e. Some (field_error_text e) };
+
     fn fmt<W: fmt::Write>(&self, f: &mut fmt::Formatter<W>) -> fmt::Result {
-        f.write_str(match self {
-            FieldError::Fault(fault) => fault.name(),
-            FieldError::Stopped => "an earlier call answered an error",
-            FieldError::Memory => "memory ran out",
-        })
+        f.write_str(self.shown())
     }
 }
 

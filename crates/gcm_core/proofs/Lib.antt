@@ -1,5 +1,5 @@
 pub mod Hashing
-pub mod Comparing
+pub mod EqualBytes
 pub mod Counting
 pub mod Groups
 pub mod Masking

@@ -1,21 +1,29 @@
 //! A key for many texts.
 
-ghost use Rattle.std.specs.Prelude.{◌≡◌, ◌+◌, ◌-◌, ◌^◌, ◌≤◌, ◌++◌, false, length, if◌then◌else◌, Some, None};
+ghost use Rattle.std.specs.Prelude.{◌≡◌, ◌+◌, ◌-◌, ◌^◌, ◌≤◌, ◌++◌, false, length, if◌then◌else◌, Some, None, IfOk};
 ghost use Rattle.cipher_spec.specs.Gcm.{opened, sealed};
 
 use crate::authentication::{begin_over, hasher_of};
 use crate::seal::{open_hashing, seal_hashing};
 use aes_core::Key256;
 use ghash_core::Ghash;
+use std::alloc::{AllocError, Global};
 use std::marker::Model;
 
-/// A key of AES-256-GCM for many texts: the cipher's key, ready for use, and a hasher under its
-/// hash subkey (SP 800-38D, section 7.1, step 1), so that neither is made anew for each text. A
-/// contract sees the key's 32 bytes.
+/// What is made of a key alone: the cipher's key, ready for use, and a hasher under its hash subkey
+/// (SP 800-38D, section 7.1, step 1).
 #[derive(Drop)]
-pub struct GcmKey {
+struct Tables {
     cipher: Key256,
     hash: Ghash,
+}
+
+/// A key of AES-256-GCM for many texts, with what is made of it alone, so that it isn't made anew
+/// for each text. These tables are large, and lie on the heap, where they stay when the key is
+/// moved. A contract sees the key's 32 bytes.
+#[derive(Drop)]
+pub struct GcmKey {
+    tables: Box<Tables>,
 }
 
 impl Model for GcmKey {
@@ -24,19 +32,21 @@ impl Model for GcmKey {
 
     ghost Value = { List ℕ };
 
-    ghost view = { λ k. k.cipher };
+    ghost view = { λ k. k.tables.value.cipher };
 
-    ghost invariant = { λ k. k.hash.key ≡ hash_key k.cipher };
+    ghost invariant = { λ k. k.tables.value.hash.key ≡ hash_key k.tables.value.cipher };
 }
 
 impl GcmKey {
-    /// The key of these 32 bytes.
-    pub fn new(key: &[u8; 32]) -> GcmKey
-        ensures { result ≡ key.now }
+    /// The key of these 32 bytes. Fails only where memory runs out.
+    pub fn new(alloc: Global, key: &[u8; 32]) -> Result<GcmKey, AllocError>
+        ensures { IfOk result (λ made. made ≡ key.now) }
     {
         let cipher = Key256::new(key);
         let hash = hasher_of(&cipher);
-        GcmKey { cipher, hash }
+        Ok(GcmKey {
+            tables: Box::new(alloc, Tables { cipher, hash })?,
+        })
     }
 
     /// Enciphers the text in place, and answers the tag over the associated data, which is `first`
@@ -55,8 +65,9 @@ impl GcmKey {
             (first.now ++ second.now) text.old }
         ensures same { self.new ≡ self.old }
     {
-        begin_over(&mut self.hash, first, second);
-        seal_hashing(&self.cipher, &mut self.hash, iv, first, second, text)
+        let tables = &mut *self.tables;
+        begin_over(&mut tables.hash, first, second);
+        seal_hashing(&tables.cipher, &mut tables.hash, iv, first, second, text)
     }
 
     /// Answers whether the tag is that of the associated data, `first` and then `second`, and the
@@ -77,7 +88,16 @@ impl GcmKey {
         ensures kept { result ≡ false → text.new ≡ text.old }
         ensures same { self.new ≡ self.old }
     {
-        begin_over(&mut self.hash, first, second);
-        open_hashing(&self.cipher, &mut self.hash, iv, first, second, text, tag)
+        let tables = &mut *self.tables;
+        begin_over(&mut tables.hash, first, second);
+        open_hashing(
+            &tables.cipher,
+            &mut tables.hash,
+            iv,
+            first,
+            second,
+            text,
+            tag,
+        )
     }
 }

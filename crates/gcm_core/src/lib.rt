@@ -10,20 +10,22 @@
 //! such as the wraps of a data key: it holds the hash of that data as well. `seal_in_place` and
 //! `open_in_place` are for one text, and make all of it in the call.
 //!
-//! Nothing here takes memory or copies the text. The associated data is given as two slices, which
-//! count as one text, so that a caller need not join them. One key must never seal two texts under
-//! the same initialization vector.
+//! Nothing here copies the text, and nothing but `GcmKey::new` takes memory. The associated data is
+//! given as two slices, which count as one text, so that a caller need not join them. One key must
+//! never seal two texts under the same initialization vector. `same` compares two secrets, such as
+//! tags, in a time that tells nothing of where they differ.
 #![tactic(auto)]
 
 mod absorbing;
 mod authentication;
+mod comparing;
 mod counter_mode;
 mod gcm_key;
 mod gcm_opener;
 mod masks;
-mod same;
 mod seal;
 
+pub use comparing::same;
 pub use gcm_key::GcmKey;
 pub use gcm_opener::GcmOpener;
 pub use seal::{open_in_place, seal_in_place};

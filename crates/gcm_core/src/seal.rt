@@ -7,8 +7,8 @@ ghost use Rattle.cipher_spec.specs.Gcm.{blocks, gctr, hash_key, opened, sealed};
 
 use crate::absorbing::absorb;
 use crate::authentication::{authentication_tag, begin_over, finished_tag, hasher_of};
+use crate::comparing::same;
 use crate::counter_mode::{TEXT_COUNT, gctr};
-use crate::same::same;
 use aes_core::Key256;
 use ghash_core::Ghash;
 

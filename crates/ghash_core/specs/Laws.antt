@@ -25,9 +25,10 @@ HasOne = (x : ℕ) → x < 2 ^ 128 → times x (2 ^ 127) ≡ x
 abbrev pub GivesBlocks : Type 0
 GivesBlocks = (x y : ℕ) → y < 2 ^ 128 → times x y < 2 ^ 128
 
--- To hash four blocks is to multiply each by a power of the hash subkey of its own, and to add up: the four products
--- don't wait for one another.
+-- To hash four blocks is to multiply each by a power of the hash subkey of its own, and to add up:
+-- the four products don't wait for one another.
 abbrev pub HashesByPowers : Type 0
 HashesByPowers = (h y a b c d : ℕ) → h < 2 ^ 128
     → ghash_from h y (a ∷ b ∷ c ∷ d ∷ [])
-    ≡ bit_xor (bit_xor (bit_xor (times (bit_xor y a) (times h (times h (times h h)))) (times b (times h (times h h)))) (times c (times h h))) (times d h)
+    ≡ bit_xor (bit_xor (bit_xor (times (bit_xor y a) (times h (times h (times h h))))
+    (times b (times h (times h h)))) (times c (times h h))) (times d h)

@@ -7,7 +7,8 @@ use Rattle.cipher_spec.specs.Ghash.{half, halves}
 -- the product of y and the block that begins with the four bits of n, and goes on with zeros
 abbrev pub nibble_times : ℕ → ℕ → ℕ
 nibble_times y n =
-    add_if (n % 2) (add_if (n / 2 % 2) (add_if (n / 4 % 2) (add_if (n / 8 % 2) 0 y) (half y)) (half (half y))) (half (half (half y)))
+    add_if (n % 2) (add_if (n / 2 % 2) (add_if (n / 4 % 2) (add_if (n / 8 % 2) 0 y) (half y))
+    (half (half y))) (half (half (half y)))
 
 -- these products, of each n
 unfoldable pub row : ℕ → List ℕ

@@ -5,7 +5,8 @@ use Rattle.std.proofs.lemmas.Bool.{eqb-true, eqb-false, ltb-true, ltb-false, le-
 use Rattle.esdk_fields.specs.declared.contents.Content.{Content}
 use Rattle.esdk_fields.specs.declared.contents.Content.TheVariants.{Single, Framed}
 use Rattle.header_codec.specs.Header.{content_type, frame_length, IsContent}
-use Rattle.header_codec.specs.Table.{is_over, is_content_type, is_frame_length, is_unit_over, content_of}
+use Rattle.esdk_fields.specs.Limits.{is_over}
+use Rattle.header_codec.specs.Table.{is_content_type, is_frame_length, is_unit_over, content_of}
 
 -- ---- limits
 

@@ -24,7 +24,8 @@ use Rattle.suite_table.specs.Suites.{data_length}
 use Rattle.edk_codec.specs.Entry.{Entry, IsEntry}
 use Rattle.header_codec.specs.declared.settings.Settings.{Settings}
 use Rattle.header_codec.specs.Header.{Opening, latest_end, opening_text, edks_text, reserved_text}
-use Rattle.header_codec.specs.Table.{Head, is_over, is_content_type, is_frame_length, is_unit_over, content_of, opening, context_field, entry, data_keys, reserved, content, header_iv, header}
+use Rattle.esdk_fields.specs.Limits.{is_over}
+use Rattle.header_codec.specs.Table.{Head, is_content_type, is_frame_length, is_unit_over, content_of, opening, context_field, entry, data_keys, reserved, content, header_iv, header}
 use Rattle.header_codec.specs.Offence.{opened_text, IsIdentified, IsOpened, IsCount, parts_text, keys_text, AreKeys, IsType, typed_text, HasOffence}
 use Rattle.header_codec.specs.Offence.{NoKeys, ManyKeys, LatePart, ContentType, Reserved, IvLength, FrameLength, LongFrame}
 use Rattle.header_codec.proofs.Steps.{after_count, after_kind, after_iv_length, after_zeros, after_reserved, after_type_of_content, after_frame, after_opening, after_context, after_keys, after_content, after_commitment, after_iv, head_with}

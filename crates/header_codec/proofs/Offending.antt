@@ -21,7 +21,8 @@ use Rattle.context_codec.specs.Split.{context_fault}
 use Rattle.edk_codec.specs.Entry.{Entry, IsEntry, edk_text}
 use Rattle.header_codec.specs.declared.settings.Settings.{Settings}
 use Rattle.header_codec.specs.Header.{Opening, latest_end, type_text, version_text, opening_text}
-use Rattle.header_codec.specs.Table.{is_version, suite_of_version, is_forbidden, is_over, type_field, suite_field, identity, opening, context_field, part, entry, data_keys, header}
+use Rattle.esdk_fields.specs.Limits.{is_over}
+use Rattle.header_codec.specs.Table.{is_version, suite_of_version, is_forbidden, type_field, suite_field, identity, opening, context_field, part, entry, data_keys, header}
 use Rattle.header_codec.specs.Offence.{opened_text, IsOpened}
 use Rattle.header_codec.proofs.Steps.{after_version, after_type, after_suite_id, after_suite, after_type_field, after_context_length, after_part_length, after_provider, after_info, after_count, after_opening, after_context, after_keys}
 use Rattle.header_codec.proofs.Readings.{place, Refuses, Refuses-bind, Refuses-first, Refuses-after, guard_passes, guard_refuses, judge_refuses, refuse_refuses}

@@ -13,7 +13,8 @@ use Rattle.suite_table.specs.Suites.{suite_id, id_length, data_length}
 use Rattle.context_codec.specs.Split.{context_fault}
 use Rattle.header_codec.specs.declared.settings.Settings.{Settings}
 use Rattle.header_codec.specs.Header.{latest_end}
-use Rattle.header_codec.specs.Table.{is_version, suite_of_version, is_forbidden, is_over, is_content_type, is_frame_length, is_unit_over, content_of, type_field, suite_field, identity, opening, context_field, part, entry, data_keys, reserved, content, header_iv, header}
+use Rattle.esdk_fields.specs.Limits.{is_over}
+use Rattle.header_codec.specs.Table.{is_version, suite_of_version, is_forbidden, is_content_type, is_frame_length, is_unit_over, content_of, type_field, suite_field, identity, opening, context_field, part, entry, data_keys, reserved, content, header_iv, header}
 use Rattle.header_codec.proofs.Steps.{after_version, after_type, after_suite_id, after_suite, after_type_field, after_context_length, after_part_length, after_part_end, after_provider, after_info, after_count, after_kind, after_iv_length, after_zeros, after_reserved, after_type_of_content, after_frame, after_opening, after_context, after_keys, after_content, after_commitment, after_size, after_iv, head_with}
 
 IsSequential-type_field : (suite : Suite) → IsSequential (type_field suite)

@@ -23,7 +23,8 @@ use Rattle.context_codec.proofs.Verdicts.{spells_fault_none}
 use Rattle.edk_codec.specs.Entry.{Entry, IsEntry, edk_text}
 use Rattle.header_codec.specs.declared.settings.Settings.{Settings}
 use Rattle.header_codec.specs.Header.{Opening, HeaderValue, opening_of, latest_end, content_type, frame_length, behind_keys, IsContent, IsIv, IsAllowed, type_text, version_text, opening_text, edks_text, reserved_text, content_text, header_text, iv_text, authentication_text}
-use Rattle.header_codec.specs.Table.{Head, is_version, is_over, is_content_type, is_frame_length, is_unit_over, content_of, type_field, suite_field, identity, opening, context_field, part, entry, data_keys, reserved, content, header_iv, header, BeginsWith}
+use Rattle.esdk_fields.specs.Limits.{is_over}
+use Rattle.header_codec.specs.Table.{Head, is_version, is_content_type, is_frame_length, is_unit_over, content_of, type_field, suite_field, identity, opening, context_field, part, entry, data_keys, reserved, content, header_iv, header, BeginsWith}
 use Rattle.header_codec.specs.Laws.{IsSpelled}
 use Rattle.header_codec.proofs.Steps.{after_version, after_type, after_suite_id, after_suite, after_type_field, after_context_length, after_part_length, after_provider, after_info, after_count, after_kind, after_iv_length, after_zeros, after_reserved, after_type_of_content, after_frame, after_opening, after_context, after_keys, after_content, after_commitment, after_size, after_iv, head_with}
 use Rattle.header_codec.proofs.Readings.{place, Reads, Reads-bind, Reads-after, guard_passes, judge_passes}

@@ -18,7 +18,8 @@ use Rattle.suite_table.specs.Suites.{data_length}
 use Rattle.edk_codec.specs.Entry.{Entry}
 use Rattle.header_codec.specs.declared.settings.Settings.{Settings}
 use Rattle.header_codec.specs.Header.{Opening}
-use Rattle.header_codec.specs.Table.{Head, is_over, opening, entry, data_keys, content, header_iv, header}
+use Rattle.esdk_fields.specs.Limits.{is_over}
+use Rattle.header_codec.specs.Table.{Head, opening, entry, data_keys, content, header_iv, header}
 use Rattle.header_codec.specs.Rest.{Ending, ending, keys_count, head_of, after_all_keys, after_some_keys, after_front, behind, Resumes}
 use Rattle.header_codec.proofs.Steps.{after_count, after_content, after_commitment, after_iv, after_keys, after_context, after_opening}
 

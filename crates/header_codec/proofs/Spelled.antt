@@ -25,7 +25,8 @@ use Rattle.context_codec.specs.Split.{SpellsContext}
 use Rattle.edk_codec.specs.Entry.{Entry, IsEntry, edk_text}
 use Rattle.header_codec.specs.declared.settings.Settings.{Settings}
 use Rattle.header_codec.specs.Header.{Opening, HeaderValue, latest_end, content_type, frame_length, behind_keys, IsContent, IsIv, type_text, version_text, opening_text, edks_text, reserved_text, content_text, header_text, iv_text, authentication_text}
-use Rattle.header_codec.specs.Table.{Head, is_over, is_content_type, is_frame_length, is_unit_over, content_of, entry, data_keys, reserved, content, header_iv, header, made_of, BeginsWith}
+use Rattle.esdk_fields.specs.Limits.{is_over}
+use Rattle.header_codec.specs.Table.{Head, is_content_type, is_frame_length, is_unit_over, content_of, entry, data_keys, reserved, content, header_iv, header, made_of, BeginsWith}
 use Rattle.header_codec.specs.Laws.{IsSpelled}
 use Rattle.header_codec.proofs.Steps.{after_count, after_kind, after_iv_length, after_zeros, after_reserved, after_type_of_content, after_frame, header_is_read}
 use Rattle.header_codec.proofs.Readings.{guard_read, refuse_read}

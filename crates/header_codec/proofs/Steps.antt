@@ -14,7 +14,8 @@ use Rattle.context_codec.specs.Split.{context_fault}
 use Rattle.edk_codec.specs.Entry.{Entry}
 use Rattle.header_codec.specs.declared.settings.Settings.{Settings}
 use Rattle.header_codec.specs.Header.{Opening, latest_end}
-use Rattle.header_codec.specs.Table.{Head, is_version, suite_of_version, is_forbidden, is_over, is_content_type, is_frame_length, is_unit_over, content_of, suite_field, identity, opening, context_field, part, entry, data_keys, reserved, content, header_iv, header}
+use Rattle.esdk_fields.specs.Limits.{is_over}
+use Rattle.header_codec.specs.Table.{Head, is_version, suite_of_version, is_forbidden, is_content_type, is_frame_length, is_unit_over, content_of, suite_field, identity, opening, context_field, part, entry, data_keys, reserved, content, header_iv, header}
 
 abbrev pub after_type : ℕ → Reader (Unit {0})
 after_type kind = refuse_if (not (kind == 0x80)) (BadType kind)

@@ -9,5 +9,9 @@ use Rattle.header_codec.specs.Table.{header, BeginsWith}
 
 -- the header, with the offset where it ends, or why there is none
 abbrev pub FindsHeader : Settings → List ℕ → Result Found Stop → Type 0
-FindsHeader settings bytes (Ok found) = (left : List ℕ) × BeginsWith settings bytes found.header (record { at = found.end; left = left })
+FindsHeader settings bytes (Ok found) =
+    (left : List ℕ) × BeginsWith settings bytes found.header (record {
+      at = found.end;
+      left = left;
+    })
 FindsHeader settings bytes (Err stop) = StopsAt stop (header settings (start bytes))

@@ -1,4 +1,5 @@
--- A header as a value, and its one text. Standard: AWS Encryption SDK, message header, "Structure" of versions 1.0 and 2.0. The suite says which version it is.
+-- A header as a value, and its one text. Standard: AWS Encryption SDK, message header, "Structure"
+-- of versions 1.0 and 2.0. The suite says which version it is.
 use Rattle.std.specs.Prelude.{◌≡◌, ℕ, ◌+◌, ◌<◌, ◌≤◌, ◌^◌, List, [], ◌++◌, length, replicate, All, IfSome, Bool, true}
 use Rattle.std.specs.Int.{w8, w16, w32}
 use Rattle.std.specs.List.{flat_map}
@@ -19,7 +20,8 @@ pub record Opening : Type 0 where
   pub suite : Suite
   pub id : List ℕ
 
--- the fields of a header, its body as it stands in the message, and its authentication: initialization vector and tag
+-- the fields of a header, its body as it stands in the message, and its authentication:
+-- initialization vector and tag
 pub record HeaderValue : Type 0 where
   pub suite : Suite
   pub message_id : List ℕ
@@ -73,11 +75,13 @@ reserved_text Uncommitted = to_big_endian w32 0 ++ to_big_endian w8 12
 
 -- content type, reserved bytes, frame length
 unfoldable pub content_text : Suite → Content → List ℕ
-content_text suite content = to_big_endian w8 (content_type content) ++ reserved_text suite ++ to_big_endian w32 (frame_length content)
+content_text suite content = to_big_endian w8 (content_type content) ++ reserved_text suite
+    ++ to_big_endian w32 (frame_length content)
 
 -- The fields of the body in their order, the context being spelled so.
 unfoldable pub header_text : List ℕ → HeaderValue → List ℕ
-header_text context h = opening_text (opening_of h) ++ sized context ++ edks_text h.entries ++ content_text h.suite h.content ++ h.commitment
+header_text context h = opening_text (opening_of h) ++ sized context ++ edks_text h.entries
+    ++ content_text h.suite h.content ++ h.commitment
 
 -- "IV" of the header authentication, which version 1.0 alone has
 abbrev pub iv_text : Suite → List ℕ → List ℕ
@@ -93,7 +97,8 @@ abbrev pub IsIv : Suite → List ℕ → Type 0
 IsIv Committing iv = iv ≡ replicate 12 0
 IsIv Uncommitted iv = length iv ≡ 12
 
--- The bytes are the body of this header: the context's text spells the stored pairs, in any order, and each other field has one spelling.
+-- The bytes are the body of this header: the context's text spells the stored pairs, in any order,
+-- and each other field has one spelling.
 pub record IsHeader (bytes : List ℕ) (h : HeaderValue) : Type 0 where
   pub context : List ℕ
   pub spells : SpellsContext context h.stored
@@ -112,7 +117,8 @@ pub record IsHeader (bytes : List ℕ) (h : HeaderValue) : Type 0 where
 abbrev pub latest_end : ℕ
 latest_end = 16777216
 
--- how many bytes of the body stand behind the encrypted data keys: content type, reserved bytes, frame length, commitment
+-- how many bytes of the body stand behind the encrypted data keys: content type, reserved bytes,
+-- frame length, commitment
 abbrev pub behind_keys : Suite → ℕ
 behind_keys Committing = 37
 behind_keys Uncommitted = 10
@@ -139,7 +145,8 @@ pub record IsKept (h : HeaderValue) : Type 0 where
 abbrev pub lock_of : HeaderValue → HeaderValue
 lock_of h = record h { stored = []; entries = [] }
 
--- What the type of headers keeps of its parts: the header has its own body, and the lock is the header without the other parts.
+-- What the type of headers keeps of its parts: the header has its own body, and the lock is the
+-- header without the other parts.
 pub record IsParted (h lock : HeaderValue) : Type 0 where
   pub kept : IsKept h
   pub bare : lock ≡ lock_of h

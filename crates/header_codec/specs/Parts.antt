@@ -13,4 +13,10 @@ abbrev pub raw_opening : RawOpening → Opening
 raw_opening o = record { suite = o.suite; id = o.id.now }
 
 abbrev pub ending_fields : HeaderEnding → Ending
-ending_fields e = record { content = e.content; commitment = e.commitment.items; size = e.size; iv = e.iv; tag = e.tag }
+ending_fields e = record {
+  content = e.content;
+  commitment = e.commitment.items;
+  size = e.size;
+  iv = e.iv;
+  tag = e.tag;
+}

@@ -13,19 +13,23 @@ use Rattle.header_codec.specs.Rest.{after_front, after_some_keys, Resumes}
 abbrev pub opening_of : Front → Opening
 opening_of f = record { suite = f.suite; id = f.id.items }
 
--- what is still to be read: all, or what is behind the context, or behind the entries read so far, of which so many are left
+-- what is still to be read: all, or what is behind the context, or behind the entries read so far,
+-- of which so many are left
 abbrev pub rest : Settings → List ℕ → Option Front → Option ℕ → List Entry → Reader Head
 rest settings context None left entries = header settings
 rest settings context (Some f) None entries = after_front settings (opening_of f) context
-rest settings context (Some f) (Some n) entries = after_some_keys settings (opening_of f) context entries n
+rest settings context (Some f) (Some n) entries =
+    after_some_keys settings (opening_of f) context entries n
 
--- the offset where it begins at the latest: the opening has at most 36 bytes, and the context 65,537
+-- the offset where it begins at the latest: the opening has at most 36 bytes, and the context
+-- 65,537
 abbrev pub latest_rest : Option Front → Option ℕ → ℕ
 latest_rest None left = 0
 latest_rest (Some f) None = 65573
 latest_rest (Some f) (Some n) = latest_end
 
--- The front of these bytes was read so far: whatever follows them, what is still to be read gives their header.
+-- The front of these bytes was read so far: whatever follows them, what is still to be read gives
+-- their header.
 pub record Holds (bytes : List ℕ) (p : Progress) : Type 0 where
   pub context : List ℕ
   pub spells : IfSome p.front (λ f. SpellsContext context f.stored)

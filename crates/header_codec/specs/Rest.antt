@@ -10,7 +10,8 @@ use Rattle.suite_table.specs.Suites.{data_length}
 use Rattle.edk_codec.specs.Entry.{Entry}
 use Rattle.header_codec.specs.declared.settings.Settings.{Settings}
 use Rattle.header_codec.specs.Header.{Opening}
-use Rattle.header_codec.specs.Table.{Head, is_over, entry, content, header_iv, header}
+use Rattle.esdk_fields.specs.Limits.{is_over}
+use Rattle.header_codec.specs.Table.{Head, entry, content, header_iv, header}
 
 -- what follows the encrypted data keys, and the size of the body
 pub record Ending : Type 0 where
@@ -70,7 +71,10 @@ after_front settings o context = do
 abbrev pub behind : ℕ → List ℕ → Place
 behind n bytes = record { at = n; left = drop n bytes }
 
--- Whatever follows these bytes, their header is what this reader reads from that offset on, which they reach.
-pub record Resumes (settings : Settings) (bytes : List ℕ) (at : ℕ) (rest : Reader Head) : Type 0 where
-  pub reads : (more : List ℕ) → header settings (start (bytes ++ more)) ≡ rest (behind at (bytes ++ more))
+-- Whatever follows these bytes, their header is what this reader reads from that offset on, which
+-- they reach.
+pub record Resumes (settings : Settings) (bytes : List ℕ) (at : ℕ)
+    (rest : Reader Head) : Type 0 where
+  pub reads : (more : List ℕ) → header settings (start (bytes ++ more))
+      ≡ rest (behind at (bytes ++ more))
   pub inside : at ≤ length bytes

@@ -9,19 +9,20 @@ use Rattle.header_codec.specs.declared.settings.Settings.{Settings}
 use Rattle.header_codec.specs.Header.{HeaderValue}
 use Rattle.header_codec.specs.Table.{Head, header, BeginsWith}
 
--- What a session is worth: its settings, the bytes that it took, and whether a step answered an error.
+-- What a session is worth: its settings, the bytes that it took, and whether a step answered an
+-- error.
 pub record Session : Type 0 where
   pub settings : Settings
   pub taken : List ℕ
   pub stopped : Bool
 
 -- nothing is taken yet
-abbrev pub opened : Settings → Session
-opened settings = record { settings = settings; taken = []; stopped = false }
+abbrev pub begun : Settings → Session
+begun settings = record { settings = settings; taken = []; stopped = false }
 
 -- the bytes taken so far and the piece, as the table judges them
-abbrev pub judged : Session → List ℕ → Reading Head
-judged v piece = header v.settings (start (v.taken ++ piece))
+abbrev pub read_now : Session → List ℕ → Reading Head
+read_now v piece = header v.settings (start (v.taken ++ piece))
 
 -- bytes are used up to the end of the piece, or of the header's authentication
 abbrev pub answer_to : Session → List ℕ → Reading Head → Result HeaderStep FieldError
@@ -30,14 +31,14 @@ answer_to v piece (Refused fault at) = Err (errors.Fault fault)
 answer_to v piece Wanting = Ok (record { used = length piece; ready = false })
 
 abbrev pub answer : Session → List ℕ → Result HeaderStep FieldError
-answer v piece = if v.stopped then Err errors.Stopped else answer_to v piece (judged v piece)
+answer v piece = if v.stopped then Err errors.Stopped else answer_to v piece (read_now v piece)
 
 -- that answer, or want of memory while the session isn't stopped
-abbrev pub Answers : Session → List ℕ → Result HeaderStep FieldError → Type 0
-Answers v piece (Ok step) = answer v piece ≡ Ok step
-Answers v piece (Err errors.Memory) = v.stopped ≡ false
-Answers v piece (Err errors.Stopped) = answer v piece ≡ Err errors.Stopped
-Answers v piece (Err (errors.Fault fault)) = answer v piece ≡ Err (errors.Fault fault)
+abbrev pub HeaderAnswers : Session → List ℕ → Result HeaderStep FieldError → Type 0
+HeaderAnswers v piece (Ok step) = answer v piece ≡ Ok step
+HeaderAnswers v piece (Err errors.Memory) = v.stopped ≡ false
+HeaderAnswers v piece (Err errors.Stopped) = answer v piece ≡ Err errors.Stopped
+HeaderAnswers v piece (Err (errors.Fault fault)) = answer v piece ≡ Err (errors.Fault fault)
 
 -- the session after a step: it took what was used, and any error stops it
 abbrev pub stepped : Session → List ℕ → Result HeaderStep FieldError → Session

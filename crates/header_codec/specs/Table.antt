@@ -1,8 +1,9 @@
--- Reading a header: the table of its fields, line by line, and what is judged at the last byte of each.
--- Standard: AWS Encryption SDK, message header, "Structure" of versions 1.0 and 2.0; the faults M1 to M9 and M23 to M26 are this
--- library's.
-use Rattle.std.specs.Prelude.{◌≡◌, ℕ, ◌+◌, List, take, replicate, Bool, false, not, ◌&&◌, ◌||◌, ◌==◌, nat_lt, if◌then◌else◌, Option, Some, None, option_map}
+-- Reading a header: the table of its fields, line by line, and what is judged at the last byte of
+-- each. Standard: AWS Encryption SDK, message header, "Structure" of versions 1.0 and 2.0; the
+-- faults M1 to M9 and M23 to M26 are this library's.
+use Rattle.std.specs.Prelude.{◌≡◌, ℕ, ◌+◌, List, take, replicate, Bool, false, not, ◌&&◌, ◌||◌, ◌==◌, nat_lt, if◌then◌else◌, Option, option_map}
 use Rattle.std.specs.Int.{w8, w16, w32}
+use Rattle.esdk_fields.specs.Limits.{is_over}
 use Rattle.esdk_fields.specs.declared.faults.Fault.{Fault}
 use Rattle.esdk_fields.specs.declared.faults.Fault.TheVariants.{BadVersion, UnsupportedSuite, BadContext, NoDataKeys, TooManyDataKeys, BadContentType, BadFrameLength, HeaderTooLong, UnitTooLong, BadType, BadReserved, BadIvLength}
 use Rattle.esdk_fields.specs.declared.faults.Fault.TheVariants as faults
@@ -43,11 +44,6 @@ suite_of_version version = if version == 1 then Uncommitted else Committing
 abbrev pub is_forbidden : Bool → Suite → ℕ → Bool
 is_forbidden uncommitted Committing id = false
 is_forbidden uncommitted Uncommitted id = id == suite_id Uncommitted && not uncommitted
-
--- over a limit, where there is one
-abbrev pub is_over : Option ℕ → ℕ → Bool
-is_over None n = false
-is_over (Some most) n = nat_lt most n
 
 abbrev pub is_content_type : ℕ → Bool
 is_content_type kind = kind == 1 || kind == 2
@@ -153,7 +149,16 @@ header settings = do
   size ← here
   iv ← header_iv o.suite
   tag ← bytes 16
-  done (record { opening = o; context = context; entries = entries; content = kind; commitment = commitment; size = size; iv = iv; tag = tag })
+  done (record {
+    opening = o;
+    context = context;
+    entries = entries;
+    content = kind;
+    commitment = commitment;
+    size = size;
+    iv = iv;
+    tag = tag;
+  })
 
 -- ---- what the bytes say
 
@@ -180,7 +185,8 @@ made_of bytes parts stored = record {
 }
 
 -- The bytes begin with this header and its authentication, which end there.
-pub record BeginsWith (settings : Settings) (bytes : List ℕ) (h : HeaderValue) (end : Place) : Type 0 where
+pub record BeginsWith (settings : Settings) (bytes : List ℕ) (h : HeaderValue)
+    (end : Place) : Type 0 where
   pub parts : Head
   pub read : header settings (start bytes) ≡ Read parts end
   pub stored : SpellsContext parts.context h.stored

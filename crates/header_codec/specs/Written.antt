@@ -1,5 +1,6 @@
--- The header that is written: frames, and the context's pairs in the order of their keys. Tests write headers of version 1.0 too.
--- Standard: AWS Encryption SDK, message header, "Structure" of versions 1.0 and 2.0; the refusals Q7 and Q8 are this library's.
+-- The header that is written: frames, and the context's pairs in the order of their keys. Tests
+-- write headers of version 1.0 too. Standard: AWS Encryption SDK, message header, "Structure" of
+-- versions 1.0 and 2.0; the refusals Q7 and Q8 are this library's.
 use Rattle.std.specs.Prelude.{◌≡◌, ℕ, ◌≤◌, List, [], length, replicate, All, nat_lt, if◌then◌else◌, Option, Some, None}
 use Rattle.esdk_fields.specs.declared.contents.Content.{Content}
 use Rattle.esdk_fields.specs.declared.contents.Content.TheVariants.{Framed}
@@ -11,7 +12,7 @@ use Rattle.context_codec.specs.Context.{KeyValue, IsContext, ctx_text}
 use Rattle.edk_codec.specs.Entry.{Entry, IsEntry}
 use Rattle.header_codec.specs.Header.{Opening, HeaderValue, IsContent, latest_end, header_text}
 use Rattle.header_codec.specs.Offence.{keys_text}
-use Rattle.header_codec.specs.Table.{is_over}
+use Rattle.esdk_fields.specs.Limits.{is_over}
 
 -- What a header is made of.
 pub record HeaderParts : Type 0 where
@@ -59,7 +60,8 @@ keys_end o stored entries = length (keys_text o (ctx_text stored) entries)
 
 -- Q8, where the encrypted data keys would end beyond offset 2^24
 abbrev pub end_refusal : Opening → List KeyValue → List Entry → Option Refusal
-end_refusal o stored entries = if nat_lt latest_end (keys_end o stored entries) then Some (HeaderTooLong (keys_end o stored entries)) else None
+end_refusal o stored entries = if nat_lt latest_end (keys_end o stored entries)
+    then Some (HeaderTooLong (keys_end o stored entries)) else None
 
 -- ---- version 2.0
 
@@ -79,20 +81,24 @@ parts_with id stored entries frame commitment = record {
 
 -- the header body of these parts
 abbrev pub written_header : List ℕ → List KeyValue → List Entry → ℕ → List ℕ → List ℕ
-written_header id stored entries frame commitment = body_of (parts_with id stored entries frame commitment)
+written_header id stored entries frame commitment =
+    body_of (parts_with id stored entries frame commitment)
 
 -- these parts, their body, and this tag
 abbrev pub written_value : List ℕ → List KeyValue → List Entry → ℕ → List ℕ → List ℕ → HeaderValue
-written_value id stored entries frame commitment tag = value_of (parts_with id stored entries frame commitment) (replicate 12 0) tag
+written_value id stored entries frame commitment tag =
+    value_of (parts_with id stored entries frame commitment) (replicate 12 0) tag
 
 -- Parts that such a header can have.
 abbrev pub AreHeaderParts : List ℕ → List KeyValue → List Entry → ℕ → List ℕ → Type 0
-AreHeaderParts id stored entries frame commitment = AreParts (parts_with id stored entries frame commitment)
+AreHeaderParts id stored entries frame commitment =
+    AreParts (parts_with id stored entries frame commitment)
 
 -- Q7, where there are more encrypted data keys than the limit; else Q8
 abbrev pub header_refusal : List ℕ → List KeyValue → List Entry → Option ℕ → Option Refusal
 header_refusal id stored entries max_keys =
-    if is_over max_keys (length entries) then Some (TooManyDataKeys (length entries)) else end_refusal (committing id) stored entries
+    if is_over max_keys (length entries) then Some (TooManyDataKeys (length entries))
+    else end_refusal (committing id) stored entries
 
 -- ---- version 1.0
 
@@ -113,6 +119,7 @@ legacy_parts id stored entries content = record {
 abbrev pub legacy_header : List ℕ → List KeyValue → List Entry → Content → List ℕ
 legacy_header id stored entries content = body_of (legacy_parts id stored entries content)
 
--- how many bytes an entry's text has at most: three parts of 65,535 bytes, each behind two bytes of length
+-- how many bytes an entry's text has at most: three parts of 65,535 bytes, each behind two bytes of
+-- length
 abbrev pub longest_entry : ℕ
 longest_entry = 196611

@@ -2,7 +2,7 @@
 
 ghost use Rattle.std.specs.Prelude.{◌≡◌, None};
 ghost use Rattle.std.specs.Option.{option_copied};
-ghost use Rattle.header_codec.specs.Session.{Session, opened, Answers, stepped, ShowsHeader};
+ghost use Rattle.header_codec.specs.Session.{Session, begun, HeaderAnswers, stepped, ShowsHeader};
 ghost use Rattle.header_codec.specs.Stands.{Stands};
 
 use crate::header::Header;
@@ -36,7 +36,7 @@ pub struct HeaderReader {
 impl HeaderReader {
     /// A reader that has taken nothing.
     pub fn new(alloc: Global, settings: Settings) -> HeaderReader
-        ensures { Stands result (opened settings) }
+        ensures { Stands result (begun settings) }
     {
         HeaderReader {
             intake: Intake::new(alloc, settings),
@@ -52,7 +52,7 @@ impl HeaderReader {
     /// error, want of memory too, every later step answers `Stopped`, and it comes only then. After
     /// the header is whole a step uses nothing.
     pub fn step(&mut self, alloc: Global, piece: &[u8]) -> Result<HeaderStep, FieldError>
-        ensures answer { (v : Session) → Stands self.old v → Answers v piece.now result }
+        ensures answer { (v : Session) → Stands self.old v → HeaderAnswers v piece.now result }
         ensures stands { (v : Session) → Stands self.old v
             → Stands self.new (stepped v piece.now result) }
     {

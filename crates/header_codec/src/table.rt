@@ -5,14 +5,15 @@ ghost use Rattle.esdk_fields.specs.Gives.{Gives};
 ghost use Rattle.esdk_fields.specs.Reading.{bytes};
 ghost use Rattle.context_codec.specs.Split.{SpellsContext};
 ghost use Rattle.header_codec.specs.Header.{latest_end, content_type, frame_length};
-ghost use Rattle.header_codec.specs.Table.{is_version, suite_of_version, is_forbidden, is_over, is_content_type, is_frame_length, is_unit_over, content_of, type_field, suite_field, identity, opening, context_field, part, entry, reserved, content, header_iv};
+ghost use Rattle.header_codec.specs.Table.{is_version, suite_of_version, is_forbidden, is_content_type, is_frame_length, is_unit_over, content_of, type_field, suite_field, identity, opening, context_field, part, entry, reserved, content, header_iv};
 ghost use Rattle.header_codec.specs.Parts.{raw_entry, raw_opening, ending_fields};
 ghost use Rattle.header_codec.specs.Rest.{keys_count, ending};
 
 use crate::parts::{HeaderEnding, RawEntry, RawOpening};
 use context_codec::{Context, read_field};
 use esdk_fields::{
-    Content, Cursor, Fault, FieldError, Stop, bytes_of, refused, sized_of, u8_of, u16_of, u32_of,
+    Content, Cursor, Fault, FieldError, Stop, bytes_of, is_over, refused, sized_of, u8_of, u16_of,
+    u32_of,
 };
 use std::alloc::Global;
 use suite_table::Suite;
@@ -179,16 +180,6 @@ pub(crate) fn entry_of<'a>(cursor: &mut Cursor<'a>) -> Result<RawEntry<'a>, Stop
     })
 }
 
-/// Whether the number is over the limit, where there is one.
-pub(crate) fn is_over(max_keys: Option<u16>, count: u16) -> bool
-    ensures { result ≡ is_over max_keys count }
-{
-    match max_keys {
-        None => false,
-        Some(most) => most < count,
-    }
-}
-
 /// How many entries there are.
 #[tactic(auto, unfolding(crate::specs::Rest::keys_count))]
 pub(crate) fn keys_count_of(max_keys: Option<u16>, cursor: &mut Cursor<'_>) -> Result<u16, Stop>
@@ -199,7 +190,7 @@ pub(crate) fn keys_count_of(max_keys: Option<u16>, cursor: &mut Cursor<'_>) -> R
     if count == 0 {
         return refused(Fault::NoDataKeys, cursor);
     }
-    if is_over(max_keys, count) {
+    if is_over(max_keys.map(u64::from), u64::from(count)) {
         return refused(Fault::TooManyDataKeys(count), cursor);
     }
     Ok(count)
@@ -223,10 +214,7 @@ fn is_frame_length(kind: u8, frame: u32) -> bool
 fn is_unit_over(max_unit: Option<u64>, kind: u8, frame: u32) -> bool
     ensures { result ≡ is_unit_over max_unit kind frame }
 {
-    match max_unit {
-        None => false,
-        Some(most) => kind == 2 && most < u64::from(frame),
-    }
+    kind == 2 && is_over(max_unit, u64::from(frame))
 }
 
 /// The content of this type and frame length.

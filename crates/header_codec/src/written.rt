@@ -13,10 +13,10 @@ ghost use Rattle.header_codec.specs.Parts.{raw_opening};
 ghost use Rattle.header_codec.specs.Written.{body_of, end_refusal, keys_end, header_refusal, legacy_header, longest_entry, uncommitted, written_header};
 
 use crate::parts::RawOpening;
-use crate::table::{IV_LENGTH, LATEST_END, MESSAGE_TYPE, is_over};
+use crate::table::{IV_LENGTH, LATEST_END, MESSAGE_TYPE};
 use context_codec::{Context, PairError};
 use edk_codec::{DataKeyEntry, write_entry};
-use esdk_fields::{Blob, Content, Refusal, put_u16, put_u32};
+use esdk_fields::{Blob, Content, Refusal, is_over, put_u16, put_u32};
 use std::alloc::{AllocError, Global};
 use suite_table::Suite;
 
@@ -46,7 +46,7 @@ pub fn write_header(
         (header_refusal message_id.now stored.now entries.now max_keys)) }
 {
     let count = entries.len() as u16;
-    if is_over(max_keys, count) {
+    if is_over(max_keys.map(u64::from), u64::from(count)) {
         return refused(Refusal::TooManyDataKeys(u32::from(count)));
     }
     let opening = RawOpening {

@@ -8,11 +8,13 @@ use Rattle.plane_core.specs.declared.planes.Planes.{Planes}
 
 -- the byte with these bits, the lowest first
 abbrev pub number_of : ℕ → ℕ → ℕ → ℕ → ℕ → ℕ → ℕ → ℕ → ℕ
-number_of b0 b1 b2 b3 b4 b5 b6 b7 = b0 + 2 * b1 + 4 * b2 + 8 * b3 + 16 * b4 + 32 * b5 + 64 * b6 + 128 * b7
+number_of b0 b1 b2 b3 b4 b5 b6 b7 =
+    b0 + 2 * b1 + 4 * b2 + 8 * b3 + 16 * b4 + 32 * b5 + 64 * b6 + 128 * b7
 
 -- byte j of block b of planes, whose bits `bit` gives
 unfoldable pub byte_of : {P : Type 0} → (P → ℕ → ℕ → ℕ) → Planes P → ℕ → ℕ → ℕ
-byte_of bit x j b = number_of (bit x.b0 j b) (bit x.b1 j b) (bit x.b2 j b) (bit x.b3 j b) (bit x.b4 j b) (bit x.b5 j b) (bit x.b6 j b) (bit x.b7 j b)
+byte_of bit x j b = number_of (bit x.b0 j b) (bit x.b1 j b) (bit x.b2 j b) (bit x.b3 j b)
+    (bit x.b4 j b) (bit x.b5 j b) (bit x.b6 j b) (bit x.b7 j b)
 
 -- block b
 unfoldable pub block : {P : Type 0} → (P → ℕ → ℕ → ℕ) → Planes P → ℕ → List ℕ

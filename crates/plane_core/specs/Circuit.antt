@@ -1,6 +1,6 @@
 -- The circuit of Boyar and Peralta for the S-box ("A new combinational logic minimization technique
--- with applications to cryptology", 2010) on one byte, in three parts: x0 is the byte's highest bit, and
--- s0 that of its image. The inverters at its end are left out.
+-- with applications to cryptology", 2010) on one byte, in three parts: x0 is the byte's highest
+-- bit, and s0 that of its image. The inverters at its end are left out.
 use Rattle.std.specs.Prelude.{ℕ, List, [], ◌∷◌, bit_and, bit_xor}
 
 -- t21 to t24

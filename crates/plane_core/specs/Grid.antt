@@ -7,16 +7,18 @@ use Rattle.plane_core.specs.declared.planes.Planes.{Planes}
 unfoldable pub row : {W : Type 0} → (W → ℕ → ℕ → ℕ) → W → ℕ → List ℕ
 row cell w k = map (cell w k) (range_with_len 0 8)
 
--- of two rows, cut into groups of s bits: the groups with even numbers, each of the first row's and then
--- the second's
+-- of two rows, cut into groups of s bits: the groups with even numbers, each of the first row's and
+-- then the second's
 abbrev pub even_groups : ℕ → List ℕ → List ℕ → List ℕ
 even_groups s x y =
-    map (λ i. if i / s % 2 == 0 then slice_index x i else slice_index y (i - s)) (range_with_len 0 8)
+    map (λ i. if i / s % 2 == 0 then slice_index x i else slice_index y (i - s))
+    (range_with_len 0 8)
 
 -- the groups with odd numbers
 abbrev pub odd_groups : ℕ → List ℕ → List ℕ → List ℕ
 odd_groups s x y =
-    map (λ i. if i / s % 2 == 0 then slice_index x (i + s) else slice_index y i) (range_with_len 0 8)
+    map (λ i. if i / s % 2 == 0 then slice_index x (i + s) else slice_index y i)
+    (range_with_len 0 8)
 
 -- word q of eight
 abbrev pub word_at : {W : Type 0} → Planes W → ℕ → W

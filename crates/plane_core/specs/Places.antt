@@ -1,5 +1,5 @@
--- Where the steps of a round take the bytes of a state from (FIPS 197, 5.1), and where planes have them.
--- Byte r + 4 * c of a state is in row r and column c.
+-- Where the steps of a round take the bytes of a state from (FIPS 197, 5.1), and where planes have
+-- them. Byte r + 4 * c of a state is in row r and column c.
 use Rattle.std.specs.Prelude.{ℕ, ◌+◌, ◌-◌, ◌*◌, ◌/◌, ◌%◌, ◌^◌, List, bit_xor, slice_index}
 use Rattle.std.specs.Int.{bit_at}
 

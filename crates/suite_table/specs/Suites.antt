@@ -1,4 +1,5 @@
--- The algorithm suites, and what a suite says of the format of its messages. Standard: AWS Encryption SDK Specification, "Supported algorithm suites".
+-- The algorithm suites, and what a suite says of the format of its messages. Standard: AWS
+-- Encryption SDK Specification, "Supported algorithm suites".
 use Rattle.std.specs.Prelude.{ℕ, Option, Some, None, if◌then◌else◌, ◌==◌}
 use Rattle.suite_table.specs.declared.suite.Suite.{Suite}
 use Rattle.suite_table.specs.declared.suite.Suite.TheVariants.{Committing, Uncommitted}
@@ -10,7 +11,8 @@ suite_id Uncommitted = 0x0178
 
 -- the suite that has this id
 abbrev pub suite_with : ℕ → Option Suite
-suite_with id = if id == 0x0478 then Some Committing else if id == 0x0178 then Some Uncommitted else None
+suite_with id = if id == 0x0478 then Some Committing else if id == 0x0178 then Some Uncommitted
+    else None
 
 -- "Message Format Version"
 abbrev pub format_version : Suite → ℕ

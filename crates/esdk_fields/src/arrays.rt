@@ -1,0 +1,13 @@
+//! Bytes of a number that is known.
+
+ghost use Rattle.std.specs.Prelude.{◌≡◌, length};
+
+/// The bytes as an array of their number.
+pub fn array_of<const N: usize>(bytes: &[u8]) -> [u8; N]
+    requires { length bytes.now ≡ N }
+    ensures { result ≡ bytes.now }
+{
+    let mut array = [0; N];
+    array.copy_from_slice(bytes);
+    array
+}
