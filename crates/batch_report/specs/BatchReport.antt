@@ -30,7 +30,8 @@ served_word (Some (Hit number)) = codes " hit" ++ number_word number
 
 -- job N encrypt|decrypt done|.. new N|hit N|direct|none, and a line feed
 unfoldable pub job_line : ℕ → JobLine → List ℕ
-job_line number line = codes "job" ++ number_word number ++ kind_word line.kind ++ end_word line.end ++ served_word line.served ++ 10 ∷ []
+job_line number line = codes "job" ++ number_word number ++ kind_word line.kind ++ end_word line.end
+    ++ served_word line.served ++ 10 ∷ []
 
 -- the lines of these jobs, the first of which has this number
 unfoldable pub lines_from : (number : ℕ) → List JobLine → List ℕ

@@ -6,7 +6,8 @@ pub record Moments : Type 0 where
   pub to_come : List ℕ
   pub last : ℕ
 
--- the moment that is answered next: the first of those to come, and where none is left the one that stays
+-- the moment that is answered next: the first of those to come, and where none is left the one that
+-- stays
 abbrev pub next_moment : Moments → ℕ
 next_moment told = unwrap_or (slice_get told.to_come 0) told.last
 

@@ -8,6 +8,7 @@ abbrev pub AppendsFront : Option (List ℕ) → Option (List ℕ) → List ℕ �
 AppendsFront old new bytes = (n : ℕ) × Appends old new (take n bytes)
 
 -- Ok appended all the bytes, and an error a front of them
-abbrev pub PutAppends : {T E : Type 0} → Option (List ℕ) → Option (List ℕ) → Result T E → List ℕ → Type 0
+abbrev pub PutAppends : {T E : Type 0} → Option (List ℕ) → Option (List ℕ) → Result T E → List ℕ
+    → Type 0
 PutAppends old new result bytes =
     MatchResult result (λ _. Appends old new bytes) (λ _. AppendsFront old new bytes)

@@ -28,7 +28,8 @@ pub record EntropyState : Type 0 where
 
 -- why a file can't be read: the shelf failed, or tells that the name isn't there
 abbrev pub FailsToRead : ShelfState → ShelfState → List ℕ → Type 0
-FailsToRead old new name = Rose old.faults new.faults ⊎ ((is_missing old.files name ≡ true) × (new.faults ≡ old.faults))
+FailsToRead old new name = Rose old.faults new.faults
+    ⊎ ((is_missing old.files name ≡ true) × (new.faults ≡ old.faults))
 
 -- of bytes that are told
 abbrev pub OnTold : Option (List ℕ) → (List ℕ → Type 0) → Type 0

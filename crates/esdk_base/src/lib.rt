@@ -7,16 +7,21 @@
 //! a count of their faults. The adapters over the system's files, streams, generator and clock tell
 //! no content, and are a crate of their own, `esdk_system`; so are forms in memory that tell
 //! everything, `esdk_memory`.
+//!
+//! A `Receiver` is what a machine's bytes go into, piece by piece: each sink is one, and what else
+//! takes bytes can be one too.
 #![tactic(auto)]
 
 mod clock;
 mod entropy;
+mod receiver;
 mod shelf;
 mod sink;
 mod source;
 
 pub use clock::Clock;
 pub use entropy::Entropy;
+pub use receiver::{FeedError, Receiver};
 pub use shelf::{Readers, Shelf};
 pub use sink::Sink;
 pub use source::{Failed, Source};

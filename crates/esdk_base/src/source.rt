@@ -28,6 +28,11 @@ pub trait Source {
     /// failed, each at most 2^64 - 1.
     ghost state: { Self → SourceState };
 
+    /// What is so between a source and the same one later, whatever was read meanwhile. A source
+    /// that stands over a borrowed object says that it is still this object; another one may take
+    /// the relation that always holds.
+    ghost lasts: { Self → Self → Type 0 };
+
     /// Puts the first n bytes left into the front of `out` and takes them away, and answers n.
     ///
     /// For a non-empty `out`, `Ok(0)` comes only at the end. After `Failed` what is left is as
@@ -36,5 +41,12 @@ pub trait Source {
         ensures bound { ReadsAtMost result out.new }
         ensures bytes { ReadConsumes (state self.old).left (state self.new).left result out.new }
         ensures given { CountsGiven (state self.old).given (state self.new).given result }
-        ensures cause { HasCause (state self.old).faults (state self.new).faults result };
+        ensures cause { HasCause (state self.old).faults (state self.new).faults result }
+        ensures lasts { lasts self.old self.new };
+
+    /// It lasts from each moment to the same one.
+    ghost lasts_none: { (s : Self) → lasts s s };
+
+    /// It lasts over reads in a row.
+    ghost lasts_more: { (r s t : Self) → lasts r s → lasts s t → lasts r t };
 }

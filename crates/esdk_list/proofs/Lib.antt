@@ -1,3 +1,3 @@
-pub mod Feeding
+pub mod Causes
 pub mod Lines
 pub mod Shown

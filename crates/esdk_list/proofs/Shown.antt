@@ -13,7 +13,8 @@ use Rattle.header_codec.specs.Table.{header, BeginsWith}
 use Rattle.header_codec.proofs.Followed.{BeginsWith-append}
 use Rattle.esdk_list.specs.List.{limits_of, BeginsWithHeader, HeaderCame, Lists, ListsFront}
 use Rattle.esdk_base.specs.Streams.{OnTold, SourceState}
-use Rattle.esdk_list.specs.HeaderInput.{session_of, Holds, HoldsHeader}
+use Rattle.header_input.specs.Feeding.{session_of, Holds}
+use Rattle.header_input.specs.Taking.{HoldsHeader}
 use Rattle.esdk_list.specs.Listing.{list_of}
 
 read_not_wanting : {A : Type 0} (x : A) (end : Place) (r : Reading A) → r ≡ Read x end → r ≡ Wanting → ⊥
@@ -24,7 +25,7 @@ pub shows_some : (settings : Settings) (reader : HeaderReader) (bytes : List ℕ
 shows_some settings reader bytes holds wanting = read_not_wanting holds.parts holds.end (header settings (start holds.taken)) holds.read wanting
 
 -- the header that it shows is the one with which the bytes that came begin, and the piece of its last byte was the last
-pub shows_came : (uncommitted : Bool) (reader : HeaderReader) (first now : SourceState) (holds : HoldsHeader uncommitted reader first now) (h : HeaderValue)
+pub shows_came : (uncommitted : Bool) (reader : HeaderReader) (first now : SourceState) (holds : HoldsHeader (limits_of uncommitted) reader first now) (h : HeaderValue)
     → ShowsHeader (session_of (limits_of uncommitted) holds.holds.taken) (Some h) → HeaderCame uncommitted h first now
 shows_came uncommitted reader first now holds h shows =
     let limits = limits_of uncommitted in

@@ -15,9 +15,14 @@ use Rattle.esdk_report.specs.declared.failure.Failure.{Failure}
 use Rattle.esdk_report.specs.declared.failure.Failure.TheVariants as failures
 use Rattle.esdk_list.specs.Listing.{list_of}
 use Rattle.esdk_base.specs.Streams.{OnTold, SinkState, SourceState}
-use Rattle.whole_input.specs.Taken.{Came, EndSeen, MostTaken}
+use Rattle.header_input.specs.declared.errors.NoHeader.{NoHeader}
+use Rattle.header_input.specs.declared.errors.NoHeader.TheVariants as errors
+use Rattle.header_input.specs.Taking.{EndCame, FaultCame, IsTooLong, ReadFailed}
+use Rattle.whole_input.specs.declared.pieces.End.TheVariants as ends
+use Rattle.whole_input.specs.Taken.{Came}
 
--- `list` takes each header that the format allows; one of a message without a commitment only where the caller allows these
+-- `list` takes each header that the format allows; one of a message without a commitment only where
+-- the caller allows these
 abbrev pub limits_of : Bool → Settings
 limits_of uncommitted = record { max_keys = None; max_unit = None; uncommitted = uncommitted }
 
@@ -35,9 +40,11 @@ input_fault uncommitted bytes = fault_at_end (header (limits_of uncommitted) (st
 
 -- The bytes begin with this header and its authentication.
 abbrev pub BeginsWithHeader : Bool → HeaderValue → List ℕ → Type 0
-BeginsWithHeader uncommitted h bytes = (end : Place) × BeginsWith (limits_of uncommitted) bytes h end
+BeginsWithHeader uncommitted h bytes =
+    (end : Place) × BeginsWith (limits_of uncommitted) bytes h end
 
--- The bytes that were taken begin with this header and its authentication, fewer than a piece of 65,536 of them stand behind it, and no read failed.
+-- The bytes that were taken begin with this header and its authentication, fewer than a piece of
+-- 65,536 of them stand behind it, and no read failed.
 pub record HeaderCame (uncommitted : Bool) (h : HeaderValue) (old new : SourceState) : Type 0 where
   pub bytes : List ℕ
   pub end : Place
@@ -46,15 +53,18 @@ pub record HeaderCame (uncommitted : Bool) (h : HeaderValue) (old new : SourceSt
   pub few : length bytes < end.at + 65536
   pub faults : new.faults ≡ old.faults
 
--- The input begins with a header and its authentication, it was read no further than to the end of a piece, and the output gained the header's listing.
-pub record Lists (uncommitted : Bool) (input taken : SourceState) (old new : Option (List ℕ)) : Type 0 where
+-- The input begins with a header and its authentication, it was read no further than to the end of
+-- a piece, and the output gained the header's listing.
+pub record Lists (uncommitted : Bool) (input taken : SourceState)
+    (old new : Option (List ℕ)) : Type 0 where
   pub header : HeaderValue
   pub begins : OnTold input.left (BeginsWithHeader uncommitted header)
   pub came : HeaderCame uncommitted header input taken
   pub gained : Appends old new (list_of header)
 
 -- So it is, but that the output gained a front of the header's listing.
-pub record ListsFront (uncommitted : Bool) (input taken : SourceState) (old new : Option (List ℕ)) : Type 0 where
+pub record ListsFront (uncommitted : Bool) (input taken : SourceState)
+    (old new : Option (List ℕ)) : Type 0 where
   pub header : HeaderValue
   pub begins : OnTold input.left (BeginsWithHeader uncommitted header)
   pub came : HeaderCame uncommitted header input taken
@@ -62,57 +72,45 @@ pub record ListsFront (uncommitted : Bool) (input taken : SourceState) (old new 
 
 -- ---- the input is refused
 
--- A field of the bytes that were taken has this fault, fewer than a piece of 65,536 of them stand behind it, and no read failed.
-pub record FaultCame (uncommitted : Bool) (fault : Fault) (old new : SourceState) : Type 0 where
-  pub bytes : List ℕ
-  pub at : ℕ
-  pub came : Came old new bytes
-  pub refused : header (limits_of uncommitted) (start bytes) ≡ Refused fault at
-  pub few : length bytes < at + 65536
-  pub faults : new.faults ≡ old.faults
+-- what the program calls it that no header came: an input that ends in the header is M10
+abbrev pub failure_as : NoHeader → Failure
+failure_as (errors.Fault fault) = failures.Fault fault
+failure_as (errors.End ends.Seen) = failures.Fault Truncated
+failure_as (errors.End ends.Failed) = failures.Outside outsides.SourceFault
+failure_as (errors.End ends.TooLong) = failures.Outside outsides.InputTooLong
+failure_as errors.Memory = failures.Memory
 
--- The whole input was taken, and ends before its header is whole.
-pub record EndCame (uncommitted : Bool) (old new : SourceState) : Type 0 where
-  pub bytes : List ℕ
-  pub came : Came old new bytes
-  pub end : EndSeen old new bytes
-  pub wanting : header (limits_of uncommitted) (start bytes) ≡ Wanting
-
--- The input has this fault: a field of the bytes that were taken has it, or the input ends too soon.
+-- The input has this fault: a field of the bytes that were taken has it, or the input ends too
+-- soon.
 pub record HasFault (uncommitted : Bool) (fault : Fault) (old new : SourceState) : Type 0 where
-  pub came : FaultCame uncommitted fault old new ⊎ ((fault ≡ Truncated) × EndCame uncommitted old new)
+  pub came : FaultCame (limits_of uncommitted) fault old new
+      ⊎ ((fault ≡ Truncated) × EndCame (limits_of uncommitted) old new)
   pub told : OnTold old.left (λ bytes. input_fault uncommitted bytes ≡ Some fault)
-
--- A read failed, and the bytes taken before neither have a fault nor a whole header.
-pub record ReadFailed (uncommitted : Bool) (old new : SourceState) : Type 0 where
-  pub bytes : List ℕ
-  pub came : Came old new bytes
-  pub wanting : header (limits_of uncommitted) (start bytes) ≡ Wanting
-  pub rose : Rose old.faults new.faults
-
--- 2^62 bytes of the input were taken, no read failed, and the bytes neither have a fault nor a whole header
-pub record TooLong (uncommitted : Bool) (old new : SourceState) : Type 0 where
-  pub bytes : List ℕ
-  pub came : Came old new bytes
-  pub most : MostTaken old new bytes
-  pub wanting : header (limits_of uncommitted) (start bytes) ≡ Wanting
 
 -- why the input is refused so
 abbrev pub IsInputCause : Bool → Failure → SourceState → SourceState → Type 0
 IsInputCause uncommitted (failures.Fault fault) old new = HasFault uncommitted fault old new
-IsInputCause uncommitted (failures.Outside outsides.SourceFault) old new = ReadFailed uncommitted old new
-IsInputCause uncommitted (failures.Outside outsides.InputTooLong) old new = TooLong uncommitted old new
+IsInputCause uncommitted (failures.Outside outsides.SourceFault) old new =
+    ReadFailed (limits_of uncommitted) old new
+IsInputCause uncommitted (failures.Outside outsides.InputTooLong) old new =
+    IsTooLong (limits_of uncommitted) old new
 IsInputCause uncommitted failures.Memory old new = ⊤
 IsInputCause uncommitted failure old new = ⊥
 
 -- why `list` ends so, by what the input and the output did
 abbrev pub IsListCause : Bool → Failure → SourceState → SourceState → SinkState → SinkState → Type 0
-IsListCause uncommitted (failures.Fault fault) old new before now = IsInputCause uncommitted (failures.Fault fault) old new
-IsListCause uncommitted (failures.Outside outsides.SinkFault) old new before now = Rose before.faults now.faults
-IsListCause uncommitted (failures.Outside outside) old new before now = IsInputCause uncommitted (failures.Outside outside) old new
+IsListCause uncommitted (failures.Fault fault) old new before now =
+    IsInputCause uncommitted (failures.Fault fault) old new
+IsListCause uncommitted (failures.Outside outsides.SinkFault) old new before now =
+    Rose before.faults now.faults
+IsListCause uncommitted (failures.Outside outside) old new before now =
+    IsInputCause uncommitted (failures.Outside outside) old new
 IsListCause uncommitted failure old new before now = IsInputCause uncommitted failure old new
 
--- A put that failed left a front of the listing of the input's header, and each other failure the output the same.
-abbrev pub LeavesOutput : Bool → Failure → SourceState → SourceState → SinkState → SinkState → Type 0 → Type 0
-LeavesOutput uncommitted (failures.Outside outsides.SinkFault) input taken old new same = ListsFront uncommitted input taken old.written new.written
+-- A put that failed left a front of the listing of the input's header, and each other failure the
+-- output the same.
+abbrev pub LeavesOutput : Bool → Failure → SourceState → SourceState → SinkState → SinkState
+    → Type 0 → Type 0
+LeavesOutput uncommitted (failures.Outside outsides.SinkFault) input taken old new same =
+    ListsFront uncommitted input taken old.written new.written
 LeavesOutput uncommitted failure input taken old new same = same

@@ -19,7 +19,8 @@ line name text = name ++ codes ": " ++ text ++ 10 ∷ []
 -- the parts of an encrypted data key, in hexadecimal
 unfoldable pub entry_text : Entry → List ℕ
 entry_text entry =
-    codes "provider=" ++ encode_lower entry.provider ++ codes " info=" ++ encode_lower entry.info ++ codes " ciphertext=" ++ encode_lower entry.cipher
+    codes "provider=" ++ encode_lower entry.provider ++ codes " info=" ++ encode_lower entry.info
+    ++ codes " ciphertext=" ++ encode_lower entry.cipher
 
 -- the line of the encrypted data key with this number
 unfoldable pub entry_line : ℕ → Entry → List ℕ
@@ -44,7 +45,8 @@ opening_lines h =
     ++ line (codes "context") (context_json h.stored)
     ++ line (codes "data-keys") (decimal (length h.entries))
 
--- the line of what only one of the two formats has: the commitment to the data key, or the header's initialization vector
+-- the line of what only one of the two formats has: the commitment to the data key, or the header's
+-- initialization vector
 abbrev pub key_line : Suite → HeaderValue → List ℕ
 key_line Committing h = line (codes "commitment") (encode_lower h.commitment)
 key_line Uncommitted h = line (codes "iv") (encode_lower h.iv)

@@ -1,13 +1,15 @@
 //! The command `list`.
 ghost use Rattle.std.specs.Prelude.{◌≡◌, ◌+◌, ◌≤◌, ◌^◌, IfErr, OnOk};
-ghost use Rattle.esdk_list.specs.List.{IsListCause, LeavesOutput, Lists};
+ghost use Rattle.esdk_list.specs.List.{IsListCause, LeavesOutput, Lists, failure_as, limits_of};
 
-use crate::header_input::read_header;
 use crate::listing::list_text;
 use esdk_base::{Sink, Source};
-use esdk_fields::Outside;
+use esdk_fields::{Fault, Outside};
 use esdk_report::Failure;
+use header_codec::Settings;
+use header_input::{NoHeader, take_header};
 use std::alloc::Global;
+use whole_input::End;
 
 /// Reads a header and its authentication from the input, and writes the header's listing. A header
 /// of a message without a commitment is a fault (M23), unless the caller allows these.
@@ -30,9 +32,9 @@ pub fn list<S: Source, O: Sink>(
         (O.state output.old) (O.state output.new) (output.new ≡ output.old)) }
     ensures taken { (S.state input.new).given ≤ (S.state input.old).given + 2 ^ 62 }
 {
-    let reader = match read_header(alloc, input, uncommitted) {
+    let reader = match take_header(alloc, input, limits_of(uncommitted)) {
         Ok(reader) => reader,
-        Err(failure) => return Err(failure),
+        Err(error) => return Err(failure_of(error)),
     };
     let Some(header) = reader.header() else {
         unreachable!()
@@ -41,5 +43,28 @@ pub fn list<S: Source, O: Sink>(
     match output.put(text.bytes()) {
         Ok(()) => Ok(()),
         Err(_) => Err(Failure::Outside(Outside::SinkFault)),
+    }
+}
+
+/// The limits within which a header is listed: a message without a commitment may be allowed.
+fn limits_of(uncommitted: bool) -> Settings
+    ensures { result ≡ limits_of uncommitted }
+{
+    Settings {
+        uncommitted,
+        ..Settings::none()
+    }
+}
+
+/// What the program calls it that no header came.
+fn failure_of(error: NoHeader) -> Failure
+    ensures { result ≡ failure_as error }
+{
+    match error {
+        NoHeader::Fault(fault) => Failure::Fault(fault),
+        NoHeader::End(End::Seen) => Failure::Fault(Fault::Truncated),
+        NoHeader::End(End::Failed) => Failure::Outside(Outside::SourceFault),
+        NoHeader::End(End::TooLong) => Failure::Outside(Outside::InputTooLong),
+        NoHeader::Memory => Failure::Memory,
     }
 }

@@ -3,7 +3,7 @@
 #![tactic(auto)]
 
 mod command;
-mod header_input;
 mod listing;
 
 pub use command::list;
+pub use listing::list_text;

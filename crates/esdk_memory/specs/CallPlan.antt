@@ -3,7 +3,8 @@ use Rattle.std.specs.Prelude.{◌==◌, ℕ, List, Bool, if◌then◌else◌}
 use Rattle.std.specs.List.{list_any}
 use Rattle.esdk_fields.specs.Counts.{counted}
 
--- The numbers of the calls that are to fail, how many calls came so far, and how many of them failed.
+-- The numbers of the calls that are to fail, how many calls came so far, and how many of them
+-- failed.
 pub record Plan : Type 0 where
   pub failing : List ℕ
   pub calls : ℕ

@@ -1,4 +1,5 @@
--- The files of a memory shelf, and their rows as maps from their names. The first row of a name counts.
+-- The files of a memory shelf, and their rows as maps from their names. The first row of a name
+-- counts.
 use Rattle.std.specs.Prelude.{◌≡◌, ◌<◌, ◌≤◌, ℕ, List, [], ◌∷◌, Bool, length, max, unwrap_or, bytes_eq, nat_lt, ◌+◌, slice_index_or as get_or}
 use Rattle.std.specs.declared.option.Option.{Option}
 use Rattle.std.specs.declared.option.Option.TheVariants.{None, Some}
@@ -36,7 +37,8 @@ with_room rooms name size = insert rooms name (max (room_of rooms name) size)
 
 -- the name would hold more than its room with so many bytes more
 abbrev pub is_too_long : MemFilesState → List ℕ → ℕ → Bool
-is_too_long held name more = nat_lt (room_of held.rooms name) (length (unwrap_or (get held.files name) []) + more)
+is_too_long held name more = nat_lt (room_of held.rooms name)
+    (length (unwrap_or (get held.files name) []) + more)
 
 -- the row has the name
 abbrev pub is_named : List ℕ → MemFileState → Bool

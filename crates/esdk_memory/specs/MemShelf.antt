@@ -6,7 +6,8 @@ use Rattle.esdk_memory.specs.CallPlan.{Plan, fails_next, after_call}
 use Rattle.esdk_memory.specs.MemFiles.{ByName, is_too_long, with_room}
 use Rattle.esdk_base.specs.Shelf.{Files, appended, created}
 
--- The files, how many bytes each name may hold where room was taken for it, how many bytes were given, and which calls are to fail.
+-- The files, how many bytes each name may hold where room was taken for it, how many bytes were
+-- given, and which calls are to fail.
 pub record MemShelfState : Type 0 where
   pub files : Files
   pub rooms : ByName ℕ
@@ -39,7 +40,8 @@ read_faults shelf name = not (is_absent shelf name) && fails_next shelf.plan
 -- the shelf after a read from the offset on into so much room
 abbrev pub after_read : MemShelfState → List ℕ → ℕ → ℕ → MemShelfState
 after_read shelf name at count = record shelf {
-  given = if read_fails shelf name then shelf.given else counted shelf.given (read_count shelf name at count);
+  given = if read_fails shelf name then shelf.given
+      else counted shelf.given (read_count shelf name at count);
   plan = after_call (read_faults shelf name) shelf.plan;
 }
 
@@ -54,11 +56,15 @@ after_create shelf name = record shelf {
   plan = after_call (create_fails shelf name) shelf.plan;
 }
 
--- the next append counts as a fault: it is to fail, or there is too little room, and the name is there
+-- the next append counts as a fault: it is to fail, or there is too little room, and the name is
+-- there
 abbrev pub append_faults : MemShelfState → List ℕ → List ℕ → Bool
 append_faults shelf name bytes =
     not (is_absent shelf name)
-    && (fails_next shelf.plan || is_too_long (record { files = shelf.files; rooms = shelf.rooms }) name (length bytes))
+    && (fails_next shelf.plan || is_too_long (record {
+      files = shelf.files;
+      rooms = shelf.rooms;
+    }) name (length bytes))
 
 -- the shelf after an append
 abbrev pub after_append : MemShelfState → List ℕ → List ℕ → MemShelfState

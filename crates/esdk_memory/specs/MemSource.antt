@@ -3,7 +3,8 @@ use Rattle.std.specs.Prelude.{ℕ, List, length, drop, min, if◌then◌else◌}
 use Rattle.esdk_fields.specs.Counts.{counted}
 use Rattle.esdk_memory.specs.CallPlan.{Plan, fails_next, after_call}
 
--- The bytes left, the most that one read gives, how many bytes were given, and which reads are to fail.
+-- The bytes left, the most that one read gives, how many bytes were given, and which reads are to
+-- fail.
 pub record MemSourceState : Type 0 where
   pub left : List ℕ
   pub most : ℕ

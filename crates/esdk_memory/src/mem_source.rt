@@ -1,6 +1,6 @@
 //! A source in memory.
 
-ghost use Rattle.std.specs.Prelude.{◌≡◌, ◌≤◌, IfOk, Some, is_err, length};
+ghost use Rattle.std.specs.Prelude.{◌≡◌, ◌≤◌, ⊤, IfOk, Some, is_err, length};
 ghost use Rattle.std.specs.Io.{ReadsAtMost};
 ghost use Rattle.std.specs.Io.KnownBytes.{ReadConsumes};
 ghost use Rattle.esdk_memory.specs.CallPlan.{fails_next};
@@ -71,6 +71,12 @@ impl MemSource {
 
 impl Source for MemSource {
     ghost state = { λ s. record { left = Some s.left; given = s.given; faults = s.plan.faults } };
+
+    ghost lasts = { λ _ _. ⊤ };
+
+    ghost lasts_none = { λ _. tt };
+
+    ghost lasts_more = { λ _ _ _ _ _. tt };
 
     fn read(&mut self, out: &mut [u8]) -> Result<usize, Failed>
         ensures bound { ReadsAtMost result out.new }

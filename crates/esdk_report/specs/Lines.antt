@@ -2,7 +2,8 @@
 use Rattle.std.specs.Prelude.{ℕ, ◌/◌, ◌%◌, List, [], ◌∷◌, ◌++◌, codes, decimal}
 use Rattle.std.specs.Char.{digit_char}
 use Rattle.json.specs.Print.{quoted}
-use Rattle.esdk_fields.specs.declared.faults.ContextFault.TheVariants as kinds
+use Rattle.esdk_fields.specs.Names.{kind_name, fault_name, refusal_name, file_name, outside_name}
+use Rattle.esdk_fields.specs.declared.faults.ContextFault.{ContextFault}
 use Rattle.esdk_fields.specs.declared.faults.Fault.{Fault}
 use Rattle.esdk_fields.specs.declared.faults.Fault.TheVariants as faults
 use Rattle.esdk_fields.specs.declared.refusals.Refusal.{Refusal}
@@ -10,7 +11,6 @@ use Rattle.esdk_fields.specs.declared.refusals.Refusal.TheVariants as refusals
 use Rattle.esdk_fields.specs.declared.refusals.FileRefusal.{FileRefusal}
 use Rattle.esdk_fields.specs.declared.refusals.FileRefusal.TheVariants as files
 use Rattle.esdk_fields.specs.declared.refusals.Outside.{Outside}
-use Rattle.esdk_fields.specs.declared.refusals.Outside.TheVariants as outsides
 
 -- a space, and the number in decimal
 unfoldable pub number_word : ℕ → List ℕ
@@ -22,74 +22,85 @@ text_word text = 32 ∷ quoted text
 
 -- a space, and the sixteen-bit number in four lower-case hexadecimal digits
 unfoldable pub hex_word : ℕ → List ℕ
-hex_word n = 32 ∷ digit_char (n / 4096) ∷ digit_char (n / 256 % 16) ∷ digit_char (n / 16 % 16) ∷ digit_char (n % 16) ∷ []
+hex_word n = 32 ∷ digit_char (n / 4096) ∷ digit_char (n / 256 % 16) ∷ digit_char (n / 16 % 16)
+    ∷ digit_char (n % 16) ∷ []
+
+-- a space, and what is wrong with the bytes of a context
+unfoldable pub kind_word : ContextFault → List ℕ
+kind_word kind = 32 ∷ kind_name kind
+
+-- the values of a fault of a message
+unfoldable pub fault_values : Fault → List ℕ
+fault_values (faults.BadVersion version) = number_word version
+fault_values (faults.UnsupportedSuite suite) = hex_word suite
+fault_values (faults.BadContext kind) = kind_word kind
+fault_values faults.NoDataKeys = []
+fault_values (faults.TooManyDataKeys count) = number_word count
+fault_values (faults.BadContentType kind) = number_word kind
+fault_values (faults.BadFrameLength frame) = number_word frame
+fault_values (faults.HeaderTooLong end) = number_word end
+fault_values (faults.UnitTooLong unit) = number_word unit
+fault_values faults.Truncated = []
+fault_values faults.ReservedKey = []
+fault_values (faults.ContextMismatch key) = text_word key
+fault_values (faults.MissingRequired key) = text_word key
+fault_values (faults.ContextTooLong total) = number_word total
+fault_values faults.NoKeyOpens = []
+fault_values faults.Commitment = []
+fault_values faults.HeaderTag = []
+fault_values (faults.WrongSequence want got) = number_word want ++ number_word got
+fault_values (faults.FinalTooLong final) = number_word final
+fault_values (faults.UnitTag sequence) = number_word sequence
+fault_values (faults.BlockTooLong block) = number_word block
+fault_values faults.TrailingBytes = []
+fault_values (faults.Uncommitted suite) = hex_word suite
+fault_values (faults.BadType kind) = number_word kind
+fault_values (faults.BadReserved reserved) = number_word reserved
+fault_values (faults.BadIvLength length) = number_word length
+fault_values (faults.BadArmour group) = number_word group
 
 -- the line of a fault of a message
 unfoldable pub fault_line : Fault → List ℕ
-fault_line (faults.BadVersion version) = codes "M1 BadVersion" ++ number_word version
-fault_line (faults.UnsupportedSuite suite) = codes "M2 UnsupportedSuite" ++ hex_word suite
-fault_line (faults.BadContext kinds.Length) = codes "M3 BadContext Length"
-fault_line (faults.BadContext kinds.Utf8) = codes "M3 BadContext Utf8"
-fault_line (faults.BadContext kinds.Duplicate) = codes "M3 BadContext Duplicate"
-fault_line faults.NoDataKeys = codes "M4 NoDataKeys"
-fault_line (faults.TooManyDataKeys count) = codes "M5 TooManyDataKeys" ++ number_word count
-fault_line (faults.BadContentType kind) = codes "M6 BadContentType" ++ number_word kind
-fault_line (faults.BadFrameLength frame) = codes "M7 BadFrameLength" ++ number_word frame
-fault_line (faults.HeaderTooLong end) = codes "M8 HeaderTooLong" ++ number_word end
-fault_line (faults.UnitTooLong unit) = codes "M9 UnitTooLong" ++ number_word unit
-fault_line faults.Truncated = codes "M10 Truncated"
-fault_line faults.ReservedKey = codes "M11 ReservedKey"
-fault_line (faults.ContextMismatch key) = codes "M12 ContextMismatch" ++ text_word key
-fault_line (faults.MissingRequired key) = codes "M13 MissingRequired" ++ text_word key
-fault_line (faults.ContextTooLong total) = codes "M14 ContextTooLong" ++ number_word total
-fault_line faults.NoKeyOpens = codes "M15 NoKeyOpens"
-fault_line faults.Commitment = codes "M16 Commitment"
-fault_line faults.HeaderTag = codes "M17 HeaderTag"
-fault_line (faults.WrongSequence want got) = codes "M18 WrongSequence" ++ number_word want ++ number_word got
-fault_line (faults.FinalTooLong final) = codes "M19 FinalTooLong" ++ number_word final
-fault_line (faults.UnitTag sequence) = codes "M20 UnitTag" ++ number_word sequence
-fault_line (faults.BlockTooLong block) = codes "M21 BlockTooLong" ++ number_word block
-fault_line faults.TrailingBytes = codes "M22 TrailingBytes"
-fault_line (faults.Uncommitted suite) = codes "M23 Uncommitted" ++ hex_word suite
-fault_line (faults.BadType kind) = codes "M24 BadType" ++ number_word kind
-fault_line (faults.BadReserved reserved) = codes "M25 BadReserved" ++ number_word reserved
-fault_line (faults.BadIvLength length) = codes "M26 BadIvLength" ++ number_word length
+fault_line fault = fault_name fault ++ fault_values fault
+
+-- the values of a refused request
+unfoldable pub refusal_values : Refusal → List ℕ
+refusal_values (refusals.ReservedPrefix key) = text_word key
+refusal_values (refusals.ContextTooLong total) = number_word total
+refusal_values (refusals.DuplicateKey key) = text_word key
+refusal_values (refusals.RequiredAbsent key) = text_word key
+refusal_values refusals.NoGenerator = []
+refusal_values refusals.GeneratorHasKey = []
+refusal_values (refusals.TooManyDataKeys count) = number_word count
+refusal_values (refusals.HeaderTooLong end) = number_word end
+refusal_values refusals.TooManyFrames = []
+refusal_values (refusals.OverDeclared declared) = number_word declared
 
 -- the line of a refused request
 unfoldable pub refusal_line : Refusal → List ℕ
-refusal_line (refusals.ReservedPrefix key) = codes "Q1 ReservedPrefix" ++ text_word key
-refusal_line (refusals.ContextTooLong total) = codes "Q2 ContextTooLong" ++ number_word total
-refusal_line (refusals.DuplicateKey key) = codes "Q3 DuplicateKey" ++ text_word key
-refusal_line (refusals.RequiredAbsent key) = codes "Q4 RequiredAbsent" ++ text_word key
-refusal_line refusals.NoGenerator = codes "Q5 NoGenerator"
-refusal_line refusals.GeneratorHasKey = codes "Q6 GeneratorHasKey"
-refusal_line (refusals.TooManyDataKeys count) = codes "Q7 TooManyDataKeys" ++ number_word count
-refusal_line (refusals.HeaderTooLong end) = codes "Q8 HeaderTooLong" ++ number_word end
-refusal_line refusals.TooManyFrames = codes "Q9 TooManyFrames"
-refusal_line (refusals.OverDeclared declared) = codes "Q10 OverDeclared" ++ number_word declared
+refusal_line refusal = refusal_name refusal ++ refusal_values refusal
+
+-- the values of a refused keyring file or job file
+unfoldable pub file_values : FileRefusal → List ℕ
+file_values files.NotJson = []
+file_values (files.BadShape place) = number_word place
+file_values (files.BadKey place) = number_word place
+file_values files.ReservedNamespace = []
+file_values (files.ClashingKeys namespace name) = text_word namespace ++ text_word name
+file_values files.TooDeep = []
+file_values files.TooManyLeaves = []
+file_values (files.NoSuchPlug name) = text_word name
+file_values (files.NamesClash name) = text_word name
+file_values files.FileTooLong = []
+file_values (files.NotRaw place) = number_word place
 
 -- the line of a refused keyring file or job file
 unfoldable pub file_line : FileRefusal → List ℕ
-file_line files.NotJson = codes "K1 NotJson"
-file_line (files.BadShape place) = codes "K2 BadShape" ++ number_word place
-file_line (files.BadKey place) = codes "K3 BadKey" ++ number_word place
-file_line files.ReservedNamespace = codes "K4 ReservedNamespace"
-file_line (files.ClashingKeys namespace name) = codes "K5 ClashingKeys" ++ text_word namespace ++ text_word name
-file_line files.TooDeep = codes "K6 TooDeep"
-file_line files.TooManyLeaves = codes "K7 TooManyLeaves"
-file_line (files.NoSuchPlug name) = codes "K8 NoSuchPlug" ++ text_word name
-file_line (files.NamesClash name) = codes "K9 NamesClash" ++ text_word name
-file_line files.FileTooLong = codes "K10 FileTooLong"
-file_line (files.NotRaw place) = codes "K11 NotRaw" ++ number_word place
+file_line refusal = file_name refusal ++ file_values refusal
 
--- the line of what failed outside of the library
+-- the line of what failed outside of the library, which has no values
 unfoldable pub outside_line : Outside → List ℕ
-outside_line outsides.SourceFault = codes "X1 SourceFault"
-outside_line outsides.SinkFault = codes "X2 SinkFault"
-outside_line outsides.ShelfFault = codes "X3 ShelfFault"
-outside_line outsides.EntropyFault = codes "X4 EntropyFault"
-outside_line outsides.KeyringFault = codes "X5 KeyringFault"
-outside_line outsides.InputTooLong = codes "X6 InputTooLong"
+outside_line outside = outside_name outside
 
 -- the line as it is printed: after `esdk: `, and with a line feed
 unfoldable pub printed_line : List ℕ → List ℕ

@@ -3,6 +3,7 @@ use Rattle.std.specs.Prelude.{◌≡◌, ◌≤◌, ◌⊎◌, ℕ, List, [], �
 use Rattle.std.specs.Io.KnownBytes.{Appends}
 use Rattle.esdk_args.specs.Options.{option_text}
 use Rattle.esdk_fields.specs.Counts.{Rose, Stayed}
+use Rattle.esdk_fields.specs.Names.{fault_name, refusal_name, file_name, outside_name}
 use Rattle.esdk_base.specs.Sink.{AppendsFront}
 use Rattle.context_codec.specs.Context.{KeyValue}
 use Rattle.esdk_base.specs.Streams.{SinkState}
@@ -22,6 +23,17 @@ line_of (failures.Outside outside) = outside_line outside
 line_of (failures.Refusal refusal) = refusal_line refusal
 line_of failures.Memory = codes "Memory"
 
+-- what is shown of a failure as an error: as its line begins
+unfoldable pub failure_text : Failure → List ℕ
+failure_text failures.NotRead = codes "words NotRead"
+failure_text (failures.BadNumber name) = codes "words BadNumber " ++ option_text name
+failure_text (failures.BadPair number) = codes "words BadPair " ++ decimal number
+failure_text (failures.Fault fault) = fault_name fault
+failure_text (failures.File refusal) = file_name refusal
+failure_text (failures.Outside outside) = outside_name outside
+failure_text (failures.Refusal refusal) = refusal_name refusal
+failure_text failures.Memory = codes "memory ran out"
+
 -- the exit status of a failure
 abbrev pub code_of : Failure → ℕ
 code_of failures.NotRead = 2
@@ -40,17 +52,21 @@ pub record Gains (bytes : List ℕ) (old new : SinkState) : Type 0 where
   pub whole : Stayed old.faults new.faults → Appends old.written new.written bytes
 
 -- The status is this failure's, and the report gained the failure's line.
-pub record Answers (failure : Failure) (code : ℕ) (old new : SinkState) : Type 0 where
+pub record IsReported (failure : Failure) (code : ℕ) (old new : SinkState) : Type 0 where
   pub status : code ≡ code_of failure
   pub line : Gains (printed_line (line_of failure)) old new
 
 -- So it is, but that memory may be missing for the line of a bad pair, of a fault or of a refusal.
 abbrev pub Reports : Failure → ℕ → SinkState → SinkState → Type 0
-Reports (failures.BadPair number) code old new = Answers (failures.BadPair number) code old new ⊎ Answers failures.Memory code old new
-Reports (failures.Fault fault) code old new = Answers (failures.Fault fault) code old new ⊎ Answers failures.Memory code old new
-Reports (failures.File refusal) code old new = Answers (failures.File refusal) code old new ⊎ Answers failures.Memory code old new
-Reports (failures.Refusal refusal) code old new = Answers (failures.Refusal refusal) code old new ⊎ Answers failures.Memory code old new
-Reports failure code old new = Answers failure code old new
+Reports (failures.BadPair number) code old new =
+    IsReported (failures.BadPair number) code old new ⊎ IsReported failures.Memory code old new
+Reports (failures.Fault fault) code old new =
+    IsReported (failures.Fault fault) code old new ⊎ IsReported failures.Memory code old new
+Reports (failures.File refusal) code old new =
+    IsReported (failures.File refusal) code old new ⊎ IsReported failures.Memory code old new
+Reports (failures.Refusal refusal) code old new =
+    IsReported (failures.Refusal refusal) code old new ⊎ IsReported failures.Memory code old new
+Reports failure code old new = IsReported failure code old new
 
 -- the line of a whole context, as it is printed once a message was decrypted
 unfoldable pub context_line : List KeyValue → List ℕ

@@ -30,6 +30,12 @@ pub enum Failure {
 }
 
 impl fmt::Display for Failure {
+    ghost use Rattle.std.specs.Prelude.{Some};
+    ghost use Rattle.esdk_report.specs.Report.{failure_text};
+
+    ghost output = { λ e. Some (failure_text e) };
+
+    #[tactic(auto, unfolding(crate::specs::Report::failure_text))]
     fn fmt<W: fmt::Write>(&self, f: &mut fmt::Formatter<W>) -> fmt::Result {
         match self {
             Failure::NotRead => f.write_str("words NotRead"),

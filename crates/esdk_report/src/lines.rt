@@ -1,9 +1,9 @@
 //! The lines that name what was refused. A line is a number, a name, then each value after a space;
-//! it has no line feed.
+//! it has no line feed. The numbers and the names are those of `name`.
 
 ghost use Rattle.std.specs.Prelude.{◌≡◌, ◌++◌, ◌<◌, IfOk, OnOk, OnErr};
 ghost use Rattle.std.specs.Char.{digit_char};
-ghost use Rattle.esdk_report.specs.Lines.{number_word, text_word, hex_word, fault_line, refusal_line, file_line, outside_line, printed_line};
+ghost use Rattle.esdk_report.specs.Lines.{kind_word, number_word, text_word, hex_word, fault_line, fault_values, refusal_line, refusal_values, file_line, file_values, outside_line, printed_line};
 
 use esdk_fields::{Blob, ContextFault, Fault, FileRefusal, Outside, Refusal, Text};
 use serde_json::Value;
@@ -14,45 +14,9 @@ use std::alloc::{AllocError, Global};
 pub fn fault_text(alloc: Global, fault: &Fault) -> Result<Blob, AllocError>
     ensures { IfOk result (λ line. line ≡ fault_line fault.now) }
 {
-    match fault {
-        Fault::BadVersion(version) => with_number(alloc, "M1 BadVersion", u64::from(*version)),
-        Fault::UnsupportedSuite(suite) => with_hex(alloc, "M2 UnsupportedSuite", *suite),
-        Fault::BadContext(ContextFault::Length) => alone(alloc, "M3 BadContext Length"),
-        Fault::BadContext(ContextFault::Utf8) => alone(alloc, "M3 BadContext Utf8"),
-        Fault::BadContext(ContextFault::Duplicate) => alone(alloc, "M3 BadContext Duplicate"),
-        Fault::NoDataKeys => alone(alloc, "M4 NoDataKeys"),
-        Fault::TooManyDataKeys(count) => with_number(
-            alloc,
-            "M5 TooManyDataKeys",
-            u64::from(*count),
-        ),
-        Fault::BadContentType(kind) => with_number(alloc, "M6 BadContentType", u64::from(*kind)),
-        Fault::BadFrameLength(frame) => with_number(alloc, "M7 BadFrameLength", u64::from(*frame)),
-        Fault::HeaderTooLong(end) => with_number(alloc, "M8 HeaderTooLong", u64::from(*end)),
-        Fault::UnitTooLong(unit) => with_number(alloc, "M9 UnitTooLong", *unit),
-        Fault::Truncated => alone(alloc, "M10 Truncated"),
-        Fault::ReservedKey => alone(alloc, "M11 ReservedKey"),
-        Fault::ContextMismatch(key) => with_text(alloc, "M12 ContextMismatch", key),
-        Fault::MissingRequired(key) => with_text(alloc, "M13 MissingRequired", key),
-        Fault::ContextTooLong(total) => with_number(alloc, "M14 ContextTooLong", u64::from(*total)),
-        Fault::NoKeyOpens => alone(alloc, "M15 NoKeyOpens"),
-        Fault::Commitment => alone(alloc, "M16 Commitment"),
-        Fault::HeaderTag => alone(alloc, "M17 HeaderTag"),
-        Fault::WrongSequence { want, got } => with_two_numbers(
-            alloc,
-            "M18 WrongSequence",
-            *want,
-            *got,
-        ),
-        Fault::FinalTooLong(length) => with_number(alloc, "M19 FinalTooLong", u64::from(*length)),
-        Fault::UnitTag(sequence) => with_number(alloc, "M20 UnitTag", u64::from(*sequence)),
-        Fault::BlockTooLong(length) => with_number(alloc, "M21 BlockTooLong", *length),
-        Fault::TrailingBytes => alone(alloc, "M22 TrailingBytes"),
-        Fault::Uncommitted(suite) => with_hex(alloc, "M23 Uncommitted", *suite),
-        Fault::BadType(kind) => with_number(alloc, "M24 BadType", u64::from(*kind)),
-        Fault::BadReserved(reserved) => with_number(alloc, "M25 BadReserved", u64::from(*reserved)),
-        Fault::BadIvLength(length) => with_number(alloc, "M26 BadIvLength", u64::from(*length)),
-    }
+    let mut line = alone(alloc, fault.name())?;
+    push_fault_values(alloc, &mut line, fault)?;
+    Ok(line)
 }
 
 /// The line that names why a request was refused. Fails only where memory runs out.
@@ -60,22 +24,9 @@ pub fn fault_text(alloc: Global, fault: &Fault) -> Result<Blob, AllocError>
 pub fn refusal_text(alloc: Global, refusal: &Refusal) -> Result<Blob, AllocError>
     ensures { IfOk result (λ line. line ≡ refusal_line refusal.now) }
 {
-    match refusal {
-        Refusal::ReservedPrefix(key) => with_text(alloc, "Q1 ReservedPrefix", key),
-        Refusal::ContextTooLong(total) => with_wide_number(alloc, "Q2 ContextTooLong", *total),
-        Refusal::DuplicateKey(key) => with_text(alloc, "Q3 DuplicateKey", key),
-        Refusal::RequiredAbsent(key) => with_text(alloc, "Q4 RequiredAbsent", key),
-        Refusal::NoGenerator => alone(alloc, "Q5 NoGenerator"),
-        Refusal::GeneratorHasKey => alone(alloc, "Q6 GeneratorHasKey"),
-        Refusal::TooManyDataKeys(count) => with_number(
-            alloc,
-            "Q7 TooManyDataKeys",
-            u64::from(*count),
-        ),
-        Refusal::HeaderTooLong(end) => with_number(alloc, "Q8 HeaderTooLong", *end),
-        Refusal::TooManyFrames => alone(alloc, "Q9 TooManyFrames"),
-        Refusal::OverDeclared(declared) => with_number(alloc, "Q10 OverDeclared", *declared),
-    }
+    let mut line = alone(alloc, refusal.name())?;
+    push_refusal_values(alloc, &mut line, refusal)?;
+    Ok(line)
 }
 
 /// The line that names why a keyring file or a job file was refused. Fails only where memory runs
@@ -84,24 +35,9 @@ pub fn refusal_text(alloc: Global, refusal: &Refusal) -> Result<Blob, AllocError
 pub fn file_text(alloc: Global, refusal: &FileRefusal) -> Result<Blob, AllocError>
     ensures { IfOk result (λ line. line ≡ file_line refusal.now) }
 {
-    match refusal {
-        FileRefusal::NotJson => alone(alloc, "K1 NotJson"),
-        FileRefusal::BadShape(place) => with_number(alloc, "K2 BadShape", u64::from(*place)),
-        FileRefusal::BadKey(place) => with_number(alloc, "K3 BadKey", u64::from(*place)),
-        FileRefusal::ReservedNamespace => alone(alloc, "K4 ReservedNamespace"),
-        FileRefusal::ClashingKeys(namespace, name) => with_two_texts(
-            alloc,
-            "K5 ClashingKeys",
-            namespace,
-            name,
-        ),
-        FileRefusal::TooDeep => alone(alloc, "K6 TooDeep"),
-        FileRefusal::TooManyLeaves => alone(alloc, "K7 TooManyLeaves"),
-        FileRefusal::NoSuchPlug(name) => with_text(alloc, "K8 NoSuchPlug", name),
-        FileRefusal::NamesClash(name) => with_text(alloc, "K9 NamesClash", name),
-        FileRefusal::FileTooLong => alone(alloc, "K10 FileTooLong"),
-        FileRefusal::NotRaw(place) => with_number(alloc, "K11 NotRaw", u64::from(*place)),
-    }
+    let mut line = alone(alloc, refusal.name())?;
+    push_file_values(alloc, &mut line, refusal)?;
+    Ok(line)
 }
 
 /// The line that names what failed outside of the library. Fails only where memory runs out.
@@ -109,14 +45,7 @@ pub fn file_text(alloc: Global, refusal: &FileRefusal) -> Result<Blob, AllocErro
 pub fn outside_text(alloc: Global, outside: &Outside) -> Result<Blob, AllocError>
     ensures { IfOk result (λ line. line ≡ outside_line outside.now) }
 {
-    match outside {
-        Outside::SourceFault => alone(alloc, "X1 SourceFault"),
-        Outside::SinkFault => alone(alloc, "X2 SinkFault"),
-        Outside::ShelfFault => alone(alloc, "X3 ShelfFault"),
-        Outside::EntropyFault => alone(alloc, "X4 EntropyFault"),
-        Outside::KeyringFault => alone(alloc, "X5 KeyringFault"),
-        Outside::InputTooLong => alone(alloc, "X6 InputTooLong"),
-    }
+    alone(alloc, outside.name())
 }
 
 /// The line as it is printed: after `esdk: `, and with a line feed. Fails only where memory runs
@@ -139,61 +68,106 @@ fn alone(alloc: Global, name: &str) -> Result<Blob, AllocError>
     Ok(line)
 }
 
-fn with_number(alloc: Global, name: &str, n: u64) -> Result<Blob, AllocError>
-    ensures { IfOk result (λ line. line ≡ name.now ++ number_word n) }
+/// Puts the values of a fault behind its name.
+#[tactic(auto, using(crate::proofs::NoValues::no_values), unfolding(crate::specs::Lines::fault_values))]
+fn push_fault_values(alloc: Global, line: &mut Blob, fault: &Fault) -> Result<(), AllocError>
+    ensures { OnOk result (line.new ≡ line.old ++ fault_values fault.now) }
 {
-    let mut line = alone(alloc, name)?;
-    push_number(alloc, &mut line, n)?;
-    Ok(line)
+    match fault {
+        Fault::BadVersion(version) => push_number(alloc, line, u128::from(*version)),
+        Fault::UnsupportedSuite(suite) => push_hex(line, *suite),
+        Fault::BadContext(kind) => push_kind(line, *kind),
+        Fault::TooManyDataKeys(count) => push_number(alloc, line, u128::from(*count)),
+        Fault::BadContentType(kind) => push_number(alloc, line, u128::from(*kind)),
+        Fault::BadFrameLength(frame) => push_number(alloc, line, u128::from(*frame)),
+        Fault::HeaderTooLong(end) => push_number(alloc, line, u128::from(*end)),
+        Fault::UnitTooLong(unit) => push_number(alloc, line, u128::from(*unit)),
+        Fault::ContextMismatch(key) => push_text(alloc, line, key),
+        Fault::MissingRequired(key) => push_text(alloc, line, key),
+        Fault::ContextTooLong(total) => push_number(alloc, line, u128::from(*total)),
+        Fault::WrongSequence { want, got } => push_two_numbers(alloc, line, *want, *got),
+        Fault::FinalTooLong(length) => push_number(alloc, line, u128::from(*length)),
+        Fault::UnitTag(sequence) => push_number(alloc, line, u128::from(*sequence)),
+        Fault::BlockTooLong(length) => push_number(alloc, line, u128::from(*length)),
+        Fault::Uncommitted(suite) => push_hex(line, *suite),
+        Fault::BadType(kind) => push_number(alloc, line, u128::from(*kind)),
+        Fault::BadReserved(reserved) => push_number(alloc, line, u128::from(*reserved)),
+        Fault::BadIvLength(length) => push_number(alloc, line, u128::from(*length)),
+        Fault::BadArmour(group) => push_number(alloc, line, u128::from(*group)),
+        Fault::NoDataKeys
+        | Fault::Truncated
+        | Fault::ReservedKey
+        | Fault::NoKeyOpens
+        | Fault::Commitment
+        | Fault::HeaderTag
+        | Fault::TrailingBytes => Ok(()),
+    }
 }
 
-fn with_two_numbers(alloc: Global, name: &str, first: u32, second: u32) -> Result<Blob, AllocError>
-    ensures { IfOk result (λ line. line ≡ name.now ++ number_word first ++ number_word second) }
+/// Puts the values of a refused request behind its name.
+#[tactic(auto, using(crate::proofs::NoValues::no_values), unfolding(crate::specs::Lines::refusal_values))]
+fn push_refusal_values(alloc: Global, line: &mut Blob, refusal: &Refusal) -> Result<(), AllocError>
+    ensures { OnOk result (line.new ≡ line.old ++ refusal_values refusal.now) }
 {
-    let mut line = alone(alloc, name)?;
-    push_number(alloc, &mut line, u64::from(first))?;
-    push_number(alloc, &mut line, u64::from(second))?;
-    Ok(line)
+    match refusal {
+        Refusal::ReservedPrefix(key) => push_text(alloc, line, key),
+        Refusal::ContextTooLong(total) => push_number(alloc, line, *total),
+        Refusal::DuplicateKey(key) => push_text(alloc, line, key),
+        Refusal::RequiredAbsent(key) => push_text(alloc, line, key),
+        Refusal::TooManyDataKeys(count) => push_number(alloc, line, u128::from(*count)),
+        Refusal::HeaderTooLong(end) => push_number(alloc, line, u128::from(*end)),
+        Refusal::OverDeclared(declared) => push_number(alloc, line, u128::from(*declared)),
+        Refusal::NoGenerator | Refusal::GeneratorHasKey | Refusal::TooManyFrames => Ok(()),
+    }
+}
+
+/// Puts the values of a refused file behind its name.
+#[tactic(auto, using(crate::proofs::NoValues::no_values), unfolding(crate::specs::Lines::file_values))]
+fn push_file_values(alloc: Global, line: &mut Blob, refusal: &FileRefusal) -> Result<(), AllocError>
+    ensures { OnOk result (line.new ≡ line.old ++ file_values refusal.now) }
+{
+    match refusal {
+        FileRefusal::BadShape(place) => push_number(alloc, line, u128::from(*place)),
+        FileRefusal::BadKey(place) => push_number(alloc, line, u128::from(*place)),
+        FileRefusal::ClashingKeys(namespace, name) => push_two_texts(alloc, line, namespace, name),
+        FileRefusal::NoSuchPlug(name) => push_text(alloc, line, name),
+        FileRefusal::NamesClash(name) => push_text(alloc, line, name),
+        FileRefusal::NotRaw(place) => push_number(alloc, line, u128::from(*place)),
+        FileRefusal::NotJson
+        | FileRefusal::ReservedNamespace
+        | FileRefusal::TooDeep
+        | FileRefusal::TooManyLeaves
+        | FileRefusal::FileTooLong => Ok(()),
+    }
+}
+
+#[tactic(auto, using(std::proofs::Common::append_assoc), unfolding(crate::specs::Lines::kind_word))]
+fn push_kind(line: &mut Blob, kind: ContextFault) -> Result<(), AllocError>
+    ensures { OnOk result (line.new ≡ line.old ++ kind_word kind) }
+{
+    line.push_all(b" ")?;
+    line.push_all(kind.name().as_bytes())
 }
 
 #[tactic(auto, unfolding(crate::specs::Lines::number_word))]
-fn push_number(alloc: Global, line: &mut Blob, n: u64) -> Result<(), AllocError>
+fn push_number(alloc: Global, line: &mut Blob, n: u128) -> Result<(), AllocError>
     ensures { OnOk result (line.new ≡ line.old ++ number_word n) }
 {
     let word = format!(in alloc; " {n}")?;
     line.push_all(word.as_bytes())
 }
 
-#[tactic(auto, unfolding(crate::specs::Lines::number_word))]
-fn with_wide_number(alloc: Global, name: &str, n: u128) -> Result<Blob, AllocError>
-    ensures { IfOk result (λ line. line ≡ name.now ++ number_word n) }
-{
-    let mut line = alone(alloc, name)?;
-    let word = format!(in alloc; " {n}")?;
-    line.push_all(word.as_bytes())?;
-    Ok(line)
-}
-
-fn with_text(alloc: Global, name: &str, text: &Text) -> Result<Blob, AllocError>
-    ensures { IfOk result (λ line. line ≡ name.now ++ text_word text.now) }
-{
-    let mut line = alone(alloc, name)?;
-    push_text(alloc, &mut line, text)?;
-    Ok(line)
-}
-
-fn with_two_texts(
+#[tactic(auto, using(std::proofs::Common::append_assoc))]
+fn push_two_numbers(
     alloc: Global,
-    name: &str,
-    first: &Text,
-    second: &Text,
-) -> Result<Blob, AllocError>
-    ensures { IfOk result (λ line. line ≡ name.now ++ text_word first.now ++ text_word second.now) }
+    line: &mut Blob,
+    first: u32,
+    second: u32,
+) -> Result<(), AllocError>
+    ensures { OnOk result (line.new ≡ line.old ++ number_word first ++ number_word second) }
 {
-    let mut line = alone(alloc, name)?;
-    push_text(alloc, &mut line, first)?;
-    push_text(alloc, &mut line, second)?;
-    Ok(line)
+    push_number(alloc, line, u128::from(first))?;
+    push_number(alloc, line, u128::from(second))
 }
 
 #[tactic(auto, unfolding(crate::specs::Lines::text_word))]
@@ -205,11 +179,23 @@ fn push_text(alloc: Global, line: &mut Blob, text: &Text) -> Result<(), AllocErr
     line.push_all(word.as_bytes())
 }
 
-#[tactic(auto, unfolding(crate::specs::Lines::hex_word))]
-fn with_hex(alloc: Global, name: &str, n: u16) -> Result<Blob, AllocError>
-    ensures { IfOk result (λ line. line ≡ name.now ++ hex_word n) }
+#[tactic(auto, using(std::proofs::Common::append_assoc))]
+fn push_two_texts(
+    alloc: Global,
+    line: &mut Blob,
+    first: &Text,
+    second: &Text,
+) -> Result<(), AllocError>
+    ensures { OnOk result (line.new ≡ line.old ++ text_word first.now ++ text_word second.now) }
 {
-    let mut line = alone(alloc, name)?;
+    push_text(alloc, line, first)?;
+    push_text(alloc, line, second)
+}
+
+#[tactic(auto, unfolding(crate::specs::Lines::hex_word))]
+fn push_hex(line: &mut Blob, n: u16) -> Result<(), AllocError>
+    ensures { OnOk result (line.new ≡ line.old ++ hex_word n) }
+{
     let word = [
         b' ',
         hex_digit(n / 4096),
@@ -217,8 +203,7 @@ fn with_hex(alloc: Global, name: &str, n: u16) -> Result<Blob, AllocError>
         hex_digit(n / 16 % 16),
         hex_digit(n % 16),
     ];
-    line.push_all(&word)?;
-    Ok(line)
+    line.push_all(&word)
 }
 
 fn hex_digit(digit: u16) -> u8

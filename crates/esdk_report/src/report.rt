@@ -2,7 +2,7 @@
 ghost use Rattle.std.specs.Prelude.{◌≡◌, List, IfOk, string_bytes};
 ghost use Rattle.context_codec.specs.Context.{KeyValue};
 ghost use Rattle.esdk_report.specs.Lines.{fault_line, file_line, outside_line, printed_line, refusal_line};
-ghost use Rattle.esdk_report.specs.Report.{Answers, Gains, Reports, TellsContext, context_line, line_of};
+ghost use Rattle.esdk_report.specs.Report.{IsReported, Gains, Reports, TellsContext, context_line, line_of};
 ghost use Rattle.esdk_report.specs.declared.failure.Failure.TheVariants as failures;
 
 use crate::context_line::context_text;
@@ -37,7 +37,7 @@ pub fn report_failure<R: Sink>(alloc: Global, failure: &Failure, report: &mut R)
 /// Puts the line of words that name no command, or that their command does not take.
 #[tactic(auto, unfolding(crate::specs::Lines::printed_line))]
 fn report_not_read<R: Sink>(report: &mut R) -> Status
-    ensures { Answers failures.NotRead result.code (R.state report.old) (R.state report.new) }
+    ensures { IsReported failures.NotRead result.code (R.state report.old) (R.state report.new) }
 {
     put_line(b"esdk: words NotRead\n", report);
     Status::WORDS
@@ -45,7 +45,7 @@ fn report_not_read<R: Sink>(report: &mut R) -> Status
 
 /// Puts the line of an option whose number is refused.
 fn report_number<R: Sink>(name: OptionName, report: &mut R) -> Status
-    ensures { Answers (failures.BadNumber name) result.code (R.state report.old)
+    ensures { IsReported (failures.BadNumber name) result.code (R.state report.old)
         (R.state report.new) }
 {
     put_line(line_of_number(name), report);
@@ -90,7 +90,7 @@ fn report_file<R: Sink>(alloc: Global, refusal: &FileRefusal, report: &mut R) ->
 
 /// Puts the line of a failure outside.
 fn report_outside<R: Sink>(outside: Outside, report: &mut R) -> Status
-    ensures { Answers (failures.Outside outside) result.code (R.state report.old)
+    ensures { IsReported (failures.Outside outside) result.code (R.state report.old)
         (R.state report.new) }
 {
     put_line(line_of_outside(outside), report);
@@ -112,7 +112,7 @@ fn report_refusal<R: Sink>(alloc: Global, refusal: &Refusal, report: &mut R) -> 
 /// Puts the line of want of memory, which takes none.
 #[tactic(auto, unfolding(crate::specs::Lines::printed_line))]
 fn report_memory<R: Sink>(report: &mut R) -> Status
-    ensures { Answers failures.Memory result.code (R.state report.old) (R.state report.new) }
+    ensures { IsReported failures.Memory result.code (R.state report.old) (R.state report.new) }
 {
     put_line(b"esdk: Memory\n", report);
     Status::MEMORY
@@ -164,7 +164,7 @@ fn line_of_pair(alloc: Global, number: u32) -> Result<String, AllocError>
 }
 
 /// The whole line of a failure outside, which takes no memory: it is there when all else failed.
-#[tactic(auto, unfolding(crate::specs::Lines::printed_line, crate::specs::Lines::outside_line))]
+#[tactic(auto, unfolding(crate::specs::Lines::printed_line, crate::specs::Lines::outside_line, esdk_fields::specs::Names::outside_name))]
 fn line_of_outside(outside: Outside) -> &'static [u8]
     ensures { result.now ≡ printed_line (outside_line outside) }
 {

@@ -4,4 +4,5 @@ use Rattle.std.specs.Fmt.{decimal}
 
 -- `.esdk-PID-N.part`
 abbrev pub part_name : ℕ → ℕ → List ℕ
-part_name process number = codes ".esdk-" ++ (decimal process ++ (codes "-" ++ (decimal number ++ codes ".part")))
+part_name process number = codes ".esdk-"
+    ++ (decimal process ++ (codes "-" ++ (decimal number ++ codes ".part")))

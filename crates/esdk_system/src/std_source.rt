@@ -1,6 +1,6 @@
 //! Any reader of std as a source.
 
-ghost use Rattle.std.specs.Prelude.{◌≡◌, None};
+ghost use Rattle.std.specs.Prelude.{◌≡◌, ⊤, None};
 ghost use Rattle.std.specs.Io.{ReadsAtMost};
 ghost use Rattle.std.specs.Io.KnownBytes.{ReadConsumes};
 ghost use Rattle.esdk_fields.specs.Counts.{CountsGiven, HasCause};
@@ -42,6 +42,12 @@ impl<R: Read> StdSource<R> {
 
 impl<R: Read> Source for StdSource<R> {
     ghost state = { λ s. record { left = None; given = s.given; faults = s.faults } };
+
+    ghost lasts = { λ _ _. ⊤ };
+
+    ghost lasts_none = { λ _. tt };
+
+    ghost lasts_more = { λ _ _ _ _ _. tt };
 
     fn read(&mut self, out: &mut [u8]) -> Result<usize, Failed>
         ensures bound { ReadsAtMost result out.new }

@@ -11,7 +11,8 @@ use Rattle.whole_input.specs.Pieces.{most_piece}
 abbrev pub most_file : ℕ
 most_file = 1048576
 
--- The file has just these bytes, where the shelf tells, and just so many were given; there are at most 1,048,576, and no read failed.
+-- The file has just these bytes, where the shelf tells, and just so many were given; there are at
+-- most 1,048,576, and no read failed.
 pub record IsFile (old new : ShelfState) (name bytes : List ℕ) : Type 0 where
   pub there : is_missing old.files name ≡ false
   pub whole : (told : List ℕ) → Holds old.files name told → told ≡ bytes
@@ -20,7 +21,8 @@ pub record IsFile (old new : ShelfState) (name bytes : List ℕ) : Type 0 where
   pub most : new.given ≤ old.given + length bytes
   pub faults : new.faults ≡ old.faults
 
--- The file gave more than 1,048,576 bytes, of which the last read gave the first that is too many, and has more, where the shelf tells; no read failed.
+-- The file gave more than 1,048,576 bytes, of which the last read gave the first that is too many,
+-- and has more, where the shelf tells; no read failed.
 pub record IsLong (old new : ShelfState) (name : List ℕ) : Type 0 where
   pub there : is_missing old.files name ≡ false
   pub many : (told : List ℕ) → Holds old.files name told → most_file < length told
@@ -41,7 +43,8 @@ FileCause old new name Memory = ⊤
 
 -- these bytes are the front of the file, where the shelf tells
 abbrev pub IsFront : Option Files → List ℕ → List ℕ → Type 0
-IsFront files name bytes = (told : List ℕ) → Holds files name told → told ≡ bytes ++ drop (length bytes) told
+IsFront files name bytes = (told : List ℕ) → Holds files name told
+    → told ≡ bytes ++ drop (length bytes) told
 
 -- A piece of the file, which may be empty, was put behind the bytes before.
 pub record Piece (old new : ShelfState) (name before after : List ℕ) (more : Bool) : Type 0 where
@@ -51,12 +54,14 @@ pub record Piece (old new : ShelfState) (name before after : List ℕ) (more : B
   pub longer : more ≡ true → length before < length after
   pub few : length after ≤ length before + most_piece
   pub same : more ≡ false → after ≡ before
-  pub end : more ≡ false → (told : List ℕ) → Holds old.files name told → drop (length before) told ≡ []
+  pub end : more ≡ false → (told : List ℕ) → Holds old.files name told
+      → drop (length before) told ≡ []
   pub given : new.given ≡ counted old.given (length after - length before)
   pub faults : new.faults ≡ old.faults
 
 -- what adding a piece to a file's front comes to
-abbrev pub Adds : ShelfState → ShelfState → List ℕ → List ℕ → List ℕ → Result Bool FileError → Type 0
+abbrev pub Adds : ShelfState → ShelfState → List ℕ → List ℕ → List ℕ → Result Bool FileError
+    → Type 0
 Adds old new name before after (Ok more) = Piece old new name before after more
 Adds old new name before after (Err Shelf) = FailsToRead old new name × (new.given ≡ old.given)
 Adds old new name before after (Err TooLong) = ⊥

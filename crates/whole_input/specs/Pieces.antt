@@ -27,16 +27,24 @@ pub record FitsPieces (buffer : List ℕ) (count taken : ℕ) : Type 0 where
 
 -- what one read into the front of a buffer comes to: so many bytes are the piece, or there is none
 abbrev pub ReadsInto : ℕ → SourceState → SourceState → List ℕ → Result ℕ End → Type 0
-ReadsInto room old new buffer (Ok count) = Piece room old new (take count buffer) × (length (take count buffer) ≡ count)
-ReadsInto room old new buffer (Err Seen) = Came old new [] × IsAtEnd new.left × (new.faults ≡ old.faults)
+ReadsInto room old new buffer (Ok count) =
+    Piece room old new (take count buffer) × (length (take count buffer) ≡ count)
+ReadsInto room old new buffer (Err Seen) =
+    Came old new [] × IsAtEnd new.left × (new.faults ≡ old.faults)
 ReadsInto room old new buffer (Err Failed) = Came old new [] × Rose old.faults new.faults
 ReadsInto room old new buffer (Err TooLong) = ⊥
 
--- What the call for the next piece comes to, where so many bytes were taken before: a piece came, the end was seen, a read failed, or so many were taken that no more are.
-abbrev pub NextPiece : {T : Type 0} → ℕ → SourceState → SourceState → PiecesValue → Result T End → Type 0
-NextPiece taken old new v (Ok done) = Piece most_piece old new v.piece × (v.taken ≡ taken + length v.piece) × (v.taken ≤ most_input)
-NextPiece taken old new v (Err Seen) = Came old new [] × IsAtEnd new.left × (new.faults ≡ old.faults) × (taken < most_input) × (v.taken ≡ taken)
-NextPiece taken old new v (Err Failed) = Came old new [] × Rose old.faults new.faults × (taken < most_input) × (v.taken ≡ taken)
+-- What the call for the next piece comes to, where so many bytes were taken before: a piece came,
+-- the end was seen, a read failed, or so many were taken that no more are.
+abbrev pub NextPiece : {T : Type 0} → ℕ → SourceState → SourceState → PiecesValue → Result T End
+    → Type 0
+NextPiece taken old new v (Ok done) =
+    Piece most_piece old new v.piece × (v.taken ≡ taken + length v.piece) × (v.taken ≤ most_input)
+NextPiece taken old new v (Err Seen) =
+    Came old new [] × IsAtEnd new.left × (new.faults ≡ old.faults) × (taken < most_input)
+    × (v.taken ≡ taken)
+NextPiece taken old new v (Err Failed) =
+    Came old new [] × Rose old.faults new.faults × (taken < most_input) × (v.taken ≡ taken)
 NextPiece taken old new v (Err TooLong) = (new ≡ old) × (taken ≡ most_input) × (v.taken ≡ taken)
 
 -- At most one piece of these bytes stands behind others of which this is so.

@@ -6,7 +6,9 @@
 
 mod buffer;
 mod file;
+mod file_source;
 mod pieces;
 
 pub use file::{FileError, take_file};
+pub use file_source::FileSource;
 pub use pieces::{End, Pieces};

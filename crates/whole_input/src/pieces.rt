@@ -67,6 +67,7 @@ impl Pieces {
         ensures next { NextPiece self.old.taken (S.state input.old)
             (S.state input.new) self.new result }
         ensures empty { OnErr result (self.new.piece ≡ []) }
+        ensures lasts { S.lasts input.old input.new }
     {
         self.count = 0;
         let room = PIECE.min(MOST_INPUT - self.taken);
@@ -94,6 +95,7 @@ fn read_into<S: Source>(input: &mut S, room: usize, buffer: &mut [u8]) -> Result
     requires some { 1 ≤ room }
     requires room { room ≤ length buffer.old }
     ensures reads { ReadsInto room (S.state input.old) (S.state input.new) buffer.new result }
+    ensures lasts { S.lasts input.old input.new }
 {
     let Ok(count) = input.read(&mut buffer[..room]) else {
         return Err(End::Failed);

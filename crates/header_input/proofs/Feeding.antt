@@ -1,16 +1,13 @@
 -- A reader that is fed from an input.
-use Rattle.std.proofs.Common.{◌≡◌, ◌<◌, ◌≤◌, ◌∙◌, ℕ, ◌+◌, ◌-◌, ◌^◌, Bool, true, false, List, [], ◌++◌, length, take, drop, Some, None, Ok, Err, Result, refl, sym, ap, subst, inl, inr, arith, append_assoc, append-nil, length-append, take-append-drop}
+use Rattle.std.proofs.Common.{◌≡◌, ◌<◌, ◌≤◌, ◌∙◌, ℕ, ◌+◌, ◌-◌, ◌^◌, Bool, true, false, List, [], ◌++◌, length, take, drop, Ok, Err, Result, refl, sym, ap, subst, arith, append_assoc, length-append, take-append-drop}
 use Rattle.std.proofs.Math.Seq.{take-length, take-append-add}
 use Rattle.std.proofs.lemmas.List.{length-drop}
-use Rattle.std.specs.declared.option.Option.{Option}
-use Rattle.std.specs.Io.KnownBytes.{Consumes, IsAtEnd}
 use Rattle.esdk_fields.specs.Counts.{Rose}
 use Rattle.esdk_fields.specs.declared.faults.Fault.{Fault}
-use Rattle.esdk_fields.specs.declared.faults.Fault.TheVariants.{Truncated}
 use Rattle.esdk_fields.specs.declared.refusals.FieldError.TheVariants as errors
 use Rattle.esdk_fields.specs.Place.{Place, start, cut}
 use Rattle.esdk_fields.specs.Reading.{Reading, Read, Refused, Wanting}
-use Rattle.esdk_fields.proofs.Fronts.{fault_after_at, fault_stays, value_from, read_after, read_within}
+use Rattle.esdk_fields.proofs.Fronts.{fault_after_at, value_from, read_after, read_within}
 use Rattle.header_codec.specs.declared.session.HeaderReader.{HeaderReader}
 use Rattle.header_codec.specs.declared.session.HeaderStep.{HeaderStep}
 use Rattle.header_codec.specs.declared.settings.Settings.{Settings}
@@ -18,16 +15,16 @@ use Rattle.header_codec.specs.Session.{answer, answer_to, stepped}
 use Rattle.header_codec.specs.Stands.{Stands}
 use Rattle.header_codec.specs.Table.{Head, header, opening}
 use Rattle.header_codec.proofs.Order.{IsSequential-header}
-use Rattle.esdk_report.specs.declared.failure.Failure.{Failure}
-use Rattle.esdk_report.specs.declared.failure.Failure.TheVariants as failures
-use Rattle.esdk_list.specs.List.{limits_of, input_fault, fault_at_end, IsInputCause}
-use Rattle.esdk_base.specs.Streams.{OnTold, SourceState}
+use Rattle.header_input.specs.declared.errors.NoHeader.{NoHeader}
+use Rattle.header_input.specs.declared.errors.NoHeader.TheVariants as failures
+use Rattle.esdk_base.specs.Streams.{SourceState}
 use Rattle.whole_input.specs.declared.pieces.End.{End}
 use Rattle.whole_input.specs.declared.pieces.End.TheVariants as ends
 use Rattle.whole_input.specs.Pieces.{NextPiece, PiecesValue}
 use Rattle.whole_input.specs.Taken.{Came, Piece}
 use Rattle.whole_input.proofs.Coming.{came_more, came_none, came_still}
-use Rattle.esdk_list.specs.HeaderInput.{session_of, failure_at, Waits, Holds, Ends, Feeds, HoldsHeader}
+use Rattle.header_input.specs.Feeding.{session_of, Waits, Holds, Ends, Feeds}
+use Rattle.header_input.specs.Taking.{HoldsHeader, NoneCame}
 
 -- ---- one step of the reader
 
@@ -100,61 +97,42 @@ pub fed_not_stopped : (settings : Settings) (taken piece : List ℕ) → answer 
 fed_not_stopped settings taken piece answers = stopped_cases settings taken piece (header settings (start (taken ++ piece))) answers
 
 -- the same piece is fed
-pub fed_same : (settings : Settings) (taken piece same : List ℕ) (reader : HeaderReader) (r : Result Bool Failure) → piece ≡ same → Feeds settings taken piece reader r
+pub fed_same : (settings : Settings) (taken piece same : List ℕ) (reader : HeaderReader) (r : Result Bool NoHeader) → piece ≡ same → Feeds settings taken piece reader r
     → Feeds settings taken same reader r
 fed_same settings taken piece same reader r is = subst (λ (b : List ℕ). Feeds settings taken b reader r) is
-
--- ---- what the bytes that came say of the input
-
--- a fault of the bytes taken is the input's
-fault_told : (uncommitted : Bool) (old new : Option (List ℕ)) (bytes : List ℕ) (fault : Fault) (at : ℕ) → Consumes old new bytes
-    → header (limits_of uncommitted) (start bytes) ≡ Refused fault at → OnTold old (λ told. input_fault uncommitted told ≡ Some fault)
-fault_told uncommitted None new bytes fault at consumed refused = tt
-fault_told uncommitted (Some told) None bytes fault at consumed refused = absurd consumed
-fault_told uncommitted (Some told) (Some rest) bytes fault at consumed refused =
-    let limits = limits_of uncommitted in
-    ap (λ (b : List ℕ). input_fault uncommitted b) consumed ∙ ap fault_at_end (fault_stays (header limits) bytes rest fault at (IsSequential-header limits) refused)
-
--- an input that ended while bytes were wanted is cut short
-truncated_told : (uncommitted : Bool) (old new : Option (List ℕ)) (bytes : List ℕ) → Consumes old new bytes → IsAtEnd new
-    → header (limits_of uncommitted) (start bytes) ≡ Wanting → OnTold old (λ told. input_fault uncommitted told ≡ Some Truncated)
-truncated_told uncommitted None new bytes consumed end wanting = tt
-truncated_told uncommitted (Some told) None bytes consumed end wanting = absurd consumed
-truncated_told uncommitted (Some told) (Some rest) bytes consumed end wanting =
-    ap (λ (b : List ℕ). input_fault uncommitted b) (consumed ∙ ap (λ (r : List ℕ). bytes ++ r) end ∙ append-nil bytes) ∙ ap fault_at_end wanting
 
 -- ---- the loop
 
 -- So many bytes were taken and fed, no read failed, and the reader waits for more.
-pub record Going (uncommitted : Bool) (first now : SourceState) (taken : ℕ) (reader : HeaderReader) : Type 0 where
+pub record Going (settings : Settings) (first now : SourceState) (taken : ℕ) (reader : HeaderReader) : Type 0 where
   pub bytes : List ℕ
   pub count : length bytes ≡ taken
   pub most : taken ≤ 2 ^ 62
   pub came : Came first now bytes
   pub faults : now.faults ≡ first.faults
-  pub waits : Waits (limits_of uncommitted) reader bytes
+  pub waits : Waits settings reader bytes
 
 -- before the first byte, bytes are wanted
 pub wanting_first : (settings : Settings) → header settings (start []) ≡ Wanting
 unfolding header opening
 wanting_first settings = refl
 
-pub going_first : (uncommitted : Bool) (first : SourceState) (v : PiecesValue) (reader : HeaderReader) → v ≡ record { taken = 0; piece = [] }
-    → Stands reader (session_of (limits_of uncommitted) []) → Going uncommitted first first v.taken reader
-going_first uncommitted first v reader none stands = record {
+pub going_first : (settings : Settings) (first : SourceState) (v : PiecesValue) (reader : HeaderReader) → v ≡ record { taken = 0; piece = [] }
+    → Stands reader (session_of settings []) → Going settings first first v.taken reader
+going_first settings first v reader none stands = record {
   bytes = [];
   count = ap (λ (w : PiecesValue). w.taken) (sym none);
   most = subst (λ (w : PiecesValue). w.taken ≤ 2 ^ 62) (sym none) (omega arith);
   came = came_none first;
   faults = refl;
-  waits = record { stands = stands; wanting = wanting_first (limits_of uncommitted) };
+  waits = record { stands = stands; wanting = wanting_first settings };
 }
 
 -- a piece came, and it is fed
-pub going_on : (uncommitted : Bool) (first now new : SourceState) (taken : ℕ) (v : PiecesValue) (reader grown : HeaderReader) (going : Going uncommitted first now taken reader)
-    → Piece 65536 now new v.piece → v.taken ≡ taken + length v.piece → v.taken ≤ 2 ^ 62 → Feeds (limits_of uncommitted) going.bytes v.piece grown (Ok false)
-    → Going uncommitted first new v.taken grown
-going_on uncommitted first now new taken v reader grown going piece count most feeds = record {
+pub going_on : (settings : Settings) (first now new : SourceState) (taken : ℕ) (v : PiecesValue) (reader grown : HeaderReader) (going : Going settings first now taken reader)
+    → Piece 65536 now new v.piece → v.taken ≡ taken + length v.piece → v.taken ≤ 2 ^ 62 → Feeds settings going.bytes v.piece grown (Ok false)
+    → Going settings first new v.taken grown
+going_on settings first now new taken v reader grown going piece count most feeds = record {
   bytes = going.bytes ++ v.piece;
   count = omega (arith, length-append going.bytes v.piece, going.count, count);
   most = most;
@@ -164,9 +142,9 @@ going_on uncommitted first now new taken v reader grown going piece count most f
 }
 
 -- the header ends in the piece
-pub going_whole : (uncommitted : Bool) (first now new : SourceState) (taken : ℕ) (piece : List ℕ) (reader grown : HeaderReader) (going : Going uncommitted first now taken reader)
-    → Piece 65536 now new piece → Feeds (limits_of uncommitted) going.bytes piece grown (Ok true) → HoldsHeader uncommitted grown first new
-going_whole uncommitted first now new taken piece reader grown going came feeds = record {
+pub going_whole : (settings : Settings) (first now new : SourceState) (taken : ℕ) (piece : List ℕ) (reader grown : HeaderReader) (going : Going settings first now taken reader)
+    → Piece 65536 now new piece → Feeds settings going.bytes piece grown (Ok true) → HoldsHeader settings grown first new
+going_whole settings first now new taken piece reader grown going came feeds = record {
   bytes = going.bytes ++ piece;
   holds = feeds.holds;
   came = came_more first now new going.bytes piece going.came came.came;
@@ -175,55 +153,36 @@ going_whole uncommitted first now new taken piece reader grown going came feeds 
 }
 
 -- the piece is refused
-pub going_refused : (uncommitted : Bool) (first now new : SourceState) (taken : ℕ) (piece : List ℕ) (reader grown : HeaderReader) (failure : Failure)
-    (going : Going uncommitted first now taken reader) → Piece 65536 now new piece → Feeds (limits_of uncommitted) going.bytes piece grown (Err failure)
-    → IsInputCause uncommitted failure first new
-going_refused uncommitted first now new taken piece reader grown (failures.Fault fault) going came feeds =
-    let bytes = going.bytes ++ piece in
-    let all : Came first new bytes = came_more first now new going.bytes piece going.came came.came in
-    record {
-      came = inl (record {
-        bytes = bytes;
-        at = feeds.0;
-        came = all;
-        refused = feeds.1;
-        few = omega (arith, length-append going.bytes piece, feeds.2, came.fits);
-        faults = came.faults ∙ going.faults;
-      });
-      told = fault_told uncommitted first.left new.left bytes fault feeds.0 all.consumed feeds.1;
-    }
-going_refused uncommitted first now new taken piece reader grown failures.NotRead going came feeds = absurd feeds
-going_refused uncommitted first now new taken piece reader grown (failures.BadNumber name) going came feeds = absurd feeds
-going_refused uncommitted first now new taken piece reader grown (failures.BadPair number) going came feeds = absurd feeds
-going_refused uncommitted first now new taken piece reader grown (failures.File refusal) going came feeds = absurd feeds
-going_refused uncommitted first now new taken piece reader grown (failures.Outside outside) going came feeds = absurd feeds
-going_refused uncommitted first now new taken piece reader grown (failures.Refusal refusal) going came feeds = absurd feeds
-going_refused uncommitted first now new taken piece reader grown failures.Memory going came feeds = tt
+pub going_refused : (settings : Settings) (first now new : SourceState) (taken : ℕ) (piece : List ℕ) (reader grown : HeaderReader) (error : NoHeader)
+    (going : Going settings first now taken reader) → Piece 65536 now new piece → Feeds settings going.bytes piece grown (Err error)
+    → NoneCame settings first new error
+going_refused settings first now new taken piece reader grown (failures.Fault fault) going came feeds = record {
+  bytes = going.bytes ++ piece;
+  at = feeds.0;
+  came = came_more first now new going.bytes piece going.came came.came;
+  refused = feeds.1;
+  few = omega (arith, length-append going.bytes piece, feeds.2, came.fits);
+  faults = came.faults ∙ going.faults;
+}
+going_refused settings first now new taken piece reader grown (failures.End end) going came feeds = absurd feeds
+going_refused settings first now new taken piece reader grown failures.Memory going came feeds = tt
 
 -- no piece came
-pub going_ended : (T : Type 0) (uncommitted : Bool) (first now new : SourceState) (taken : ℕ) (v : PiecesValue) (reader : HeaderReader) (end : End) → Going uncommitted first now taken reader
-    → NextPiece {T = T} taken now new v (Err end) → IsInputCause uncommitted (failure_at end) first new
-going_ended T uncommitted first now new taken v reader ends.Seen going next =
-    let came : Came first new going.bytes = came_still first now new going.bytes going.came next.0 in
-    record {
-      came = inr (
-        refl,
-        record {
-          bytes = going.bytes;
-          came = came;
-          end = record { end = next.1; faults = next.2 ∙ going.faults; few = omega (arith, going.count, next.3) };
-          wanting = going.waits.wanting;
-        },
-      );
-      told = truncated_told uncommitted first.left new.left going.bytes came.consumed next.1 going.waits.wanting;
-    }
-going_ended T uncommitted first now new taken v reader ends.Failed going next = record {
+pub going_ended : (T : Type 0) (settings : Settings) (first now new : SourceState) (taken : ℕ) (v : PiecesValue) (reader : HeaderReader) (end : End) → Going settings first now taken reader
+    → NextPiece {T = T} taken now new v (Err end) → NoneCame settings first new (failures.End end)
+going_ended T settings first now new taken v reader ends.Seen going next = record {
+  bytes = going.bytes;
+  came = came_still first now new going.bytes going.came next.0;
+  end = record { end = next.1; faults = next.2 ∙ going.faults; few = omega (arith, going.count, next.3) };
+  wanting = going.waits.wanting;
+}
+going_ended T settings first now new taken v reader ends.Failed going next = record {
   bytes = going.bytes;
   came = came_still first now new going.bytes going.came next.0;
   wanting = going.waits.wanting;
   rose = subst (λ (n : ℕ). Rose n new.faults) going.faults next.1;
 }
-going_ended T uncommitted first now new taken v reader ends.TooLong going next = record {
+going_ended T settings first now new taken v reader ends.TooLong going next = record {
   bytes = going.bytes;
   came = subst (λ (s : SourceState). Came first s going.bytes) (sym next.0) going.came;
   most = record { faults = ap (λ (s : SourceState). s.faults) next.0 ∙ going.faults; count = going.count ∙ next.1 };

@@ -1,6 +1,6 @@
-use Rattle.esdk_list.specs.HeaderInput.{session_of}
-use Rattle.esdk_list.proofs.Feeding.{fed, fed_fault, fed_not_stopped}
-use Rattle.esdk_list.proofs.header_input.feed.Goals as goal
+use Rattle.header_input.specs.Feeding.{session_of}
+use Rattle.header_input.proofs.Feeding.{fed, fed_fault, fed_not_stopped}
+use Rattle.header_input.proofs.taking.feed.Goals as goal
 
 pub unreachable-requires : goal.unreachable-requires
 unreachable-requires c =
