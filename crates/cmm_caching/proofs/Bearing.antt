@@ -1,5 +1,5 @@
 -- What a cache bears: with an entry that served, with a new one, and after any answer.
-use Rattle.std.proofs.Common.{◌≡◌, ◌≢◌, ℕ, ◌+◌, ◌-◌, ◌^◌, ◌<◌, ◌≤◌, Bool, true, false, cond, ◌&&◌, List, [], ◌∷◌, ◌++◌, take, Contains, Option, Some, None, Result, Ok, Err, IfOk, nat_lt, nat_le, refl, sym, subst, arith, eqb-true, leb-true, ltb-true, ltb-false}
+use Rattle.std.proofs.Common.{◌≡◌, ◌≢◌, ℕ, ◌+◌, ◌-◌, ◌^◌, ◌<◌, ◌≤◌, Bool, true, false, cond, ◌&&◌, List, [], ◌∷◌, ◌++◌, take, Contains, Option, Some, None, Result, Ok, Err, IfOk, MatchResult, nat_lt, nat_le, refl, sym, subst, arith, eqb-true, leb-true, ltb-true, ltb-false}
 use Rattle.std.proofs.lemmas.Bool.{or_parts}
 use Rattle.std.proofs.lemmas.List.Elements.{All-push}
 use Rattle.std.specs.Cmp.{first_so, second_so}
@@ -11,7 +11,6 @@ use Rattle.keyring_trait.specs.declared.journal.Kind.{Kind}
 use Rattle.keyring_trait.specs.declared.journal.Kind.TheVariants.{Seal, Unseal}
 use Rattle.keyring_trait.specs.declared.served.Served.{Served}
 use Rattle.keyring_trait.specs.declared.served.Served.TheVariants.{Direct, New, Hit}
-use Rattle.keyring_trait.specs.Manager.{BearsOn}
 use Rattle.cmm_caching.specs.declared.kept.Kept.{Kept}
 use Rattle.cmm_caching.specs.Limits.{LimitsValue, AreLimits}
 use Rattle.cmm_caching.specs.Names.{NameValue, name_eq, is_seal}
@@ -152,9 +151,16 @@ bears_new kind session s w now got lines sound sized bears = by_found (lookup (n
 
 -- ---- after any answer
 
+-- where these lines were borne, they are borne with one line more after an answer, and as they are after an error
+abbrev pub Carries : {M E : Type 0} → (List JournalLine → Type 0) → (List JournalLine → Type 0) → Kind → ℕ → Option ℕ → (M → Served) → Result M E → Type 0
+Carries old new kind now size served result =
+    MatchResult result
+    (λ m. (lines : List JournalLine) (session : ℕ) → old lines → new (lines ++ record { session = session; kind = kind; served = served m; now = now; length = size } ∷ []))
+    (λ _. (lines : List JournalLine) → old lines → new lines)
+
 pub bears_on : {M E : Type 0} (view : M → HandedValue) (kind : Kind) (past : Bool) (s new : Store) (w : Wish) (now : ℕ) (r : Result M E) → Sound s
     → (is_direct s.limits w s.next ≡ false → IsSized s.limits kind w.declared)
-    → Asked view past s new w now r → BearsOn (Bears s) (Bears new) kind now w.declared (λ m. (view m).served) r
+    → Asked view past s new w now r → Carries (Bears s) (Bears new) kind now w.declared (λ m. (view m).served) r
 bears_on view kind past s new w now (Ok m) sound sized asked = λ lines session.
     ways
     (λ h after. Bears s lines → Bears after (lines ++ record { session = session; kind = kind; served = h.served; now = now; length = w.declared } ∷ []))
@@ -166,7 +172,7 @@ bears_on view kind past s new w now (Err e) sound sized asked = λ lines bears. 
 
 -- without a cache everything is served directly
 pub bears_direct_on : {M E : Type 0} (served : M → Served) (kind : Kind) (now : ℕ) (size : Option ℕ) (r : Result M E) → IfOk r (λ m. served m ≡ Direct)
-    → BearsOn AllDirect AllDirect kind now size served r
+    → Carries AllDirect AllDirect kind now size served r
 bears_direct_on served kind now size (Ok m) direct = λ lines session all.
     All-push (λ line. line.served ≡ Direct) lines (record { session = session; kind = kind; served = served m; now = now; length = size }) all direct
 bears_direct_on served kind now size (Err e) direct = λ lines all. all

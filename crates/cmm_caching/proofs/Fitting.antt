@@ -1,10 +1,9 @@
 -- Materials are what their name says: those that the inner manager gave, and those of an entry.
 use Rattle.std.proofs.Common.{◌≡◌, ℕ, List, false, refl, sym, ap, subst}
 use Rattle.keyring_trait.specs.declared.served.Served.{Served}
-use Rattle.keyring_trait.specs.Manager.{ManagerMeaning, GivesMaterials}
+use Rattle.keyring_trait.specs.Manager.{ManagerNow, GivesMaterials}
 use Rattle.keyring_trait.specs.Materials.{EncMaterialsValue, DecMaterialsValue, AreEncMaterials}
 use Rattle.keyring_trait.specs.Requests.{EncRequestValue, DecRequestValue}
-use Rattle.keyring_trait.specs.Wrapping.{WrapKeyValue}
 use Rattle.cmm_caching.specs.Names.{NameValue, enc_name, dec_name}
 use Rattle.cmm_caching.specs.Ask.{GivenValue, HandedValue, enc_given, dec_given, enc_handed, dec_handed}
 use Rattle.cmm_caching.specs.Store.{Store, FitsSeal, FitsUnseal, FitsName, is_past}
@@ -13,11 +12,11 @@ use Rattle.cmm_caching.proofs.Asking.{same_width}
 
 -- ---- to encrypt
 
-pub gave_fits : (m : ManagerMeaning) (tells : List WrapKeyValue → Type 0) (Exact : Type 0) (request : EncRequestValue) (random : List ℕ) (made : EncMaterialsValue) (given : GivenValue)
-    → GivesMaterials m tells Exact request random made → given ≡ enc_given made → AreEncMaterials made.context made.required made.entries
-    → FitsSeal m.wraps (enc_name request) given
-gave_fits m tells Exact request random made given gives is materials =
-    subst (FitsSeal m.wraps (enc_name request)) (sym is)
+pub gave_fits : (n : ManagerNow) (request : EncRequestValue) (random : List ℕ) (made : EncMaterialsValue) (given : GivenValue)
+    → GivesMaterials n request random made → given ≡ enc_given made → AreEncMaterials made.context made.required made.entries
+    → FitsSeal n.meaning.wraps (enc_name request) given
+gave_fits n request random made given gives is materials =
+    subst (FitsSeal n.meaning.wraps (enc_name request)) (sym is)
     (record { context = gives.context; only = refl; required = gives.required; count = gives.count; materials = materials })
 
 -- what the inner manager gave is what it gave last

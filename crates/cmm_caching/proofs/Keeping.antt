@@ -9,26 +9,26 @@ use Rattle.cmm_caching.specs.declared.kept.Kept.{Kept}
 use Rattle.cmm_caching.specs.Limits.{LimitsValue, AreLimits}
 use Rattle.cmm_caching.specs.Names.{NameValue, name_eq}
 use Rattle.cmm_caching.specs.Ask.{GivenValue, Wish, empty, is_young, fits, kept_if, moved, put_first}
-use Rattle.cmm_caching.specs.Store.{Store, Sound, AreApart, FitsName, tallied, kept_for, after_hit, after_new, used_again, fresh_kept, still_serves, HasRoom}
+use Rattle.cmm_caching.specs.Store.{Store, Sound, HaveApartNames, FitsName, tallied, kept_for, after_hit, after_new, used_again, fresh_kept, still_serves, HasRoom}
 use Rattle.cmm_caching.proofs.Entries.{all_weaker, all_take, all_removed, all_found, all_moved, all_put}
 
 -- ---- numbers
 
-apart_taken : (n : ℕ) (es : List (NameValue × Kept)) → AreApart es → AreApart (take n es)
+apart_taken : (n : ℕ) (es : List (NameValue × Kept)) → HaveApartNames es → HaveApartNames (take n es)
 apart_taken zero es h = tt
 apart_taken (suc n) [] h = tt
 apart_taken (suc n) (e ∷ es) h = (all_take (λ p. p.1.number ≢ e.1.number) n es h.0, apart_taken n es h.1)
 
-apart_removed : (name : NameValue) (es : List (NameValue × Kept)) → AreApart es → AreApart (remove_entry (name_eq name) es)
+apart_removed : (name : NameValue) (es : List (NameValue × Kept)) → HaveApartNames es → HaveApartNames (remove_entry (name_eq name) es)
 apart_removed name [] h = tt
 apart_removed name (e ∷ es) h = by_test (name_eq name e.0) (apart_removed name es h.1)
   where
-    by_test : (b : Bool) → AreApart (remove_entry (name_eq name) es) → AreApart (cond b es (e ∷ remove_entry (name_eq name) es))
+    by_test : (b : Bool) → HaveApartNames (remove_entry (name_eq name) es) → HaveApartNames (cond b es (e ∷ remove_entry (name_eq name) es))
     by_test true rest = h.1
     by_test false rest = (all_removed (λ p. p.1.number ≢ e.1.number) name es h.0, rest)
 
 -- the others have other numbers than the one that is found
-pub others : (name : NameValue) (es : List (NameValue × Kept)) (k : Kept) → AreApart es → lookup (name_eq name) es ≡ Some k
+pub others : (name : NameValue) (es : List (NameValue × Kept)) (k : Kept) → HaveApartNames es → lookup (name_eq name) es ≡ Some k
     → AllByRecursion (λ p. p.1.number ≢ k.number) (remove_entry (name_eq name) es)
 others name [] k h e = tt
 others name (f ∷ es) k h e = by_test (name_eq name f.0) e (others name es k h.1)
@@ -93,7 +93,7 @@ new_sound s w now got sound room fits = record {
     unlike : (es : List (NameValue × Kept)) → AllByRecursion (λ p. p.1.number < s.next) es → AllByRecursion (λ p. p.1.number ≢ s.next) es
     unlike es h = all_weaker (λ p. p.1.number < s.next) (λ p. p.1.number ≢ s.next) below_next es h
 
-    put_apart : (o : Option Kept) → AreApart (option_map_or (λ _. moved w.name made s.entries) o ((w.name, made) ∷ take (s.limits.capacity - 1) s.entries))
+    put_apart : (o : Option Kept) → HaveApartNames (option_map_or (λ _. moved w.name made s.entries) o ((w.name, made) ∷ take (s.limits.capacity - 1) s.entries))
     put_apart None = (
       unlike (take (s.limits.capacity - 1) s.entries) (all_take (λ p. p.1.number < s.next) (s.limits.capacity - 1) s.entries sound.below),
       apart_taken (s.limits.capacity - 1) s.entries sound.apart,

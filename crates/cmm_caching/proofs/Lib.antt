@@ -2,6 +2,7 @@ pub mod Entries
 pub mod Keeping
 pub mod Asking
 pub mod Fitting
+pub mod Inner
 pub mod Tallies
 pub mod Ways
 pub mod Recorded

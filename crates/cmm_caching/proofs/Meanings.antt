@@ -3,7 +3,7 @@ use Rattle.std.proofs.Common.{◌≡◌, ◌&&◌, true, List, Option, None, Som
 use Rattle.keyring_trait.specs.declared.served.Served.{Served}
 use Rattle.keyring_trait.specs.declared.served.Served.TheVariants.{Direct, New, Hit}
 use Rattle.context_codec.specs.Context.{KeyValue}
-use Rattle.keyring_trait.specs.Manager.{ManagerMeaning, ManagerGoes, IsNew, request_refusal, TellsOn}
+use Rattle.keyring_trait.specs.Manager.{ManagerMeaning, ManagerNow, ManagerGoes, Went, IsNew, request_refusal, TellsOn}
 use Rattle.keyring_trait.specs.Wrapping.{WrapKeyValue}
 use Rattle.cmm_caching.specs.Names.{NameValue}
 use Rattle.cmm_caching.specs.Ask.{GivenValue, HandedValue}
@@ -73,23 +73,21 @@ pub holds_then : {M E : Type 0} (view : M → HandedValue) (name : NameValue) (o
 holds_then view name old new (Ok m) rights P holds got = (rights P holds got).1
 holds_then view name old new (Err e) rights P holds got = rights P holds got
 
-pub tells_on : (old new : Option Store) (m n : ManagerMeaning) (told later : List WrapKeyValue → Type 0) → ManagerGoes m n → TellsOn told later
-    → ((keys : List WrapKeyValue) → CachingTells old m told keys → Holds (IsRight keys) new) → TellsOn (CachingTells old m told) (CachingTells new n later)
-tells_on old new m n told later goes on right = λ keys t. record {
-  told = on keys t.told;
-  steady = goes.steady ∙ t.steady;
+pub tells_on : (old new : Option Store) (m n : ManagerNow) → Went m n → ((keys : List WrapKeyValue) → CachingTells old m keys → Holds (IsRight keys) new)
+    → TellsOn (CachingTells old m) (CachingTells new n)
+tells_on old new m n went right = λ keys t. record {
+  told = went.tells keys t.told;
+  steady = went.goes.steady ∙ t.steady;
   right = right keys t;
 }
 
 -- a plain one tells nothing else then
-pub tells_back : (old new : Option Store) (m n : ManagerMeaning) (told later : List WrapKeyValue → Type 0) → ManagerGoes m n → (m.plain ≡ true → TellsOn later told)
-    → (caching_meaning old m).plain ≡ true → TellsOn (CachingTells new n later) (CachingTells old m told)
-tells_back None new m n told later goes back plain = λ keys t. record { told = back plain keys t.told; steady = sym goes.steady ∙ t.steady; right = tt }
-tells_back (Some store) new m n told later goes back plain = absurd cc
+pub tells_back : (old new : Option Store) (m n : ManagerNow) → Went m n → (caching_meaning old m.meaning).plain ≡ true → TellsOn (CachingTells new n) (CachingTells old m)
+tells_back None new m n went plain = λ keys t. record { told = went.same plain keys t.told; steady = sym went.goes.steady ∙ t.steady; right = tt }
+tells_back (Some store) new m n went plain = absurd cc
 
-pub exact_on : (old new : Option Store) (m n : ManagerMeaning) (Exact Later : Type 0) → ManagerGoes m n → (Exact → Later)
-    → (CachingExact old m Exact → Holds (IsExact (unfailing m)) new) → CachingExact old m Exact → CachingExact new n Later
-exact_on old new m n Exact Later goes on kept x = record {
-  exact = on x.exact;
-  kept = subst (λ (u : ManagerMeaning). Holds (IsExact u) new) (sym (unfailing_same m n goes)) (kept x);
+pub exact_on : (old new : Option Store) (m n : ManagerNow) → Went m n → (CachingExact old m → Holds (IsExact (unfailing m.meaning)) new) → CachingExact old m → CachingExact new n
+exact_on old new m n went kept x = record {
+  exact = went.exact x.exact;
+  kept = subst (λ (u : ManagerMeaning). Holds (IsExact u) new) (sym (unfailing_same m.meaning n.meaning went.goes)) (kept x);
 }

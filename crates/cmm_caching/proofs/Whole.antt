@@ -4,16 +4,18 @@ use Rattle.keyring_trait.specs.declared.journal.JournalLine.{JournalLine}
 use Rattle.keyring_trait.specs.declared.journal.Kind.{Kind}
 use Rattle.keyring_trait.specs.declared.served.Served.{Served}
 use Rattle.keyring_trait.specs.declared.served.Served.TheVariants.{Direct}
-use Rattle.keyring_trait.specs.Manager.{BearsOn}
+use Rattle.keyring_trait.specs.Manager.{ManagerNow, Went}
+use Rattle.keyring_trait.specs.Wrapping.{WrapKeyValue}
 use Rattle.cmm_caching.specs.Limits.{LimitsValue}
 use Rattle.cmm_caching.specs.Names.{NameValue}
 use Rattle.cmm_caching.specs.Ask.{GivenValue, HandedValue, CacheEntry, State, Wish, is_direct, serving}
 use Rattle.cmm_caching.specs.Store.{Store, StandsFor, kept_for, tally, tallied}
 use Rattle.cmm_caching.specs.Asked.{AskedWith, AnswersAs, StandsAfter, IsSound, NotHit, WhereAnswered, WhereKept, limits_of}
-use Rattle.cmm_caching.specs.Holding.{Holds}
+use Rattle.cmm_caching.specs.Holding.{Holds, IsRight, IsExact, unfailing}
 use Rattle.cmm_caching.specs.Journal.{BearsWith, KeepsWithin}
-use Rattle.cmm_caching.proofs.Bearing.{IsSized, bears_on, bears_direct_on, bears_none}
-use Rattle.cmm_caching.proofs.Meanings.{RightsOn}
+use Rattle.cmm_caching.specs.CachingCmm.{CachingTells, CachingExact, caching_now}
+use Rattle.cmm_caching.proofs.Bearing.{IsSized, Carries, bears_on, bears_direct_on, bears_none}
+use Rattle.cmm_caching.proofs.Meanings.{RightsOn, goes_caching, tells_on, tells_back, exact_on}
 use Rattle.cmm_caching.proofs.Tallies.{answering, serving_tallied, standing}
 use Rattle.cmm_caching.proofs.Ways.{right_on, limits_kept}
 
@@ -85,7 +87,7 @@ module _ {M E : Type 0} (view : M → HandedValue) (past : Store → Bool) (w : 
   -- the law of the cache's limits
   pub bears_then : (kind : Kind) (old new : Option Store) (r : Result M E) → IsSound old
       → ((s : Store) → is_direct s.limits w s.next ≡ false → IsSized s.limits kind w.declared)
-      → AskedWith view past old new w now r → BearsOn (BearsWith old) (BearsWith new) kind now w.declared (λ m. (view m).served) r
+      → AskedWith view past old new w now r → Carries (BearsWith old) (BearsWith new) kind now w.declared (λ m. (view m).served) r
   bears_then kind None None r sound sized asked = bears_direct_on (λ m. (view m).served) kind now w.declared r asked
   bears_then kind None (Some c) r sound sized asked = absurd asked
   bears_then kind (Some s) None r sound sized asked = absurd asked
@@ -104,3 +106,21 @@ bears_within (Some s) lines bears = bears.within
 -- limits that stay aren't widened
 pub within_kept : (old new : Option LimitsValue) (lines : List JournalLine) → new ≡ old → KeepsWithin new lines → KeepsWithin old lines
 within_kept old new lines same within = subst (λ (l : Option LimitsValue). KeepsWithin l lines) same within
+
+-- ---- what the manager keeps
+
+-- what the inner manager keeps, where it has a cache after the call as before, of the same limits
+pub went_caching : (old new : Option Store) (m n : ManagerNow) → is_none new ≡ is_none old → limits_of new ≡ limits_of old → Went m n
+    → ((keys : List WrapKeyValue) → CachingTells old m keys → Holds (IsRight keys) new)
+    → (CachingExact old m → Holds (IsExact (unfailing m.meaning)) new) → Went (caching_now old m) (caching_now new n)
+went_caching old new m n same limits went right exact = record {
+  goes = goes_caching old new m.meaning n.meaning same went.goes;
+  tells = tells_on old new m n went right;
+  same = tells_back old new m n went;
+  exact = exact_on old new m n went exact;
+  limits = λ lines within. within_kept (limits_of old) (limits_of new) lines limits within;
+}
+
+-- Without a call it goes on as it is.
+pub unasked_caching : (cache : Option Store) (m : ManagerNow) → Went m m → Went (caching_now cache m) (caching_now cache m)
+unasked_caching cache m went = went_caching cache cache m m refl refl went (λ keys t. t.right) (λ x. x.kept)

@@ -13,8 +13,8 @@ use Rattle.cmm_caching.specs.Names.{NameValue, enc_name, dec_name, is_seal, name
 
 -- ---- materials
 
--- Materials, all but how they were served. Those to encrypt have no pairs of their own that are only authenticated; those to decrypt have no required keys and no
--- encrypted data keys.
+-- Materials, all but how they were served. Those to encrypt have no pairs of their own that are
+-- only authenticated; those to decrypt have no required keys and no encrypted data keys.
 pub record GivenValue : Type 0 where
   pub context : List KeyValue
   pub only : List KeyValue
@@ -23,17 +23,40 @@ pub record GivenValue : Type 0 where
   pub entries : List Entry
 
 abbrev pub enc_given : EncMaterialsValue → GivenValue
-enc_given m = record { context = m.context; only = []; required = m.required; key = m.key; entries = m.entries }
+enc_given m = record {
+  context = m.context;
+  only = [];
+  required = m.required;
+  key = m.key;
+  entries = m.entries;
+}
 
 abbrev pub dec_given : DecMaterialsValue → GivenValue
-dec_given m = record { context = m.context; only = m.only; required = []; key = m.key; entries = [] }
+dec_given m = record {
+  context = m.context;
+  only = m.only;
+  required = [];
+  key = m.key;
+  entries = [];
+}
 
 -- such materials to encrypt and to decrypt, served so
 abbrev pub seal_materials : Served → GivenValue → EncMaterialsValue
-seal_materials served g = record { context = g.context; required = g.required; key = g.key; entries = g.entries; served = served }
+seal_materials served g = record {
+  context = g.context;
+  required = g.required;
+  key = g.key;
+  entries = g.entries;
+  served = served;
+}
 
 abbrev pub open_materials : Served → GivenValue → DecMaterialsValue
-open_materials served g = record { context = g.context; only = g.only; key = g.key; served = served }
+open_materials served g = record {
+  context = g.context;
+  only = g.only;
+  key = g.key;
+  served = served;
+}
 
 -- materials, and how they are served
 pub record HandedValue : Type 0 where
@@ -48,7 +71,8 @@ dec_handed m = record { given = dec_given m; served = m.served }
 
 -- ---- what a cache is
 
--- An entry of the cache: its number, the moment when it was made, its materials, and the declared lengths of the encryptions that it gave, the last one first.
+-- An entry of the cache: its number, the moment when it was made, its materials, and the declared
+-- lengths of the encryptions that it gave, the last one first.
 pub record CacheEntry : Type 0 where
   pub number : ℕ
   pub made : ℕ
@@ -63,7 +87,8 @@ pub record State : Type 0 where
 abbrev pub empty : State
 empty = record { entries = []; next = 1 }
 
--- what is asked: the name of the request, and how many bytes are to be encrypted, where that is declared
+-- what is asked: the name of the request, and how many bytes are to be encrypted, where that is
+-- declared
 pub record Wish : Type 0 where
   pub name : NameValue
   pub declared : Option ℕ
@@ -98,7 +123,8 @@ abbrev pub is_over : LimitsValue → Option ℕ → Bool
 is_over l None = true
 is_over l (Some n) = nat_lt l.bytes n
 
--- The request goes past the cache: it is to encrypt, and its length isn't declared or is above the limit; or 2^63 entries were made.
+-- The request goes past the cache: it is to encrypt, and its length isn't declared or is above the
+-- limit; or 2^63 entries were made.
 abbrev pub is_direct : LimitsValue → Wish → ℕ → Bool
 is_direct l w next = (is_seal w.name && is_over l w.declared) || nat_lt (2 ^ 63) next
 
@@ -108,7 +134,9 @@ kept_if test x = if test x then Some x else None
 
 -- the entry of the request's name, where it serves
 abbrev pub serving : LimitsValue → State → Wish → ℕ → Option CacheEntry
-serving l s w now = option_and_then (kept_if (λ e. serves l e.made (length e.uses) (sum e.uses) w.declared now)) (lookup (name_eq w.name) s.entries)
+serving l s w now =
+    option_and_then (kept_if (λ e. serves l e.made (length e.uses) (sum e.uses) w.declared now))
+    (lookup (name_eq w.name) s.entries)
 
 -- the entry that answers the request, where one does
 abbrev pub answering : LimitsValue → State → Wish → ℕ → Option CacheEntry
@@ -120,10 +148,13 @@ answering l s w now = if is_direct l w s.next then None else serving l s w now
 abbrev pub moved : {X : Type 0} → NameValue → X → List (NameValue × X) → List (NameValue × X)
 moved name e entries = (name, e) ∷ remove_entry (name_eq name) entries
 
--- A new entry goes to the front. One of the same name is replaced; else the last one drops where the cache is full.
-abbrev pub put_first : {X : Type 0} → ℕ → NameValue → X → List (NameValue × X) → List (NameValue × X)
+-- A new entry goes to the front. One of the same name is replaced; else the last one drops where
+-- the cache is full.
+abbrev pub put_first : {X : Type 0} → ℕ → NameValue → X → List (NameValue × X)
+    → List (NameValue × X)
 put_first capacity name e entries =
-    option_map_or (λ _. moved name e entries) (lookup (name_eq name) entries) ((name, e) ∷ take (capacity - 1) entries)
+    option_map_or (λ _. moved name e entries) (lookup (name_eq name) entries)
+    ((name, e) ∷ take (capacity - 1) entries)
 
 -- an answer, and the cache after it
 pub record Step : Type 0 where
@@ -134,7 +165,9 @@ pub record Step : Type 0 where
 abbrev pub hit : State → Wish → CacheEntry → Step
 hit s w e = record {
   handed = record { given = e.given; served = Hit e.number };
-  after = record s { entries = moved w.name (record e { uses = with_use w.declared e.uses }) s.entries };
+  after = record s {
+    entries = moved w.name (record e { uses = with_use w.declared e.uses }) s.entries;
+  };
 }
 
 -- what the inner manager gave is a new entry
@@ -142,7 +175,12 @@ abbrev pub made_new : LimitsValue → State → Wish → ℕ → GivenValue → 
 made_new l s w now got = record {
   handed = record { given = got; served = New s.next };
   after = record {
-    entries = put_first l.capacity w.name (record { number = s.next; made = now; given = got; uses = with_use w.declared [] }) s.entries;
+    entries = put_first l.capacity w.name (record {
+      number = s.next;
+      made = now;
+      given = got;
+      uses = with_use w.declared [];
+    }) s.entries;
     next = s.next + 1;
   };
 }
@@ -151,7 +189,8 @@ made_new l s w now got = record {
 abbrev pub passed_on : State → GivenValue → Step
 passed_on s got = record { handed = record { given = got; served = Direct }; after = s }
 
--- What a cache with these limits answers at the moment `now`, where the inner manager, if it is asked, gives `got`.
+-- What a cache with these limits answers at the moment `now`, where the inner manager, if it is
+-- asked, gives `got`.
 unfoldable pub ask : LimitsValue → State → Wish → ℕ → GivenValue → Step
 ask l s w now got =
     if is_direct l w s.next then passed_on s got
@@ -168,4 +207,5 @@ pub record Call : Type 0 where
 -- what is answered to one request after another
 abbrev pub replay : LimitsValue → State → List Call → List HandedValue
 replay l s [] = []
-replay l s (c ∷ calls) = let step = ask l s c.wish c.now c.got in step.handed ∷ replay l step.after calls
+replay l s (c ∷ calls) =
+    let step = ask l s c.wish c.now c.got in step.handed ∷ replay l step.after calls

@@ -27,25 +27,33 @@ WhereAnswered limits s w now P = IfSome (answering_with limits s w now) (λ _. P
 -- P, where an entry of the cache answers the request
 abbrev pub WhereKept : (Store → Bool) → Option Store → Wish → ℕ → Type 0 → Type 0
 WhereKept past None w now P = ⊤
-WhereKept past (Some s) w now P = past s ≡ false → is_direct s.limits w s.next ≡ false → (k : Kept) → kept_for s w now ≡ Some k → P
+WhereKept past (Some s) w now P = past s ≡ false → is_direct s.limits w s.next ≡ false → (k : Kept)
+    → kept_for s w now ≡ Some k → P
 
 abbrev pub limits_of : Option Store → Option LimitsValue
 limits_of None = None
 limits_of (Some c) = Some c.limits
 
 module _ {M E : Type 0} (view : M → HandedValue) where
-  -- The answer and the cache after it are what `ask_kept` says. After an error the cache is as it was.
+  -- The answer and the cache after it are what `ask_kept` says. After an error the cache is as it
+  -- was.
   abbrev pub Asked : Bool → (old new : Store) → Wish → ℕ → Result M E → Type 0
-  Asked past old new w now answer = MatchResult answer (λ m. store_step (view m) new ≡ ask_kept past old w now (view m).given) (λ _. new ≡ old)
+  Asked past old new w now answer =
+      MatchResult answer (λ m. store_step (view m) new ≡ ask_kept past old w now (view m).given)
+      (λ _. new ≡ old)
 
   -- The answer is the one of a cache of this state.
   abbrev pub AnswersAs : Option LimitsValue → State → Wish → ℕ → Result M E → Type 0
-  AnswersAs limits s w now answer = MatchResult answer (λ m. view m ≡ (asked_with limits s w now (view m).given).handed) (λ _. ⊤)
+  AnswersAs limits s w now answer =
+      MatchResult answer (λ m. view m ≡ (asked_with limits s w now (view m).given).handed) (λ _. ⊤)
 
   -- The cache stands for the state after that answer, and after an error for the same state.
-  abbrev pub StandsAfter : Option LimitsValue → ℕ → Option Store → State → Wish → ℕ → Result M E → Type 0
+  abbrev pub StandsAfter : Option LimitsValue → ℕ → Option Store → State → Wish → ℕ → Result M E
+      → Type 0
   StandsAfter limits width cache s w now answer =
-      MatchResult answer (λ m. StandsFor width cache (asked_with limits s w now (view m).given).after) (λ _. StandsFor width cache s)
+      MatchResult answer
+      (λ m. StandsFor width cache (asked_with limits s w now (view m).given).after)
+      (λ _. StandsFor width cache s)
 
   -- The same with a cache or without. Without one everything is served directly.
   abbrev pub AskedWith : (Store → Bool) → (old new : Option Store) → Wish → ℕ → Result M E → Type 0

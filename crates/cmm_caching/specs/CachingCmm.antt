@@ -1,43 +1,54 @@
--- What a manager with a cache is to its callers, over the manager that it asks. AWS Encryption SDK Specification, "Caching CMM".
+-- What a manager with a cache is to its callers, over the manager that it asks. AWS Encryption SDK
+-- Specification, "Caching CMM".
 use Rattle.std.specs.Prelude.{◌≡◌, ℕ, true, ◌&&◌, List, Option, is_none}
 use Rattle.keyring_trait.specs.declared.served.Served.{Served}
-use Rattle.keyring_trait.specs.Manager.{ManagerMeaning, GivesMaterials, FindsMaterials}
+use Rattle.keyring_trait.specs.Manager.{ManagerMeaning, ManagerNow, GivesMaterials, FindsMaterials}
 use Rattle.keyring_trait.specs.Materials.{EncMaterialsValue, DecMaterialsValue}
 use Rattle.keyring_trait.specs.Requests.{EncRequestValue, DecRequestValue}
 use Rattle.keyring_trait.specs.Wrapping.{WrapKeyValue}
 use Rattle.cmm_caching.specs.Ask.{GivenValue, enc_given, dec_given, seal_materials, open_materials}
-use Rattle.cmm_caching.specs.Asked.{NotHit}
+use Rattle.cmm_caching.specs.Asked.{NotHit, limits_of}
 use Rattle.cmm_caching.specs.Store.{Store}
+use Rattle.cmm_caching.specs.Journal.{BearsWith, KeepsWithin}
 use Rattle.cmm_caching.specs.Holding.{Holds, IsRight, IsExact, unfailing}
 
--- It wraps, refuses, fails and demands as that manager does. It is fresh where that one is plain, and plain where it has no cache, too.
+-- It wraps, refuses, fails and demands as that manager does. It is fresh where that one is plain,
+-- and plain where it has no cache, too.
 abbrev pub caching_meaning : Option Store → ManagerMeaning → ManagerMeaning
-caching_meaning cache inner = record inner { fresh = inner.plain; plain = is_none cache && inner.plain }
+caching_meaning cache inner = record inner {
+  fresh = inner.plain;
+  plain = is_none cache && inner.plain;
+}
 
--- It tells the keys that the inner manager tells, where that one is steady and every entry is what these keys give.
-pub record CachingTells (cache : Option Store) (inner : ManagerMeaning) (tells : List WrapKeyValue → Type 0) (keys : List WrapKeyValue) : Type 0 where
-  pub told : tells keys
-  pub steady : inner.steady ≡ true
+-- It tells the keys that the inner manager tells, where that one is steady and every entry is what
+-- these keys give.
+pub record CachingTells (cache : Option Store) (inner : ManagerNow)
+    (keys : List WrapKeyValue) : Type 0 where
+  pub told : inner.tells keys
+  pub steady : inner.meaning.steady ≡ true
   pub right : Holds (IsRight keys) cache
 
 -- It is exact where the inner manager is, and every entry is what an exact manager gives.
-pub record CachingExact (cache : Option Store) (inner : ManagerMeaning) (Exact : Type 0) : Type 0 where
-  pub exact : Exact
-  pub kept : Holds (IsExact (unfailing inner)) cache
+pub record CachingExact (cache : Option Store) (inner : ManagerNow) : Type 0 where
+  pub exact : inner.exact
+  pub kept : Holds (IsExact (unfailing inner.meaning)) cache
 
 -- ---- what the inner manager gave, without how it served it
 
 -- Such materials to encrypt are the inner manager's answer to the request.
-pub record GaveToSeal (m : ManagerMeaning) (tells : List WrapKeyValue → Type 0) (Exact : Type 0) (request : EncRequestValue) (random : List ℕ) (given : GivenValue) : Type 0 where
+pub record GaveToSeal (inner : ManagerNow) (request : EncRequestValue) (random : List ℕ)
+    (given : GivenValue) : Type 0 where
   pub way : Served
-  pub gave : GivesMaterials m tells Exact request random (seal_materials way given)
+  pub gave : GivesMaterials inner request random (seal_materials way given)
 
 -- Such materials to decrypt are the inner manager's answer to the request.
-pub record GaveToOpen (old new : ManagerMeaning) (tells : List WrapKeyValue → Type 0) (Exact : Type 0) (request : DecRequestValue) (given : GivenValue) : Type 0 where
+pub record GaveToOpen (old new : ManagerNow) (request : DecRequestValue)
+    (given : GivenValue) : Type 0 where
   pub way : Served
-  pub gave : FindsMaterials old new tells Exact request (open_materials way given)
+  pub gave : FindsMaterials old new request (open_materials way given)
 
--- Such materials to encrypt are the last that the inner manager gave, however it served them; `Gave` says what it gave.
+-- Such materials to encrypt are the last that the inner manager gave, however it served them;
+-- `Gave` says what it gave.
 pub record WasGiven (Gave : EncMaterialsValue → Type 0) (given : GivenValue) : Type 0 where
   pub way : Served
   pub last : Gave (seal_materials way given)
@@ -53,3 +64,18 @@ CachingGave Gave made = NotHit made.served (WasGiven Gave (enc_given made))
 
 abbrev pub CachingFound : (DecMaterialsValue → Type 0) → DecMaterialsValue → Type 0
 CachingFound Found found = NotHit found.served (WasFound Found (dec_given found))
+
+-- ---- the manager at a moment
+
+-- It bears what its cache bears, within the limits of its cache. What isn't a hit was given by the
+-- inner manager in that call.
+abbrev pub caching_now : Option Store → ManagerNow → ManagerNow
+caching_now cache inner = record {
+  meaning = caching_meaning cache inner.meaning;
+  tells = CachingTells cache inner;
+  exact = CachingExact cache inner;
+  bears = BearsWith cache;
+  within = KeepsWithin (limits_of cache);
+  gave = λ request now random. CachingGave (inner.gave request now random);
+  found = λ request now. CachingFound (inner.found request now);
+}

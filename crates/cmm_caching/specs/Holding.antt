@@ -18,13 +18,16 @@ Holds P (Some c) = AllByRecursion (λ p. P p.0 p.1.given) c.entries
 -- ---- materials that these keys give
 
 -- the data key is the one that the keys find, in an entry that one of them made
-pub record OpensRight (keys : List WrapKeyValue) (name : NameValue) (given : GivenValue) : Type 0 where
+pub record OpensRight (keys : List WrapKeyValue) (name : NameValue)
+    (given : GivenValue) : Type 0 where
   pub opened : IsOpened keys name.entries given.context given.key
   pub first : unwrapped keys name.entries given.context ≡ Some given.key
 
--- Those to encrypt have wraps under these keys; those to decrypt have the data key that these keys find.
+-- Those to encrypt have wraps under these keys; those to decrypt have the data key that these keys
+-- find.
 abbrev pub IsRight : List WrapKeyValue → NameValue → GivenValue → Type 0
-IsRight keys name given = MatchOption name.suite (AreWraps keys (seal_materials Direct given)) (λ _. OpensRight keys name given)
+IsRight keys name given = MatchOption name.suite (AreWraps keys (seal_materials Direct given))
+    (λ _. OpensRight keys name given)
 
 -- ---- materials that an exact manager gives
 
@@ -39,4 +42,5 @@ pub record SealsExactly (m : ManagerMeaning) (name : NameValue) (given : GivenVa
 
 -- Those to encrypt are as an exact manager gives them; to decrypt, nothing is wrong with the pairs.
 abbrev pub IsExact : ManagerMeaning → NameValue → GivenValue → Type 0
-IsExact m name given = MatchOption name.suite (SealsExactly m name given) (λ _. pair_offence name.pairs name.given m.demands ≡ None)
+IsExact m name given = MatchOption name.suite (SealsExactly m name given)
+    (λ _. pair_offence name.pairs name.given m.demands ≡ None)

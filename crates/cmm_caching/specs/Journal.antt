@@ -31,14 +31,16 @@ seals n lines = sum_by (λ line. if seals_with n line then 1 else 0) lines
 abbrev pub seal_bytes : ℕ → List JournalLine → ℕ
 seal_bytes n lines = sum_by (λ line. if seals_with n line then use_bytes line.length else 0) lines
 
--- Of two lines of one entry: they are less than its age apart, and where the first says that it is new, it isn't the later one.
+-- Of two lines of one entry: they are less than its age apart, and where the first says that it is
+-- new, it isn't the later one.
 pub record AreClose (age n : ℕ) (a b : JournalLine) : Type 0 where
   pub near : a.now < b.now + age
   pub from : a.served ≡ New n → a.now ≤ b.now
 
 -- No entry is used beyond its age, nor for more encryptions or bytes than the limits say.
 pub record Within (l : LimitsValue) (lines : List JournalLine) : Type 0 where
-  pub close : (n : ℕ) (a b : JournalLine) → Contains lines a → Contains lines b → names n a.served ≡ true → names n b.served ≡ true → AreClose l.age n a b
+  pub close : (n : ℕ) (a b : JournalLine) → Contains lines a → Contains lines b
+      → names n a.served ≡ true → names n b.served ≡ true → AreClose l.age n a b
   pub messages : (n : ℕ) → seals n lines ≤ l.messages
   pub bytes : (n : ℕ) → seal_bytes n lines ≤ l.bytes
 
@@ -53,7 +55,8 @@ KeepsWithin (Some l) lines = Within l lines
 
 -- ---- what a manager with a cache bears
 
--- a line of an entry is of a moment from its making on, and before the age is over; a line that says that it is new is of that moment
+-- a line of an entry is of a moment from its making on, and before the age is over; a line that
+-- says that it is new is of that moment
 pub record InTime (age made n : ℕ) (line : JournalLine) : Type 0 where
   pub from : made ≤ line.now
   pub until : line.now < made + age
@@ -63,12 +66,15 @@ pub record InTime (age made n : ℕ) (line : JournalLine) : Type 0 where
 pub record Told (age : ℕ) (lines : List JournalLine) (k : Kept) : Type 0 where
   pub count : seals k.number lines ≤ k.count
   pub bytes : seal_bytes k.number lines ≤ k.bytes
-  pub young : (line : JournalLine) → Contains lines line → names k.number line.served ≡ true → InTime age k.made k.number line
+  pub young : (line : JournalLine) → Contains lines line → names k.number line.served ≡ true
+      → InTime age k.made k.number line
 
--- The lines are within the limits, their numbers are those of entries that were made, and of the entries that are there they are told.
+-- The lines are within the limits, their numbers are those of entries that were made, and of the
+-- entries that are there they are told.
 pub record Bears (s : Store) (lines : List JournalLine) : Type 0 where
   pub within : Within s.limits lines
-  pub below : (n : ℕ) (line : JournalLine) → Contains lines line → names n line.served ≡ true → n < s.next
+  pub below : (n : ℕ) (line : JournalLine) → Contains lines line → names n line.served ≡ true
+      → n < s.next
   pub told : AllByRecursion (λ p. Told s.limits.age lines p.1) s.entries
 
 abbrev pub BearsWith : Option Store → List JournalLine → Type 0

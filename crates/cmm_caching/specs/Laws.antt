@@ -11,7 +11,8 @@ ComparesValues = (a b : NameValue) → (name_eq a b ≡ true) ↔ (a ≡ b)
 
 -- whatever was served from one entry, or became it, is the same materials
 abbrev pub AreOneMaking : List HandedValue → Type 0
-AreOneMaking answers = (n : ℕ) (a b : HandedValue) → Contains answers a → Contains answers b → names n a.served ≡ true → names n b.served ≡ true → a.given ≡ b.given
+AreOneMaking answers = (n : ℕ) (a b : HandedValue) → Contains answers a → Contains answers b
+    → names n a.served ≡ true → names n b.served ≡ true → a.given ≡ b.given
 
 -- In each run a hit gives the materials that the entry was made with.
 abbrev pub GivesWhatWasMade : Type 0

@@ -7,4 +7,5 @@ pub mod Asked
 pub mod Holding
 pub mod Journal
 pub mod CachingCmm
+pub mod Inner
 pub mod Laws

@@ -1,7 +1,8 @@
 -- What bounds a cache and the use of its entries.
 use Rattle.std.specs.Prelude.{ℕ, ◌-◌, ◌^◌, ◌≤◌}
 
--- How many entries it holds; for how many seconds, how many encryptions and how many bytes one of them serves.
+-- How many entries it holds; for how many seconds, how many encryptions and how many bytes one of
+-- them serves.
 pub record LimitsValue : Type 0 where
   pub capacity : ℕ
   pub age : ℕ

@@ -1,4 +1,5 @@
--- Names are equal exactly where they are one: so their equality is an equivalence, and equal names are fed alike to a hasher.
+-- Names are equal exactly where they are one: so their equality is an equivalence, and equal names
+-- are fed alike to a hasher.
 use Rattle.std.specs.Prelude.{◌≡◌, ℕ, Bool, true, ◌&&◌, List, Option, Some, None, nat_eq, refl, Decides}
 use Rattle.std.proofs.Common.{ap, sym, true≢false}
 use Rattle.std.specs.Cmp.{IsEquivalence, IsPartialEquivalence, partial_equiv_from_equiv, decided, first_so, second_so, unsigned_Decides}
@@ -9,43 +10,67 @@ use Rattle.edk_codec.specs.Entry.{Entry}
 use Rattle.cmm_caching.specs.Names.{NameValue, key_eq, pair_eq, entry_eq, name_eq, key_hash, pair_hash, entry_hash, name_hash}
 
 -- a test of two parts decides what both parts come to
-both_decide : {P Q R : Type 0} (s t : Bool) → Decides s P → Decides t Q → (P → Q → R) → (R → P) → (R → Q) → Decides (s && t) R
-both_decide s t d e join left right =
-    (λ h. join (d.0 (first_so s t h)) (e.0 (second_so s t h)), λ r. λ i. d.1 (left r) i && e.1 (right r) i)
+both_decide : {P Q R : Type 0} (s t : Bool) → Decides s P → Decides t Q → (P → Q → R) → (R → P)
+    → (R → Q) → Decides (s && t) R
+both_decide s t d e join left right = (
+  λ h. join (d.0 (first_so s t h)) (e.0 (second_so s t h)),
+  λ r. λ i. d.1 (left r) i && e.1 (right r) i,
+)
 
 key_decides : (a b : List ℕ) → Decides (key_eq a b) (a ≡ b)
 key_decides = bytes_decides
 
 pair_decides : (p q : KeyValue) → Decides (pair_eq p q) (p ≡ q)
 pair_decides p q =
-    both_decide (pointwise nat_eq p.0 q.0) (pointwise nat_eq p.1 q.1) (bytes_decides p.0 q.0) (bytes_decides p.1 q.1)
+    both_decide (pointwise nat_eq p.0 q.0) (pointwise nat_eq p.1 q.1) (bytes_decides p.0 q.0)
+    (bytes_decides p.1 q.1)
     (λ e f. λ i. (e i, f i)) (λ e. ap (λ r. r.0) e) (λ e. ap (λ r. r.1) e)
 
 entry_decides : (a b : Entry) → Decides (entry_eq a b) (a ≡ b)
 entry_decides a b =
-    both_decide (pointwise nat_eq a.provider b.provider) (pointwise nat_eq a.info b.info && pointwise nat_eq a.cipher b.cipher) (bytes_decides a.provider b.provider)
-    (both_decide {R = (a.info ≡ b.info) × (a.cipher ≡ b.cipher)} (pointwise nat_eq a.info b.info) (pointwise nat_eq a.cipher b.cipher)
-    (bytes_decides a.info b.info) (bytes_decides a.cipher b.cipher) (λ e f. (e, f)) (λ r. r.0) (λ r. r.1))
-    (λ e r. λ i. record { provider = e i; info = r.0 i; cipher = r.1 i }) (λ e. ap (λ x. x.provider) e) (λ e. (ap (λ x. x.info) e, ap (λ x. x.cipher) e))
+    both_decide (pointwise nat_eq a.provider b.provider)
+    (pointwise nat_eq a.info b.info && pointwise nat_eq a.cipher b.cipher)
+    (bytes_decides a.provider b.provider)
+    (both_decide {R = (a.info ≡ b.info) × (a.cipher ≡ b.cipher)} (pointwise nat_eq a.info b.info)
+    (pointwise nat_eq a.cipher b.cipher)
+    (bytes_decides a.info b.info) (bytes_decides a.cipher b.cipher) (λ e f. (e, f)) (λ r. r.0)
+    (λ r. r.1))
+    (λ e r. λ i. record { provider = e i; info = r.0 i; cipher = r.1 i })
+    (λ e. ap (λ x. x.provider) e) (λ e. (ap (λ x. x.info) e, ap (λ x. x.cipher) e))
 
 suite_decides : (a b : Option ℕ) → Decides (option_eq nat_eq a b) (a ≡ b)
 suite_decides None None = (λ _. refl, λ _. refl)
 suite_decides None (Some b) = (λ h. absurd (true≢false (sym h)), λ e. cc)
 suite_decides (Some a) None = (λ h. absurd (true≢false (sym h)), λ e. cc)
-suite_decides (Some a) (Some b) = (λ h. ap Some ((unsigned_Decides a b).0 h), λ e. (unsigned_Decides a b).1 cc)
+suite_decides (Some a) (Some b) =
+    (λ h. ap Some ((unsigned_Decides a b).0 h), λ e. (unsigned_Decides a b).1 cc)
 
 pub name_decides : (a b : NameValue) → Decides (name_eq a b) (a ≡ b)
 unfolding name_eq
 name_decides a b =
     both_decide _ _ (suite_decides a.suite b.suite)
-    (both_decide {R = (a.pairs ≡ b.pairs) × ((a.given ≡ b.given) × ((a.required ≡ b.required) × (a.entries ≡ b.entries)))} _ _
+    (both_decide {R = (a.pairs ≡ b.pairs)
+    × ((a.given ≡ b.given) × ((a.required ≡ b.required) × (a.entries ≡ b.entries)))} _ _
     (pointwise_decides pair_decides a.pairs b.pairs)
-    (both_decide {R = (a.given ≡ b.given) × ((a.required ≡ b.required) × (a.entries ≡ b.entries))} _ _ (pointwise_decides pair_decides a.given b.given)
-    (both_decide {R = (a.required ≡ b.required) × (a.entries ≡ b.entries)} _ _ (pointwise_decides key_decides a.required b.required)
-    (pointwise_decides entry_decides a.entries b.entries) (λ e f. (e, f)) (λ r. r.0) (λ r. r.1)) (λ e f. (e, f)) (λ r. r.0) (λ r. r.1)) (λ e f. (e, f)) (λ r. r.0) (λ r. r.1))
-    (λ e r. λ i. record { suite = e i; pairs = r.0 i; given = r.1.0 i; required = r.1.1.0 i; entries = r.1.1.1 i })
+    (both_decide {R = (a.given ≡ b.given)
+    × ((a.required ≡ b.required)
+    × (a.entries ≡ b.entries))} _ _ (pointwise_decides pair_decides a.given b.given)
+    (both_decide {R = (a.required ≡ b.required)
+    × (a.entries ≡ b.entries)} _ _ (pointwise_decides key_decides a.required b.required)
+    (pointwise_decides entry_decides a.entries b.entries) (λ e f. (e, f)) (λ r. r.0) (λ r. r.1))
+    (λ e f. (e, f)) (λ r. r.0) (λ r. r.1)) (λ e f. (e, f)) (λ r. r.0) (λ r. r.1))
+    (λ e r. λ i. record {
+      suite = e i;
+      pairs = r.0 i;
+      given = r.1.0 i;
+      required = r.1.1.0 i;
+      entries = r.1.1.1 i;
+    })
     (λ e. ap (λ x. x.suite) e)
-    (λ e. (ap (λ x. x.pairs) e, (ap (λ x. x.given) e, (ap (λ x. x.required) e, ap (λ x. x.entries) e))))
+    (λ e. (
+      ap (λ x. x.pairs) e,
+      (ap (λ x. x.given) e, (ap (λ x. x.required) e, ap (λ x. x.entries) e)),
+    ))
 
 pub name_same : (a b : NameValue) → name_eq a b ≡ true → a ≡ b
 name_same a b h = (name_decides a b).0 h

@@ -7,8 +7,8 @@ use Rattle.context_codec.specs.Context.{KeyValue}
 use Rattle.edk_codec.specs.Entry.{Entry}
 use Rattle.keyring_trait.specs.Requests.{EncRequestValue, DecRequestValue}
 
--- Of a request to encrypt: the context and the keys required of it, and no suite. Of a request to decrypt: the suite, the stored pairs, the given pairs, and all
--- encrypted data keys.
+-- Of a request to encrypt: the context and the keys required of it, and no suite. Of a request to
+-- decrypt: the suite, the stored pairs, the given pairs, and all encrypted data keys.
 pub record NameValue : Type 0 where
   pub suite : Option ℕ
   pub pairs : List KeyValue
@@ -17,10 +17,22 @@ pub record NameValue : Type 0 where
   pub entries : List Entry
 
 abbrev pub enc_name : EncRequestValue → NameValue
-enc_name r = record { suite = None; pairs = r.context; given = []; required = r.required; entries = [] }
+enc_name r = record {
+  suite = None;
+  pairs = r.context;
+  given = [];
+  required = r.required;
+  entries = [];
+}
 
 abbrev pub dec_name : DecRequestValue → NameValue
-dec_name r = record { suite = Some r.suite; pairs = r.stored; given = r.given; required = []; entries = r.entries }
+dec_name r = record {
+  suite = Some r.suite;
+  pairs = r.stored;
+  given = r.given;
+  required = [];
+  entries = r.entries;
+}
 
 -- it names a request to encrypt
 abbrev pub is_seal : NameValue → Bool
@@ -35,12 +47,15 @@ abbrev pub pair_eq : KeyValue → KeyValue → Bool
 pair_eq p q = pointwise nat_eq p.0 q.0 && pointwise nat_eq p.1 q.1
 
 abbrev pub entry_eq : Entry → Entry → Bool
-entry_eq a b = pointwise nat_eq a.provider b.provider && (pointwise nat_eq a.info b.info && pointwise nat_eq a.cipher b.cipher)
+entry_eq a b = pointwise nat_eq a.provider b.provider
+    && (pointwise nat_eq a.info b.info && pointwise nat_eq a.cipher b.cipher)
 
 unfoldable pub name_eq : NameValue → NameValue → Bool
 name_eq a b =
     option_eq nat_eq a.suite b.suite
-    && (pointwise pair_eq a.pairs b.pairs && (pointwise pair_eq a.given b.given && (pointwise key_eq a.required b.required && pointwise entry_eq a.entries b.entries)))
+    && (pointwise pair_eq a.pairs b.pairs
+    && (pointwise pair_eq a.given b.given
+    && (pointwise key_eq a.required b.required && pointwise entry_eq a.entries b.entries)))
 
 -- ---- what a hasher is fed of them
 
@@ -59,4 +74,6 @@ entry_hash e = bytes_hash e.provider ++ (bytes_hash e.info ++ bytes_hash e.ciphe
 unfoldable pub name_hash : NameValue → fed.HashWrites
 name_hash n =
     fed.option fed.u16 n.suite
-    ++ (fed.slice pair_hash n.pairs ++ (fed.slice pair_hash n.given ++ (fed.slice key_hash n.required ++ fed.slice entry_hash n.entries)))
+    ++ (fed.slice pair_hash n.pairs
+    ++ (fed.slice pair_hash n.given
+    ++ (fed.slice key_hash n.required ++ fed.slice entry_hash n.entries)))

@@ -1,4 +1,5 @@
--- The cache as the code keeps it: of the uses of an entry only their count and the sum of their lengths.
+-- The cache as the code keeps it: of the uses of an entry only their count and the sum of their
+-- lengths.
 use Rattle.std.specs.Prelude.{◌≡◌, ℕ, ◌+◌, ◌^◌, ◌≤◌, ◌<◌, Bool, ◌||◌, true, List, [], ◌∷◌, length, map, sum, ⊤, All, Option, Some, None, not, nat_eq, if◌then◌else◌, option_and_then, MatchOption, ◌≢◌}
 use Rattle.std.specs.List.{AllByRecursion}
 use Rattle.std.specs.Map.{lookup}
@@ -12,7 +13,8 @@ use Rattle.cmm_caching.specs.Limits.{LimitsValue, AreLimits}
 use Rattle.cmm_caching.specs.Names.{NameValue, name_eq}
 use Rattle.cmm_caching.specs.Ask.{GivenValue, HandedValue, CacheEntry, State, Wish, empty, serves, is_direct, kept_if, moved, put_first}
 
--- The limits, how many encrypted data keys the materials to encrypt with have, the entries under their names, the last used first, and the number of the next one.
+-- The limits, how many encrypted data keys the materials to encrypt with have, the entries under
+-- their names, the last used first, and the number of the next one.
 pub record Store : Type 0 where
   pub limits : LimitsValue
   pub width : ℕ
@@ -22,16 +24,28 @@ pub record Store : Type 0 where
 -- ---- what state it stands for
 
 abbrev pub tally : CacheEntry → Kept
-tally e = record { number = e.number; made = e.made; given = e.given; count = length e.uses; bytes = sum e.uses }
+tally e = record {
+  number = e.number;
+  made = e.made;
+  given = e.given;
+  count = length e.uses;
+  bytes = sum e.uses;
+}
 
 abbrev pub tallied_entry : NameValue × CacheEntry → NameValue × Kept
 tallied_entry p = (p.0, tally p.1)
 
 -- a state's entries in the same order, with the count of their uses and the sum of their lengths
 abbrev pub tallied : LimitsValue → ℕ → State → Store
-tallied l width s = record { limits = l; width = width; entries = map tallied_entry s.entries; next = s.next }
+tallied l width s = record {
+  limits = l;
+  width = width;
+  entries = map tallied_entry s.entries;
+  next = s.next;
+}
 
--- The cache of a manager whose inner one makes so many encrypted data keys stands for the state. Without a cache it is the empty one.
+-- The cache of a manager whose inner one makes so many encrypted data keys stands for the state.
+-- Without a cache it is the empty one.
 abbrev pub StandsFor : ℕ → Option Store → State → Type 0
 StandsFor width None s = s ≡ empty
 StandsFor width (Some c) s = c ≡ tallied c.limits width s
@@ -48,7 +62,10 @@ use_bytes None = 0
 use_bytes (Some n) = n
 
 abbrev pub used_again : Option ℕ → Kept → Kept
-used_again declared k = record k { count = k.count + use_count declared; bytes = k.bytes + use_bytes declared }
+used_again declared k = record k {
+  count = k.count + use_count declared;
+  bytes = k.bytes + use_bytes declared;
+}
 
 -- the counts of an entry don't overflow with this use
 abbrev pub HasRoom : Option ℕ → Kept → Type 0
@@ -56,7 +73,14 @@ HasRoom None k = ⊤
 HasRoom (Some n) k = (k.count + 1 < 2 ^ 64) × (k.bytes + n < 2 ^ 64)
 
 abbrev pub fresh_kept : ℕ → ℕ → GivenValue → Option ℕ → Kept
-fresh_kept number now given declared = record { number = number; made = now; given = given; count = use_count declared; bytes = use_bytes declared }
+fresh_kept number now given declared =
+    record {
+      number = number;
+      made = now;
+      given = given;
+      count = use_count declared;
+      bytes = use_bytes declared;
+    }
 
 pub record StoreStep : Type 0 where
   pub handed : HandedValue
@@ -67,7 +91,8 @@ still_serves l w now k = serves l k.made k.count k.bytes w.declared now
 
 -- the entry of the request's name, where it serves
 abbrev pub kept_for : Store → Wish → ℕ → Option Kept
-kept_for s w now = option_and_then (kept_if (still_serves s.limits w now)) (lookup (name_eq w.name) s.entries)
+kept_for s w now = option_and_then (kept_if (still_serves s.limits w now))
+    (lookup (name_eq w.name) s.entries)
 
 abbrev pub after_hit : Store → Wish → Kept → Store
 after_hit s w k = record s { entries = moved w.name (used_again w.declared k) s.entries }
@@ -107,7 +132,8 @@ abbrev pub hit_or_new : Store → Wish → ℕ → GivenValue → Option Kept �
 hit_or_new s w now got None = record { handed = handed_new s got; after = after_new s w now got }
 hit_or_new s w now got (Some k) = record { handed = handed_again k; after = after_hit s w k }
 
--- The request goes past the cache also where the inner manager makes another number of encrypted data keys than the cache was made for.
+-- The request goes past the cache also where the inner manager makes another number of encrypted
+-- data keys than the cache was made for.
 unfoldable pub ask_kept : Bool → Store → Wish → ℕ → GivenValue → StoreStep
 ask_kept past s w now got =
     if past || is_direct s.limits w s.next then record { handed = handed_directly got; after = s }
@@ -115,7 +141,8 @@ ask_kept past s w now got =
 
 -- ---- what is true of every cache
 
--- Materials to encrypt are those of the context, with the keys required of it and maybe more, and with so many encrypted data keys.
+-- Materials to encrypt are those of the context, with the keys required of it and maybe more, and
+-- with so many encrypted data keys.
 pub record FitsSeal (width : ℕ) (name : NameValue) (given : GivenValue) : Type 0 where
   pub context : given.context ≡ name.pairs
   pub only : given.only ≡ []
@@ -132,17 +159,18 @@ pub record FitsUnseal (name : NameValue) (given : GivenValue) : Type 0 where
 
 -- the materials are of the kind and of the context that the name says
 abbrev pub FitsName : ℕ → NameValue → GivenValue → Type 0
-FitsName width name given = MatchOption name.suite (FitsSeal width name given) (λ _. FitsUnseal name given)
+FitsName width name given = MatchOption name.suite (FitsSeal width name given)
+    (λ _. FitsUnseal name given)
 
 -- no two entries have one number
-abbrev pub AreApart : List (NameValue × Kept) → Type 0
-AreApart [] = ⊤
-AreApart (e ∷ es) = AllByRecursion (λ p. p.1.number ≢ e.1.number) es × AreApart es
+abbrev pub HaveApartNames : List (NameValue × Kept) → Type 0
+HaveApartNames [] = ⊤
+HaveApartNames (e ∷ es) = AllByRecursion (λ p. p.1.number ≢ e.1.number) es × HaveApartNames es
 
 -- What the type of caches keeps.
 pub record Sound (s : Store) : Type 0 where
   pub limits : AreLimits s.limits
   pub next : s.next ≤ 2 ^ 63 + 1
   pub below : AllByRecursion (λ p. p.1.number < s.next) s.entries
-  pub apart : AreApart s.entries
+  pub apart : HaveApartNames s.entries
   pub fits : AllByRecursion (λ p. FitsName s.width p.0 p.1.given) s.entries

@@ -43,7 +43,12 @@ impl Model for Cache {
 
     ghost invariant = { λ c.
         (c.entries.cap ≡ c.limits.capacity)
-        × Sound (record { limits = c.limits; width = c.width; entries = c.entries.entries; next = c.next }) };
+        × Sound (record {
+          limits = c.limits;
+          width = c.width;
+          entries = c.entries.entries;
+          next = c.next;
+        }) };
 }
 
 impl Cache {
@@ -92,7 +97,8 @@ impl Cache {
     ) -> Result<Option<(Given, u64)>, AllocError>
         ensures hit { IfOk result (λ hit. hit ≡ option_map given_again
             (kept_for self.old (asked_for name.now declared) now)) }
-        ensures ok { OnOk result (self.new ≡ after_look self.old (asked_for name.now declared) now) }
+        ensures ok { OnOk result (self.new ≡ after_look self.old
+            (asked_for name.now declared) now) }
         ensures err { OnErr result (self.new ≡ self.old) }
         ensures fits { IfOk result (λ hit. IfSome hit (λ p. FitsName self.old.width name.now p.0)) }
     {
@@ -124,7 +130,8 @@ impl Cache {
         requires room { self.old.next ≤ 2 ^ 63 }
         requires fits { FitsName self.old.width name given }
         ensures number { IfOk result (λ n. n ≡ self.old.next) }
-        ensures ok { OnOk result (self.new ≡ after_new self.old (asked_for name declared) now given) }
+        ensures ok { OnOk result (self.new ≡ after_new self.old
+            (asked_for name declared) now given) }
         ensures err { OnErr result (self.new ≡ self.old) }
     {
         let number = self.next;

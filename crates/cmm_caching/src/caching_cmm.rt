@@ -1,16 +1,15 @@
 //! The caching materials manager. AWS Encryption SDK Specification, "Caching CMM".
 
 ghost use Rattle.std.specs.Prelude.{◌≡◌, ◌+◌, ◌*◌, true, List, length, None, Option, IfOk, IfErr};
-ghost use Rattle.keyring_trait.specs.declared.journal.JournalLine.{JournalLine};
 ghost use Rattle.keyring_trait.specs.declared.journal.Kind.TheVariants.{Seal, Unseal};
 ghost use Rattle.keyring_trait.specs.declared.manager_errors.ManagerError.TheVariants.{Memory};
-ghost use Rattle.keyring_trait.specs.Manager.{ManagerGoes, GivesMaterials, GivesNone, FindsMaterials, FindsNone, TellsOn, BearsOn, enc_served, dec_served};
+ghost use Rattle.keyring_trait.specs.Manager.{Went, GivesMaterials, GivesNone, FindsMaterials, FindsNone, BearsOn, enc_served, dec_served};
 ghost use Rattle.keyring_trait.specs.Wrapping.{WrapKeyValue};
 ghost use Rattle.cmm_caching.specs.Ask.{State, empty, enc_handed, dec_handed, enc_wish, dec_wish};
 ghost use Rattle.cmm_caching.specs.Store.{StandsFor};
 ghost use Rattle.cmm_caching.specs.Asked.{AnswersAs, StandsAfter, WhereAnswered, limits_of};
 ghost use Rattle.cmm_caching.specs.Journal.{BearsWith, KeepsWithin};
-ghost use Rattle.cmm_caching.specs.CachingCmm.{caching_meaning, CachingTells, CachingExact, CachingGave, CachingFound};
+ghost use Rattle.cmm_caching.specs.CachingCmm.{CachingTells, CachingExact, CachingGave, CachingFound, caching_now};
 
 use crate::cache::Cache;
 use crate::limits::CacheLimits;
@@ -58,12 +57,11 @@ impl<M: Manager> CachingCmm<M> {
     ) -> Result<CachingCmm<M>, AllocError>
         ensures inner { IfOk result (λ c. c.0 ≡ inner) }
         ensures limits { IfOk result (λ c. limits_of c.1 ≡ limits) }
-        ensures stands { IfOk result (λ c. StandsFor (M.meaning inner).wraps c.1 empty) }
-        ensures tells { IfOk result (λ c. (keys : List WrapKeyValue) → M.tells inner keys
-            → (M.meaning inner).steady ≡ true
-            → CachingTells c.1 (M.meaning inner) (M.tells inner) keys) }
-        ensures exact { IfOk result (λ c. M.exact inner
-            → CachingExact c.1 (M.meaning inner) (M.exact inner)) }
+        ensures stands { IfOk result (λ c. StandsFor (M.state inner).meaning.wraps c.1 empty) }
+        ensures tells { IfOk result (λ c. (keys : List WrapKeyValue) → (M.state inner).tells keys
+            → (M.state inner).meaning.steady ≡ true → CachingTells c.1 (M.state inner) keys) }
+        ensures exact { IfOk result (λ c. (M.state inner).exact
+            → CachingExact c.1 (M.state inner)) }
     {
         let cache = match limits {
             Some(limits) => Some(Cache::new(alloc, limits, inner.wraps())?),
@@ -106,20 +104,7 @@ impl<M: Manager> CachingCmm<M> {
 /// What the inner manager refuses is refused. After any error, `Memory` too, the cache is as
 /// before.
 impl<M: Manager> Manager for CachingCmm<M> {
-    ghost meaning = { λ m. caching_meaning m.1 (M.meaning m.0) };
-
-    ghost tells = { λ m keys. CachingTells m.1 (M.meaning m.0) (M.tells m.0) keys };
-
-    ghost exact = { λ m. CachingExact m.1 (M.meaning m.0) (M.exact m.0) };
-
-    ghost bears = { λ m lines. BearsWith m.1 lines };
-
-    ghost within = { λ m lines. KeepsWithin (limits_of m.1) lines };
-
-    /// What isn't a hit was given by the inner manager in that call.
-    ghost gave = { λ m request now random. CachingGave (M.gave m.0 request now random) };
-
-    ghost found = { λ m request now. CachingFound (M.found m.0 request now) };
+    ghost state = { λ m. caching_now m.1 (M.state m.0) };
 
     fn wraps(&self) -> u32 {
         self.inner.wraps()
@@ -136,40 +121,27 @@ impl<M: Manager> Manager for CachingCmm<M> {
         now: u64,
         random: &[u8],
     ) -> Result<EncMaterials, ManagerError>
-        requires { length random.now ≡ 32 + 12 * (M.meaning self.old.0).wraps }
-        ensures goes { ManagerGoes (caching_meaning self.old.1 (M.meaning self.old.0))
-            (caching_meaning self.new.1 (M.meaning self.new.0)) }
-        ensures tells { TellsOn (CachingTells self.old.1 (M.meaning self.old.0)
-            (M.tells self.old.0)) (CachingTells self.new.1 (M.meaning self.new.0)
-            (M.tells self.new.0)) }
-        ensures same { (caching_meaning self.old.1 (M.meaning self.old.0)).plain ≡ true
-            → TellsOn (CachingTells self.new.1 (M.meaning self.new.0) (M.tells self.new.0))
-            (CachingTells self.old.1 (M.meaning self.old.0) (M.tells self.old.0)) }
-        ensures exact { CachingExact self.old.1 (M.meaning self.old.0) (M.exact self.old.0)
-            → CachingExact self.new.1 (M.meaning self.new.0) (M.exact self.new.0) }
-        ensures gives { IfOk result (GivesMaterials
-            (caching_meaning self.old.1 (M.meaning self.old.0))
-            (CachingTells self.old.1 (M.meaning self.old.0) (M.tells self.old.0))
-            (CachingExact self.old.1 (M.meaning self.old.0) (M.exact self.old.0)) request.now
-            random.now) }
-        ensures cause { IfErr result (GivesNone
-            (caching_meaning self.old.1 (M.meaning self.old.0))
-            (caching_meaning self.new.1 (M.meaning self.new.0))
-            (CachingExact self.old.1 (M.meaning self.old.0) (M.exact self.old.0)) request.now) }
-        ensures bears { BearsOn (BearsWith self.old.1)
-            (BearsWith self.new.1) Seal now request.now.declared enc_served result }
-        ensures within { (lines : List JournalLine) → KeepsWithin (limits_of self.new.1) lines
-            → KeepsWithin (limits_of self.old.1) lines }
-        ensures gave { IfOk result (CachingGave (M.gave self.new.0 request.now now random.now)) }
-        ensures answers { (s : State) → StandsFor (M.meaning self.old.0).wraps self.old.1 s
+        requires { length random.now ≡ 32 + 12 * (M.state self.old.0).meaning.wraps }
+        ensures went { Went (caching_now self.old.1 (M.state self.old.0))
+            (caching_now self.new.1 (M.state self.new.0)) }
+        ensures gives { IfOk result (GivesMaterials (caching_now self.old.1 (M.state self.old.0))
+            request.now random.now) }
+        ensures cause { IfErr result (GivesNone (caching_now self.old.1 (M.state self.old.0))
+            (caching_now self.new.1 (M.state self.new.0)) request.now) }
+        ensures bears { BearsOn (caching_now self.old.1 (M.state self.old.0))
+            (caching_now self.new.1 (M.state self.new.0)) Seal now request.now.declared
+            enc_served result }
+        ensures gave { IfOk result (CachingGave ((M.state self.new.0).gave request.now now
+            random.now)) }
+        ensures answers { (s : State) → StandsFor (M.state self.old.0).meaning.wraps self.old.1 s
             → AnswersAs enc_handed (limits_of self.old.1) s (enc_wish request.now) now result }
-        ensures stands { (s : State) → StandsFor (M.meaning self.old.0).wraps self.old.1 s
+        ensures stands { (s : State) → StandsFor (M.state self.old.0).meaning.wraps self.old.1 s
             → StandsAfter enc_handed (limits_of self.old.1)
-            (M.meaning self.new.0).wraps self.new.1 s (enc_wish request.now) now result }
-        ensures spares { (s : State) → StandsFor (M.meaning self.old.0).wraps self.old.1 s
+            (M.state self.new.0).meaning.wraps self.new.1 s (enc_wish request.now) now result }
+        ensures spares { (s : State) → StandsFor (M.state self.old.0).meaning.wraps self.old.1 s
             → WhereAnswered (limits_of self.old.1) s (enc_wish request.now) now
             (self.new.0 ≡ self.old.0) }
-        ensures certain { (s : State) → StandsFor (M.meaning self.old.0).wraps self.old.1 s
+        ensures certain { (s : State) → StandsFor (M.state self.old.0).meaning.wraps self.old.1 s
             → WhereAnswered (limits_of self.old.1) s (enc_wish request.now) now
             (IfErr result (λ error. error ≡ Memory)) }
         ensures limits { limits_of self.new.1 ≡ limits_of self.old.1 }
@@ -190,40 +162,24 @@ impl<M: Manager> Manager for CachingCmm<M> {
         request: &DecRequest,
         now: u64,
     ) -> Result<DecMaterials, ManagerError>
-        ensures goes { ManagerGoes (caching_meaning self.old.1 (M.meaning self.old.0))
-            (caching_meaning self.new.1 (M.meaning self.new.0)) }
-        ensures tells { TellsOn (CachingTells self.old.1 (M.meaning self.old.0)
-            (M.tells self.old.0)) (CachingTells self.new.1 (M.meaning self.new.0)
-            (M.tells self.new.0)) }
-        ensures same { (caching_meaning self.old.1 (M.meaning self.old.0)).plain ≡ true
-            → TellsOn (CachingTells self.new.1 (M.meaning self.new.0) (M.tells self.new.0))
-            (CachingTells self.old.1 (M.meaning self.old.0) (M.tells self.old.0)) }
-        ensures exact { CachingExact self.old.1 (M.meaning self.old.0) (M.exact self.old.0)
-            → CachingExact self.new.1 (M.meaning self.new.0) (M.exact self.new.0) }
-        ensures finds { IfOk result (FindsMaterials
-            (caching_meaning self.old.1 (M.meaning self.old.0))
-            (caching_meaning self.new.1 (M.meaning self.new.0))
-            (CachingTells self.old.1 (M.meaning self.old.0) (M.tells self.old.0))
-            (CachingExact self.old.1 (M.meaning self.old.0) (M.exact self.old.0)) request.now) }
-        ensures cause { IfErr result (FindsNone
-            (caching_meaning self.old.1 (M.meaning self.old.0))
-            (caching_meaning self.new.1 (M.meaning self.new.0))
-            (CachingTells self.old.1 (M.meaning self.old.0) (M.tells self.old.0))
-            (CachingExact self.old.1 (M.meaning self.old.0) (M.exact self.old.0)) request.now) }
-        ensures bears { BearsOn (BearsWith self.old.1)
-            (BearsWith self.new.1) Unseal now None dec_served result }
-        ensures within { (lines : List JournalLine) → KeepsWithin (limits_of self.new.1) lines
-            → KeepsWithin (limits_of self.old.1) lines }
-        ensures found { IfOk result (CachingFound (M.found self.new.0 request.now now)) }
-        ensures answers { (s : State) → StandsFor (M.meaning self.old.0).wraps self.old.1 s
+        ensures went { Went (caching_now self.old.1 (M.state self.old.0))
+            (caching_now self.new.1 (M.state self.new.0)) }
+        ensures finds { IfOk result (FindsMaterials (caching_now self.old.1 (M.state self.old.0))
+            (caching_now self.new.1 (M.state self.new.0)) request.now) }
+        ensures cause { IfErr result (FindsNone (caching_now self.old.1 (M.state self.old.0))
+            (caching_now self.new.1 (M.state self.new.0)) request.now) }
+        ensures bears { BearsOn (caching_now self.old.1 (M.state self.old.0))
+            (caching_now self.new.1 (M.state self.new.0)) Unseal now None dec_served result }
+        ensures found { IfOk result (CachingFound ((M.state self.new.0).found request.now now)) }
+        ensures answers { (s : State) → StandsFor (M.state self.old.0).meaning.wraps self.old.1 s
             → AnswersAs dec_handed (limits_of self.old.1) s (dec_wish request.now) now result }
-        ensures stands { (s : State) → StandsFor (M.meaning self.old.0).wraps self.old.1 s
+        ensures stands { (s : State) → StandsFor (M.state self.old.0).meaning.wraps self.old.1 s
             → StandsAfter dec_handed (limits_of self.old.1)
-            (M.meaning self.new.0).wraps self.new.1 s (dec_wish request.now) now result }
-        ensures spares { (s : State) → StandsFor (M.meaning self.old.0).wraps self.old.1 s
+            (M.state self.new.0).meaning.wraps self.new.1 s (dec_wish request.now) now result }
+        ensures spares { (s : State) → StandsFor (M.state self.old.0).meaning.wraps self.old.1 s
             → WhereAnswered (limits_of self.old.1) s (dec_wish request.now) now
             (self.new.0 ≡ self.old.0) }
-        ensures certain { (s : State) → StandsFor (M.meaning self.old.0).wraps self.old.1 s
+        ensures certain { (s : State) → StandsFor (M.state self.old.0).meaning.wraps self.old.1 s
             → WhereAnswered (limits_of self.old.1) s (dec_wish request.now) now
             (IfErr result (λ error. error ≡ Memory)) }
         ensures limits { limits_of self.new.1 ≡ limits_of self.old.1 }

@@ -4,8 +4,8 @@
 //! The definitions stand in `specs/`: `Names` is what a request is known by, `Ask` what a cache
 //! answers, `Limits` and `Journal` what bounds the use of its entries, `CachingCmm` what the
 //! manager means to its callers, `Holding` what it keeps of its entries, and `Laws` what is true of
-//! whole runs. `Store` is the cache as the code keeps it, and `Asked` says how an answer is the
-//! cache's.
+//! whole runs. `Store` is the cache as the code keeps it, `Asked` says how an answer is the
+//! cache's, and `Inner` what the inner manager comes to in a call.
 #![tactic(auto)]
 
 mod cache;

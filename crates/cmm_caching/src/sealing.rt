@@ -3,12 +3,13 @@
 ghost use Rattle.std.specs.Prelude.{◌≡◌, ◌+◌, ◌*◌, true, false, Some, None, length, IfOk, IfErr};
 ghost use Rattle.keyring_trait.specs.declared.manager_errors.ManagerError.TheVariants.{Memory};
 ghost use Rattle.keyring_trait.specs.declared.served.Served.TheVariants.{Direct};
-ghost use Rattle.keyring_trait.specs.Manager.{ManagerGoes, GivesMaterials, GivesNone, TellsOn};
+ghost use Rattle.keyring_trait.specs.Manager.{Went, GivesNone};
 ghost use Rattle.cmm_caching.specs.Names.{enc_name};
-ghost use Rattle.cmm_caching.specs.Ask.{enc_given, enc_handed, enc_wish, is_direct};
+ghost use Rattle.cmm_caching.specs.Ask.{enc_handed, enc_wish, is_direct};
 ghost use Rattle.cmm_caching.specs.Store.{FitsSeal, Sound, is_past, kept_for};
-ghost use Rattle.cmm_caching.specs.Asked.{Asked, AskedWith, IsSound, NotHit, WhereKept};
-ghost use Rattle.cmm_caching.specs.CachingCmm.{GaveToSeal, WasGiven, CachingGave};
+ghost use Rattle.cmm_caching.specs.Asked.{Asked, AskedWith, IsSound, WhereKept};
+ghost use Rattle.cmm_caching.specs.CachingCmm.{GaveToSeal, WasGiven};
+ghost use Rattle.cmm_caching.specs.Inner.{SealsOver};
 
 use crate::cache::Cache;
 use crate::given::Given;
@@ -24,24 +25,19 @@ fn ask_to_seal<M: Manager>(
     now: u64,
     random: &[u8],
 ) -> Result<Given, ManagerError>
-    requires { length random.now ≡ 32 + 12 * (M.meaning inner.old).wraps }
-    ensures goes { ManagerGoes (M.meaning inner.old) (M.meaning inner.new) }
-    ensures tells { TellsOn (M.tells inner.old) (M.tells inner.new) }
-    ensures same { (M.meaning inner.old).plain ≡ true
-        → TellsOn (M.tells inner.new) (M.tells inner.old) }
-    ensures exact { M.exact inner.old → M.exact inner.new }
-    ensures cause { IfErr result (GivesNone (M.meaning inner.old) (M.meaning inner.new)
-        (M.exact inner.old) request.now) }
-    ensures fits { IfOk result (FitsSeal (M.meaning inner.old).wraps (enc_name request.now)) }
-    ensures got { IfOk result (GaveToSeal (M.meaning inner.old) (M.tells inner.old)
-        (M.exact inner.old) request.now random.now) }
-    ensures last { IfOk result (WasGiven (M.gave inner.new request.now now random.now)) }
+    requires { length random.now ≡ 32 + 12 * (M.state inner.old).meaning.wraps }
+    ensures went { Went (M.state inner.old) (M.state inner.new) }
+    ensures cause { IfErr result (GivesNone (M.state inner.old) (M.state inner.new) request.now) }
+    ensures fits { IfOk result (FitsSeal (M.state inner.old).meaning.wraps (enc_name request.now)) }
+    ensures got { IfOk result (GaveToSeal (M.state inner.old) request.now random.now) }
+    ensures last { IfOk result (WasGiven ((M.state inner.new).gave request.now now random.now)) }
 {
     let made = inner.for_encryption(alloc, request, now, random)?;
     Ok(Given::of_sealing(alloc, made))
 }
 
 /// What the inner manager gives, served directly.
+#[tactic(auto, using(crate::proofs::Inner::seals_given, crate::proofs::Inner::seals_none))]
 fn seal_directly<M: Manager>(
     inner: &mut M,
     alloc: Global,
@@ -49,27 +45,17 @@ fn seal_directly<M: Manager>(
     now: u64,
     random: &[u8],
 ) -> Result<EncMaterials, ManagerError>
-    requires { length random.now ≡ 32 + 12 * (M.meaning inner.old).wraps }
-    ensures goes { ManagerGoes (M.meaning inner.old) (M.meaning inner.new) }
-    ensures tells { TellsOn (M.tells inner.old) (M.tells inner.new) }
-    ensures same { (M.meaning inner.old).plain ≡ true
-        → TellsOn (M.tells inner.new) (M.tells inner.old) }
-    ensures exact { M.exact inner.old → M.exact inner.new }
-    ensures cause { IfErr result (GivesNone (M.meaning inner.old) (M.meaning inner.new)
-        (M.exact inner.old) request.now) }
+    requires { length random.now ≡ 32 + 12 * (M.state inner.old).meaning.wraps }
+    ensures seals { SealsOver (M.state inner.old) (M.state inner.new)
+        request.now now random.now result }
     ensures direct { IfOk result (λ m. m.served ≡ Direct) }
-    ensures fits { IfOk result (λ m. FitsSeal (M.meaning inner.old).wraps (enc_name request.now)
-        (enc_given m)) }
-    ensures got { IfOk result (λ m. GaveToSeal (M.meaning inner.old) (M.tells inner.old)
-        (M.exact inner.old) request.now random.now (enc_given m)) }
-    ensures last { IfOk result (λ m. WasGiven (M.gave inner.new request.now now random.now)
-        (enc_given m)) }
 {
     let given = ask_to_seal(inner, alloc, request, now, random)?;
     Ok(given.into_sealing(Served::Direct))
 }
 
 /// What the inner manager gives, kept as a new entry of that name.
+#[tactic(auto, using(crate::proofs::Inner::seals_given, crate::proofs::Inner::seals_none))]
 fn seal_new<M: Manager>(
     cache: &mut Cache,
     inner: &mut M,
@@ -79,26 +65,15 @@ fn seal_new<M: Manager>(
     now: u64,
     random: &[u8],
 ) -> Result<EncMaterials, ManagerError>
-    requires random { length random.now ≡ 32 + 12 * (M.meaning inner.old).wraps }
+    requires random { length random.now ≡ 32 + 12 * (M.state inner.old).meaning.wraps }
     requires name { name ≡ enc_name request.now }
-    requires within { is_past (M.meaning inner.old).wraps cache.old ≡ false }
+    requires within { is_past (M.state inner.old).meaning.wraps cache.old ≡ false }
     requires kept { is_direct cache.old.limits (enc_wish request.now) cache.old.next ≡ false }
     requires missing { kept_for cache.old (enc_wish request.now) now ≡ None }
-    ensures goes { ManagerGoes (M.meaning inner.old) (M.meaning inner.new) }
-    ensures tells { TellsOn (M.tells inner.old) (M.tells inner.new) }
-    ensures same { (M.meaning inner.old).plain ≡ true
-        → TellsOn (M.tells inner.new) (M.tells inner.old) }
-    ensures exact { M.exact inner.old → M.exact inner.new }
-    ensures cause { IfErr result (GivesNone (M.meaning inner.old) (M.meaning inner.new)
-        (M.exact inner.old) request.now) }
-    ensures asked { Asked enc_handed (is_past (M.meaning inner.old).wraps cache.old) cache.old
+    ensures seals { SealsOver (M.state inner.old) (M.state inner.new)
+        request.now now random.now result }
+    ensures asked { Asked enc_handed (is_past (M.state inner.old).meaning.wraps cache.old) cache.old
         cache.new (enc_wish request.now) now result }
-    ensures fits { IfOk result (λ m. FitsSeal (M.meaning inner.old).wraps (enc_name request.now)
-        (enc_given m)) }
-    ensures got { IfOk result (λ m. NotHit m.served
-        (GaveToSeal (M.meaning inner.old) (M.tells inner.old)
-        (M.exact inner.old) request.now random.now (enc_given m))) }
-    ensures last { IfOk result (CachingGave (M.gave inner.new request.now now random.now)) }
 {
     let given = ask_to_seal(inner, alloc, request, now, random)?;
     let number = cache.keep(name, request.declared(), now, given.copy(alloc)?)?;
@@ -107,6 +82,7 @@ fn seal_new<M: Manager>(
 
 /// What an entry of the request's name gives, where it serves; else what the inner manager gives,
 /// kept as a new one.
+#[tactic(auto, using(crate::proofs::Inner::seals_none))]
 fn seal_through<M: Manager>(
     cache: &mut Cache,
     inner: &mut M,
@@ -115,30 +91,20 @@ fn seal_through<M: Manager>(
     now: u64,
     random: &[u8],
 ) -> Result<EncMaterials, ManagerError>
-    requires random { length random.now ≡ 32 + 12 * (M.meaning inner.old).wraps }
-    requires within { is_past (M.meaning inner.old).wraps cache.old ≡ false }
+    requires random { length random.now ≡ 32 + 12 * (M.state inner.old).meaning.wraps }
+    requires within { is_past (M.state inner.old).meaning.wraps cache.old ≡ false }
     requires kept { is_direct cache.old.limits (enc_wish request.now) cache.old.next ≡ false }
-    ensures goes { ManagerGoes (M.meaning inner.old) (M.meaning inner.new) }
-    ensures tells { TellsOn (M.tells inner.old) (M.tells inner.new) }
-    ensures same { (M.meaning inner.old).plain ≡ true
-        → TellsOn (M.tells inner.new) (M.tells inner.old) }
-    ensures exact { M.exact inner.old → M.exact inner.new }
-    ensures cause { IfErr result (GivesNone (M.meaning inner.old) (M.meaning inner.new)
-        (M.exact inner.old) request.now) }
-    ensures asked { Asked enc_handed (is_past (M.meaning inner.old).wraps cache.old) cache.old
+    ensures seals { SealsOver (M.state inner.old) (M.state inner.new)
+        request.now now random.now result }
+    ensures asked { Asked enc_handed (is_past (M.state inner.old).meaning.wraps cache.old) cache.old
         cache.new (enc_wish request.now) now result }
-    ensures fits { IfOk result (λ m. FitsSeal (M.meaning inner.old).wraps (enc_name request.now)
-        (enc_given m)) }
-    ensures got { IfOk result (λ m. NotHit m.served
-        (GaveToSeal (M.meaning inner.old) (M.tells inner.old)
-        (M.exact inner.old) request.now random.now (enc_given m))) }
-    ensures last { IfOk result (CachingGave (M.gave inner.new request.now now random.now)) }
-    ensures spares { WhereKept (is_past (M.meaning inner.old).wraps) (Some cache.old)
+    ensures spares { WhereKept (is_past (M.state inner.old).meaning.wraps) (Some cache.old)
         (enc_wish request.now) now (inner.new ≡ inner.old) }
-    ensures certain { WhereKept (is_past (M.meaning inner.old).wraps) (Some cache.old)
+    ensures certain { WhereKept (is_past (M.state inner.old).meaning.wraps) (Some cache.old)
         (enc_wish request.now) now (IfErr result (λ error. error ≡ Memory)) }
 {
-    unasked(inner);
+    // Where the inner manager isn't asked, it stays as it is: `wraps` says what that keeps.
+    let _wraps = inner.wraps();
     let name = Name::to_encrypt(alloc, request)?;
     if let Some((given, number)) = cache.serve(alloc, &name, request.declared(), now)? {
         return Ok(given.into_sealing(Served::Hit(number)));
@@ -155,29 +121,18 @@ fn seal_kept<M: Manager>(
     now: u64,
     random: &[u8],
 ) -> Result<EncMaterials, ManagerError>
-    requires { length random.now ≡ 32 + 12 * (M.meaning inner.old).wraps }
-    ensures goes { ManagerGoes (M.meaning inner.old) (M.meaning inner.new) }
-    ensures tells { TellsOn (M.tells inner.old) (M.tells inner.new) }
-    ensures same { (M.meaning inner.old).plain ≡ true
-        → TellsOn (M.tells inner.new) (M.tells inner.old) }
-    ensures exact { M.exact inner.old → M.exact inner.new }
-    ensures cause { IfErr result (GivesNone (M.meaning inner.old) (M.meaning inner.new)
-        (M.exact inner.old) request.now) }
-    ensures asked { Asked enc_handed (is_past (M.meaning inner.old).wraps cache.old) cache.old
+    requires { length random.now ≡ 32 + 12 * (M.state inner.old).meaning.wraps }
+    ensures seals { SealsOver (M.state inner.old) (M.state inner.new)
+        request.now now random.now result }
+    ensures asked { Asked enc_handed (is_past (M.state inner.old).meaning.wraps cache.old) cache.old
         cache.new (enc_wish request.now) now result }
-    ensures fits { IfOk result (λ m. FitsSeal (M.meaning inner.old).wraps (enc_name request.now)
-        (enc_given m)) }
-    ensures got { IfOk result (λ m. NotHit m.served
-        (GaveToSeal (M.meaning inner.old) (M.tells inner.old)
-        (M.exact inner.old) request.now random.now (enc_given m))) }
-    ensures last { IfOk result (CachingGave (M.gave inner.new request.now now random.now)) }
     ensures sound { Sound cache.old }
-    ensures spares { WhereKept (is_past (M.meaning inner.old).wraps) (Some cache.old)
+    ensures spares { WhereKept (is_past (M.state inner.old).meaning.wraps) (Some cache.old)
         (enc_wish request.now) now (inner.new ≡ inner.old) }
-    ensures certain { WhereKept (is_past (M.meaning inner.old).wraps) (Some cache.old)
+    ensures certain { WhereKept (is_past (M.state inner.old).meaning.wraps) (Some cache.old)
         (enc_wish request.now) now (IfErr result (λ error. error ≡ Memory)) }
 {
-    let wraps = unasked(inner);
+    let wraps = inner.wraps();
     if cache.is_past(wraps) {
         return seal_directly(inner, alloc, request, now, random);
     }
@@ -196,41 +151,23 @@ pub(crate) fn seal<M: Manager>(
     now: u64,
     random: &[u8],
 ) -> Result<EncMaterials, ManagerError>
-    requires { length random.now ≡ 32 + 12 * (M.meaning inner.old).wraps }
-    ensures goes { ManagerGoes (M.meaning inner.old) (M.meaning inner.new) }
-    ensures tells { TellsOn (M.tells inner.old) (M.tells inner.new) }
-    ensures same { (M.meaning inner.old).plain ≡ true
-        → TellsOn (M.tells inner.new) (M.tells inner.old) }
-    ensures exact { M.exact inner.old → M.exact inner.new }
-    ensures cause { IfErr result (GivesNone (M.meaning inner.old) (M.meaning inner.new)
-        (M.exact inner.old) request.now) }
-    ensures asked { AskedWith enc_handed (is_past (M.meaning inner.old).wraps) cache.old cache.new
-        (enc_wish request.now) now result }
-    ensures fits { IfOk result (λ m. FitsSeal (M.meaning inner.old).wraps (enc_name request.now)
-        (enc_given m)) }
-    ensures got { IfOk result (λ m. NotHit m.served
-        (GaveToSeal (M.meaning inner.old) (M.tells inner.old)
-        (M.exact inner.old) request.now random.now (enc_given m))) }
-    ensures last { IfOk result (CachingGave (M.gave inner.new request.now now random.now)) }
-    ensures plain { (M.meaning inner.old).plain ≡ true → (M.meaning inner.old).fresh ≡ true }
+    requires { length random.now ≡ 32 + 12 * (M.state inner.old).meaning.wraps }
+    ensures seals { SealsOver (M.state inner.old) (M.state inner.new)
+        request.now now random.now result }
+    ensures asked { AskedWith enc_handed (is_past (M.state inner.old).meaning.wraps) cache.old
+        cache.new (enc_wish request.now) now result }
+    ensures plain { (M.state inner.old).meaning.plain ≡ true
+        → (M.state inner.old).meaning.fresh ≡ true }
     ensures sound { IsSound cache.old }
-    ensures spares { WhereKept (is_past (M.meaning inner.old).wraps) cache.old
+    ensures spares { WhereKept (is_past (M.state inner.old).meaning.wraps) cache.old
         (enc_wish request.now) now (inner.new ≡ inner.old) }
-    ensures certain { WhereKept (is_past (M.meaning inner.old).wraps) cache.old
+    ensures certain { WhereKept (is_past (M.state inner.old).meaning.wraps) cache.old
         (enc_wish request.now) now (IfErr result (λ error. error ≡ Memory)) }
 {
-    unasked(inner);
+    // A plain manager is fresh: `wraps` says so.
+    let _wraps = inner.wraps();
     match cache {
         Some(cache) => seal_kept(cache, inner, alloc, request, now, random),
         None => seal_directly(inner, alloc, request, now, random),
     }
-}
-
-/// How many encrypted data keys a manager makes. One that isn't asked goes on as it is.
-pub(crate) fn unasked<M: Manager>(manager: &M) -> u32
-    ensures value { result ≡ (M.meaning manager.now).wraps }
-    ensures goes { ManagerGoes (M.meaning manager.now) (M.meaning manager.now) }
-    ensures plain { (M.meaning manager.now).plain ≡ true → (M.meaning manager.now).fresh ≡ true }
-{
-    manager.wraps()
 }

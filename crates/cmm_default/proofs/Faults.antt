@@ -12,7 +12,7 @@ use Rattle.keyring_trait.proofs.Least.{clash_values}
 use Rattle.keyring_trait.specs.declared.manager_errors.ManagerError.{ManagerError}
 use Rattle.keyring_trait.specs.declared.manager_errors.ManagerError.TheVariants as errors
 use Rattle.keyring_trait.specs.Laws.{HasTwoValues}
-use Rattle.keyring_trait.specs.Manager.{ManagerMeaning, FaultStands, FindsNone, offence_told}
+use Rattle.keyring_trait.specs.Manager.{ManagerNow, FaultStands, FindsNone, offence_told}
 use Rattle.keyring_trait.specs.Requests.{DecRequestValue}
 use Rattle.keyring_trait.specs.Unlocking.{reserved_key, reserved_stored, when, offences, pair_offence}
 use Rattle.keyring_trait.specs.Wrapping.{WrapKeyValue}
@@ -76,11 +76,11 @@ fault_stands tells request fault e =
     (by_found_stands tells request (holds request.stored reserved_key) (find (clashes request.given) request.stored) (ltb 65535 (length (ctx_text (whole_of request.stored request.given)))) fault refl refl refl (sym is ∙ e))
 
 -- Why the pairs aren't joined is why the default manager finds no materials.
-pub joins_not : (old new : ManagerMeaning) (tells : List WrapKeyValue → Type 0) (exact : Type 0) (request : DecRequestValue) (error : ManagerError)
-    → old.demands ≡ [] → JoinsNot request.stored request.given error → FindsNone old new tells exact request error
-joins_not old new tells exact request (errors.Fault fault) none cause =
-    let stands = fault_stands tells request fault cause in
+pub joins_not : (old new : ManagerNow) (request : DecRequestValue) (error : ManagerError)
+    → old.meaning.demands ≡ [] → JoinsNot request.stored request.given error → FindsNone old new request error
+joins_not old new request (errors.Fault fault) none cause =
+    let stands = fault_stands old.tells request fault cause in
     (stands.0, λ _. ap (pair_offence request.stored request.given) none ∙ stands.1)
-joins_not old new tells exact request (errors.Refusal refusal) none cause = cause
-joins_not old new tells exact request errors.KeyringFault none cause = absurd cause
-joins_not old new tells exact request errors.Memory none cause = tt
+joins_not old new request (errors.Refusal refusal) none cause = cause
+joins_not old new request errors.KeyringFault none cause = absurd cause
+joins_not old new request errors.Memory none cause = tt

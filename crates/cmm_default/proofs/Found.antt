@@ -1,6 +1,6 @@
 -- What the keyring finds under the whole context, as the default manager's answer.
 use Rattle.std.proofs.Common.{◌≡◌, ℕ, List, [], Option, Some, None, refl, sym, subst}
-use Rattle.std.specs.Prelude.{IfSome}
+use Rattle.std.specs.Prelude.{⊤, IfSome}
 use Rattle.esdk_fields.specs.Counts.{Stayed}
 use Rattle.esdk_fields.specs.declared.faults.Fault.{Fault}
 use Rattle.context_codec.specs.Context.{KeyValue}
@@ -13,7 +13,7 @@ use Rattle.keyring_trait.specs.Manager.{FaultStands, FindsNone, offence_told}
 use Rattle.keyring_trait.specs.Requests.{DecRequestValue}
 use Rattle.keyring_trait.specs.Unlocking.{pair_offence}
 use Rattle.keyring_trait.specs.Wrapping.{WrapKeyValue, unwrapped}
-use Rattle.cmm_default.specs.DefaultCmm.{default_meaning, default_tells}
+use Rattle.cmm_default.specs.DefaultCmm.{default_now, default_tells}
 use Rattle.cmm_default.specs.Steps.{OpensNot}
 
 -- what is found with the keys that are told
@@ -22,12 +22,12 @@ told : (old new : KeyringMeaning) (whole : List KeyValue) (entries : List Entry)
 told old new whole entries found keys opens tells = subst (λ o. IfSome o (λ ks. OpensWith ks entries whole (Stayed old.faults new.faults) found)) tells opens
 
 -- Why nothing opens is why the default manager finds no materials.
-pub opens_not : (old new : KeyringMeaning) (exact : Type 0) (request : DecRequestValue) (whole : List KeyValue) (error : ManagerError)
+pub opens_not : (old new : KeyringMeaning) (request : DecRequestValue) (whole : List KeyValue) (error : ManagerError)
     → whole ≡ whole_of request.stored request.given → pair_offence request.stored request.given [] ≡ None
-    → OpensNot old new whole request.entries error → FindsNone (default_meaning old) (default_meaning new) (default_tells old) exact request error
-opens_not old new exact request whole (errors.Fault fault) whole_is taken cause =
-    subst (λ (f : Fault). FaultStands (default_tells old) request f × (exact → pair_offence request.stored request.given [] ≡ offence_told f)) (sym cause.0)
+    → OpensNot old new whole request.entries error → FindsNone (default_now old) (default_now new) request error
+opens_not old new request whole (errors.Fault fault) whole_is taken cause =
+    subst (λ (f : Fault). FaultStands (default_tells old) request f × (⊤ → pair_offence request.stored request.given [] ≡ offence_told f)) (sym cause.0)
     (λ keys tells. subst (λ w. unwrapped keys request.entries w ≡ None) whole_is ((told old new whole request.entries None keys cause.1 tells).none refl), λ _. taken)
-opens_not old new exact request whole (errors.Refusal refusal) whole_is taken cause = cause
-opens_not old new exact request whole errors.KeyringFault whole_is taken cause = (cause, λ _. taken)
-opens_not old new exact request whole errors.Memory whole_is taken cause = tt
+opens_not old new request whole (errors.Refusal refusal) whole_is taken cause = cause
+opens_not old new request whole errors.KeyringFault whole_is taken cause = (cause, λ _. taken)
+opens_not old new request whole errors.Memory whole_is taken cause = tt

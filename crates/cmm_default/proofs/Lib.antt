@@ -3,3 +3,4 @@ pub mod Refusals
 pub mod Drawn
 pub mod Faults
 pub mod Found
+pub mod Going

@@ -36,9 +36,12 @@ JoinsNot stored given (errors.Refusal refusal) = ⊥
 JoinsNot stored given errors.KeyringFault = ⊥
 JoinsNot stored given errors.Memory = ⊤
 
--- Why there is no data key: M15, as nothing opens an entry; or a failure that was counted; or want of memory.
-abbrev pub OpensNot : KeyringMeaning → KeyringMeaning → List KeyValue → List Entry → ManagerError → Type 0
-OpensNot old new c entries (errors.Fault fault) = (fault ≡ NoKeyOpens) × Opens old new c entries None
+-- Why there is no data key: M15, as nothing opens an entry; or a failure that was counted; or want
+-- of memory.
+abbrev pub OpensNot : KeyringMeaning → KeyringMeaning → List KeyValue → List Entry → ManagerError
+    → Type 0
+OpensNot old new c entries (errors.Fault fault) =
+    (fault ≡ NoKeyOpens) × Opens old new c entries None
 OpensNot old new c entries (errors.Refusal refusal) = ⊥
 OpensNot old new c entries errors.KeyringFault = Rose old.faults new.faults
 OpensNot old new c entries errors.Memory = ⊤

@@ -15,16 +15,14 @@ use std::alloc::Global;
 /// The key that the format keeps for itself.
 const RESERVED_KEY: &str = "aws-crypto-public-key";
 
-/// Joins the pairs that a header stores and those that the caller gives.
+/// Joins the pairs that a header stores and those that the caller gives: what keyrings are asked
+/// over, and which of the pairs are only authenticated. It asks no keyring, and demands no keys.
 ///
-/// `Fault` with M11 exactly where the reserved key is stored; else with M12 or M14, as `join` says.
-/// `Memory` where memory runs out.
+/// `Fault` with M11 exactly where the reserved key is stored; else with M12 or M14, as `join` says:
+/// what is wrong with the pairs first. So where there is an answer, nothing is wrong with them.
+/// `Memory` where memory runs out; no other error.
 #[tactic(auto, using(crate::proofs::Faults::reserved_first, crate::proofs::Faults::join_next))]
-pub(crate) fn joined(
-    alloc: Global,
-    stored: &Context,
-    given: &Context,
-) -> Result<Joined, ManagerError>
+pub fn joined(alloc: Global, stored: &Context, given: &Context) -> Result<Joined, ManagerError>
     ensures whole { IfOk result (λ j. j.whole ≡ whole_of stored.now given.now) }
     ensures only { IfOk result (λ j. j.only ≡ only_given stored.now given.now) }
     ensures taken { OnOk result (pair_offence stored.now given.now [] ≡ None) }

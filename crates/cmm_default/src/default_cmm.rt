@@ -1,9 +1,7 @@
 //! The default materials manager. AWS Encryption SDK Specification, "Default CMM".
 
-ghost use Rattle.std.specs.Prelude.{◌≡◌, ◌≤◌, None, length, IfSome};
-ghost use Rattle.keyring_trait.specs.Wrapping.{active};
-ghost use Rattle.keyring_trait.specs.Keyring.{KeyringGoes};
-ghost use Rattle.cmm_default.specs.DefaultCmm.{default_meaning, default_tells, AllDirect};
+ghost use Rattle.std.specs.Prelude.{◌≡◌};
+ghost use Rattle.cmm_default.specs.DefaultCmm.{default_now};
 
 use crate::decrypting::{joined, opened};
 use crate::encrypting::{enc_materials, refusal, wrap_drawn};
@@ -44,20 +42,7 @@ impl<K> DefaultCmm<K> {
 }
 
 impl<K: Keyring> Manager for DefaultCmm<K> {
-    ghost meaning = { λ m. default_meaning (K.meaning m) };
-
-    ghost tells = { λ m. default_tells (K.meaning m) };
-
-    ghost exact = { λ _. Unit };
-
-    ghost bears = { λ _ lines. AllDirect lines };
-
-    ghost within = { λ _ lines. AllDirect lines };
-
-    /// It keeps nothing, so that each answer rests on its call alone.
-    ghost gave = { λ _ _ _ _ _. Unit };
-
-    ghost found = { λ _ _ _ _. Unit };
+    ghost state = { λ m. default_now (K.meaning m) };
 
     fn wraps(&self) -> u32 {
         self.ring.wraps()
@@ -73,7 +58,7 @@ impl<K: Keyring> Manager for DefaultCmm<K> {
     /// Q1 `ReservedPrefix` with the least key of the context that starts with `aws-crypto-`,
     /// exactly where there is one; else Q5 `NoGenerator` or Q6 `GeneratorHasKey`, exactly as the
     /// keyring refuses; `KeyringFault` where the keyring failed, `Memory` where memory runs out.
-    #[tactic(auto, using(crate::proofs::Refusals::refusal_stands, crate::proofs::Refusals::unrefused))]
+    #[tactic(auto, using(crate::proofs::Refusals::refusal_stands, crate::proofs::Refusals::unrefused, crate::proofs::Going::went_default, crate::proofs::Going::went_unasked))]
     fn for_encryption(
         &mut self,
         alloc: Global,
@@ -81,7 +66,8 @@ impl<K: Keyring> Manager for DefaultCmm<K> {
         _now: u64,
         random: &[u8],
     ) -> Result<EncMaterials, ManagerError> {
-        unasked(&self.ring);
+        // What is known of a keyring before it is asked, and where it isn't, `wraps` says.
+        let _wraps = self.ring.wraps();
         if let Some(refusal) = refusal(alloc, &self.ring, request.context())? {
             return Err(ManagerError::Refusal(refusal));
         }
@@ -95,28 +81,17 @@ impl<K: Keyring> Manager for DefaultCmm<K> {
     /// M11 `ReservedKey` exactly where `aws-crypto-public-key` is stored; else M12 or M14, exactly
     /// as `join` answers them; else M15 `NoKeyOpens` exactly where the keyring finds no data key;
     /// `KeyringFault` where the keyring failed, `Memory` where memory runs out.
-    #[tactic(auto, using(crate::proofs::Faults::joins_not, crate::proofs::Found::opens_not))]
+    #[tactic(auto, using(crate::proofs::Faults::joins_not, crate::proofs::Found::opens_not, crate::proofs::Going::went_default, crate::proofs::Going::went_unasked))]
     fn for_decryption(
         &mut self,
         alloc: Global,
         request: &DecRequest,
         _now: u64,
     ) -> Result<DecMaterials, ManagerError> {
-        unasked(&self.ring);
+        // What is known of a keyring before it is asked, and where it isn't, `wraps` says.
+        let _wraps = self.ring.wraps();
         let joined = joined(alloc, request.stored(), request.given())?;
         let key = opened(alloc, &mut self.ring, &joined.whole, request.entries())?;
         Ok(DecMaterials::new(joined.whole, joined.only, key, Served::Direct))
     }
-}
-
-/// What is known of a keyring before it is asked: it goes on as it is, and makes at most 64 wraps,
-/// and one at least where it generates data keys.
-fn unasked<K: Keyring>(ring: &K)
-    ensures goes { KeyringGoes (K.meaning ring.now) (K.meaning ring.now) }
-    ensures told { IfSome (K.meaning ring.now).keys
-        (λ keys. length (active keys) ≡ (K.meaning ring.now).wraps) }
-    ensures few { (K.meaning ring.now).wraps ≤ 64 }
-    ensures some { (K.meaning ring.now).refuses_none ≡ None → 1 ≤ (K.meaning ring.now).wraps }
-{
-    let _wraps = ring.wraps();
 }

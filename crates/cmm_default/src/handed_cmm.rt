@@ -34,19 +34,7 @@ impl<M> Handed<M> {
 }
 
 impl<M: Manager> Manager for Handed<M> {
-    ghost meaning = { M.meaning };
-
-    ghost tells = { M.tells };
-
-    ghost exact = { M.exact };
-
-    ghost bears = { M.bears };
-
-    ghost within = { M.within };
-
-    ghost gave = { M.gave };
-
-    ghost found = { M.found };
+    ghost state = { M.state };
 
     fn wraps(&self) -> u32 {
         self.manager.wraps()

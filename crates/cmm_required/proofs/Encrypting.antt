@@ -11,11 +11,10 @@ use Rattle.context_codec.specs.Parts.{holds}
 use Rattle.context_codec.proofs.KeySets.{has-with_keys, has-from_Contains, Contains-from_has}
 use Rattle.keyring_trait.specs.declared.manager_errors.ManagerError.{ManagerError}
 use Rattle.keyring_trait.specs.declared.manager_errors.ManagerError.TheVariants as errors
-use Rattle.keyring_trait.specs.Manager.{ManagerMeaning, GivesMaterials, GivesNone, RefusalStands, request_refusal}
+use Rattle.keyring_trait.specs.Manager.{ManagerMeaning, ManagerNow, GivesMaterials, GivesNone, RefusalStands, request_refusal}
 use Rattle.keyring_trait.specs.Materials.{EncMaterialsValue}
 use Rattle.keyring_trait.specs.Requests.{EncRequestValue, required_absent}
-use Rattle.keyring_trait.specs.Wrapping.{WrapKeyValue}
-use Rattle.cmm_required.specs.RequiredCmm.{required_meaning, requiring}
+use Rattle.cmm_required.specs.RequiredCmm.{required_meaning, required_now, requiring}
 use Rattle.cmm_required.proofs.Absent.{found_absent}
 
 -- ---- what is refused
@@ -47,10 +46,10 @@ inner_stands keys inner context (refusals.RequiredAbsent key) stands = stands
 inner_stands keys inner context refusal stands = stands
 
 -- Q4: one of the keys isn't in the context
-pub refuses_absent : (keys : List (List ℕ)) (inner : ManagerMeaning) (exact : Type 0) (context : List KeyValue) (refusal : Refusal) → required_absent context keys ≡ Some refusal
-    → RefusalStands (required_meaning keys inner) context refusal × (exact × (inner.demands ≡ []) → request_refusal (required_meaning keys inner) context ≡ Some refusal)
-refuses_absent keys inner exact context refusal absent =
-    (absent_stands keys (required_meaning keys inner) context refusal absent, λ x. refusal_absent keys inner context refusal absent x.1)
+pub refuses_absent : (keys : List (List ℕ)) (old new : ManagerNow) (request : EncRequestValue) (refusal : Refusal) → required_absent request.context keys ≡ Some refusal
+    → GivesNone (required_now keys old) (required_now keys new) request (errors.Refusal refusal)
+refuses_absent keys old new request refusal absent =
+    (absent_stands keys (required_meaning keys old.meaning) request.context refusal absent, λ x. refusal_absent keys old.meaning request.context refusal absent x.1)
 
 -- ---- what the inner manager answers
 
@@ -65,19 +64,19 @@ own_asked keys request required all =
     keys (All-contains_itself keys)
 
 -- all keys of its own are required
-pub requires_own : (keys : List (List ℕ)) (inner : ManagerMeaning) (tells : List WrapKeyValue → Type 0) (exact : Type 0) (request asked : EncRequestValue) (random : List ℕ) (result : Result EncMaterialsValue ManagerError)
-    → asked ≡ requiring keys request → IfOk result (GivesMaterials inner tells exact asked random) → IfOk result (λ made. All (λ key. has made.required key ≡ true) keys)
-requires_own keys inner tells exact request asked random (Err e) is h = tt
-requires_own keys inner tells exact request asked random (Ok made) is h =
-    let given : GivesMaterials inner tells exact (requiring keys request) random made = subst (λ (a : EncRequestValue). GivesMaterials inner tells exact a random made) is h in
+pub requires_own : (keys : List (List ℕ)) (n : ManagerNow) (request asked : EncRequestValue) (random : List ℕ) (result : Result EncMaterialsValue ManagerError)
+    → asked ≡ requiring keys request → IfOk result (GivesMaterials n asked random) → IfOk result (λ made. All (λ key. has made.required key ≡ true) keys)
+requires_own keys n request asked random (Err e) is h = tt
+requires_own keys n request asked random (Ok made) is h =
+    let given : GivesMaterials n (requiring keys request) random made = subst (λ (a : EncRequestValue). GivesMaterials n a random made) is h in
     own_asked keys request made.required given.required
 
-pub gives_required : (keys : List (List ℕ)) (inner : ManagerMeaning) (tells : List WrapKeyValue → Type 0) (exact : Type 0) (request asked : EncRequestValue) (random : List ℕ) (result : Result EncMaterialsValue ManagerError)
+pub gives_required : (keys : List (List ℕ)) (n : ManagerNow) (request asked : EncRequestValue) (random : List ℕ) (result : Result EncMaterialsValue ManagerError)
     → asked ≡ requiring keys request → required_absent request.context keys ≡ None
-    → IfOk result (GivesMaterials inner tells exact asked random) → IfOk result (GivesMaterials (required_meaning keys inner) tells (exact × (inner.demands ≡ [])) request random)
-gives_required keys inner tells exact request asked random (Err e) is present h = tt
-gives_required keys inner tells exact request asked random (Ok made) is present h =
-    let given : GivesMaterials inner tells exact (requiring keys request) random made = subst (λ (a : EncRequestValue). GivesMaterials inner tells exact a random made) is h in
+    → IfOk result (GivesMaterials n asked random) → IfOk result (GivesMaterials (required_now keys n) request random)
+gives_required keys n request asked random (Err e) is present h = tt
+gives_required keys n request asked random (Ok made) is present h =
+    let given : GivesMaterials n (requiring keys request) random made = subst (λ (a : EncRequestValue). GivesMaterials n a random made) is h in
     record {
       context = given.context;
       required = All-weaker (Contains request.required) (λ key. has made.required key ≡ true) (of_key given.required) request.required (All-contains_itself request.required);
@@ -86,7 +85,7 @@ gives_required keys inner tells exact request asked random (Ok made) is present 
       fresh = given.fresh;
       plain = given.plain;
       demanded = λ x. given.demanded x.0 ∙ rw x.1 refl;
-      unrefused = λ x. refusal_present keys inner request.context present x.1 ∙ given.unrefused x.0;
+      unrefused = λ x. refusal_present keys n.meaning request.context present x.1 ∙ given.unrefused x.0;
     }
   where
     of_key : All (λ j. has made.required j ≡ true) (with_keys request.required keys) → (key : List ℕ) → Contains request.required key → has made.required key ≡ true
@@ -95,16 +94,16 @@ gives_required keys inner tells exact request asked random (Ok made) is present 
         (Contains-from_has (with_keys request.required keys) key
         (has-with_keys request.required keys key ∙ or_left (has request.required key) (has keys key) (has-from_Contains request.required key listed)))
 
-pub gives_none_required : (keys : List (List ℕ)) (old new : ManagerMeaning) (exact : Type 0) (request asked : EncRequestValue) (result : Result EncMaterialsValue ManagerError)
+pub gives_none_required : (keys : List (List ℕ)) (old new : ManagerNow) (request asked : EncRequestValue) (result : Result EncMaterialsValue ManagerError)
     → asked ≡ requiring keys request → required_absent request.context keys ≡ None
-    → IfErr result (GivesNone old new exact asked) → IfErr result (GivesNone (required_meaning keys old) (required_meaning keys new) (exact × (old.demands ≡ [])) request)
-gives_none_required keys old new exact request asked (Ok made) is present h = tt
-gives_none_required keys old new exact request asked (Err e) is present h =
-    by_error e (subst (λ (a : EncRequestValue). GivesNone old new exact a e) is h)
+    → IfErr result (GivesNone old new asked) → IfErr result (GivesNone (required_now keys old) (required_now keys new) request)
+gives_none_required keys old new request asked (Ok made) is present h = tt
+gives_none_required keys old new request asked (Err e) is present h =
+    by_error e (subst (λ (a : EncRequestValue). GivesNone old new a e) is h)
   where
-    by_error : (e : ManagerError) → GivesNone old new exact (requiring keys request) e → GivesNone (required_meaning keys old) (required_meaning keys new) (exact × (old.demands ≡ [])) request e
+    by_error : (e : ManagerError) → GivesNone old new (requiring keys request) e → GivesNone (required_now keys old) (required_now keys new) request e
     by_error (errors.Refusal refusal) none =
-        (inner_stands keys old request.context refusal none.0, λ x. refusal_present keys old request.context present x.1 ∙ none.1 x.0)
-    by_error errors.KeyringFault none = (none.0, λ x. refusal_present keys old request.context present x.1 ∙ none.1 x.0)
+        (inner_stands keys old.meaning request.context refusal none.0, λ x. refusal_present keys old.meaning request.context present x.1 ∙ none.1 x.0)
+    by_error errors.KeyringFault none = (none.0, λ x. refusal_present keys old.meaning request.context present x.1 ∙ none.1 x.0)
     by_error (errors.Fault fault) none = none
     by_error errors.Memory none = none

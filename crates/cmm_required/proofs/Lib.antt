@@ -1,3 +1,4 @@
 pub mod Absent
 pub mod Encrypting
 pub mod Decrypting
+pub mod Going

@@ -1,20 +1,18 @@
 //! Another manager's materials, with keys required of every context. AWS Encryption SDK
 //! Specification, "Required Encryption Context CMM".
 
-ghost use Rattle.std.specs.Prelude.{◌≡◌, ◌+◌, ◌*◌, true, None, List, not, find, length, option_map, All, IfSome, IfOk, IfErr};
+ghost use Rattle.std.specs.Prelude.{◌≡◌, ◌+◌, ◌*◌, true, None, length, All, IfSome, IfOk, IfErr};
 ghost use Rattle.context_codec.specs.KeySet.{has};
-ghost use Rattle.context_codec.specs.Parts.{holds};
-ghost use Rattle.keyring_trait.specs.declared.journal.JournalLine.{JournalLine};
 ghost use Rattle.keyring_trait.specs.declared.journal.Kind.TheVariants.{Seal, Unseal};
 ghost use Rattle.keyring_trait.specs.declared.manager_errors.ManagerError.TheVariants as errors;
 ghost use Rattle.keyring_trait.specs.Laws.{AreGiven};
-ghost use Rattle.keyring_trait.specs.Manager.{ManagerGoes, GivesMaterials, GivesNone, FindsMaterials, FindsNone, TellsOn, BearsOn, enc_served, dec_served};
+ghost use Rattle.keyring_trait.specs.Manager.{Went, GivesMaterials, GivesNone, FindsMaterials, FindsNone, BearsOn, enc_served, dec_served};
 ghost use Rattle.keyring_trait.specs.Requests.{required_absent};
 ghost use Rattle.keyring_trait.specs.Unlocking.{missing_required};
-ghost use Rattle.cmm_required.specs.RequiredCmm.{required_meaning, requiring, RequiredExact, FailsWith};
+ghost use Rattle.cmm_required.specs.RequiredCmm.{required_now, requiring, FailsWith};
 
-use context_codec::{Context, KeySet, PairError};
-use esdk_fields::{Fault, Text};
+use context_codec::{KeySet, PairError};
+use esdk_fields::Fault;
 use keyring_trait::{
     DecMaterials, DecRequest, EncMaterials, EncRequest, Manager, ManagerError, RingRefusal,
 };
@@ -61,20 +59,7 @@ impl<M> RequiredCmm<M> {
 /// inner manager answers. So it is over every inner manager: of materials to encrypt all its keys
 /// are required, and none of them is missing where there are materials to decrypt.
 impl<M: Manager> Manager for RequiredCmm<M> {
-    ghost meaning = { λ m. required_meaning m.1 (M.meaning m.0) };
-
-    ghost tells = { λ m keys. M.tells m.0 keys };
-
-    ghost exact = { λ m. RequiredExact (M.exact m.0) (M.meaning m.0) };
-
-    ghost bears = { λ m lines. M.bears m.0 lines };
-
-    ghost within = { λ m lines. M.within m.0 lines };
-
-    /// The inner manager gave them to the request with the keys added.
-    ghost gave = { λ m request. M.gave m.0 (requiring m.1 request) };
-
-    ghost found = { λ m. M.found m.0 };
+    ghost state = { λ m. required_now m.1 (M.state m.0) };
 
     fn wraps(&self) -> u32 {
         let _keys = self.keys.keys();
@@ -92,26 +77,17 @@ impl<M: Manager> Manager for RequiredCmm<M> {
         now: u64,
         random: &[u8],
     ) -> Result<EncMaterials, ManagerError>
-        requires { length random.now ≡ 32 + 12 * (M.meaning self.old.0).wraps }
-        ensures goes { ManagerGoes (required_meaning self.old.1 (M.meaning self.old.0))
-            (required_meaning self.new.1 (M.meaning self.new.0)) }
-        ensures tells { TellsOn (M.tells self.old.0) (M.tells self.new.0) }
-        ensures same { (required_meaning self.old.1 (M.meaning self.old.0)).plain ≡ true
-            → TellsOn (M.tells self.new.0) (M.tells self.old.0) }
-        ensures exact { RequiredExact (M.exact self.old.0) (M.meaning self.old.0)
-            → RequiredExact (M.exact self.new.0) (M.meaning self.new.0) }
-        ensures gives { IfOk result (GivesMaterials
-            (required_meaning self.old.1 (M.meaning self.old.0)) (M.tells self.old.0)
-            (RequiredExact (M.exact self.old.0) (M.meaning self.old.0)) request.now random.now) }
-        ensures cause { IfErr result (GivesNone
-            (required_meaning self.old.1 (M.meaning self.old.0))
-            (required_meaning self.new.1 (M.meaning self.new.0))
-            (RequiredExact (M.exact self.old.0) (M.meaning self.old.0)) request.now) }
-        ensures bears { BearsOn (M.bears self.old.0)
-            (M.bears self.new.0) Seal now request.now.declared enc_served result }
-        ensures within { (lines : List JournalLine) → M.within self.new.0 lines
-            → M.within self.old.0 lines }
-        ensures gave { IfOk result (M.gave self.new.0
+        requires { length random.now ≡ 32 + 12 * (M.state self.old.0).meaning.wraps }
+        ensures went { Went (required_now self.old.1 (M.state self.old.0))
+            (required_now self.new.1 (M.state self.new.0)) }
+        ensures gives { IfOk result (GivesMaterials (required_now self.old.1 (M.state self.old.0))
+            request.now random.now) }
+        ensures cause { IfErr result (GivesNone (required_now self.old.1 (M.state self.old.0))
+            (required_now self.new.1 (M.state self.new.0)) request.now) }
+        ensures bears { BearsOn (required_now self.old.1 (M.state self.old.0))
+            (required_now self.new.1 (M.state self.new.0)) Seal now request.now.declared
+            enc_served result }
+        ensures gave { IfOk result ((M.state self.new.0).gave
             (requiring self.new.1 request.now) now random.now) }
 
         // Its own keys, over any inner manager.
@@ -123,7 +99,8 @@ impl<M: Manager> Manager for RequiredCmm<M> {
         ensures unasked { IfSome (required_absent request.now.context self.old.1)
             (λ _. self.new.0 ≡ self.old.0) }
     {
-        unasked(&self.inner);
+        // Where the inner manager isn't asked, it stays as it is: `wraps` says what that keeps.
+        let _wraps = self.inner.wraps();
         match request.requiring(alloc, &self.keys) {
             Ok(request) => self.inner.for_encryption(alloc, &request, now, random),
             Err(PairError::Refusal(refusal)) => Err(ManagerError::Refusal(refusal)),
@@ -137,28 +114,15 @@ impl<M: Manager> Manager for RequiredCmm<M> {
         request: &DecRequest,
         now: u64,
     ) -> Result<DecMaterials, ManagerError>
-        ensures goes { ManagerGoes (required_meaning self.old.1 (M.meaning self.old.0))
-            (required_meaning self.new.1 (M.meaning self.new.0)) }
-        ensures tells { TellsOn (M.tells self.old.0) (M.tells self.new.0) }
-        ensures same { (required_meaning self.old.1 (M.meaning self.old.0)).plain ≡ true
-            → TellsOn (M.tells self.new.0) (M.tells self.old.0) }
-        ensures exact { RequiredExact (M.exact self.old.0) (M.meaning self.old.0)
-            → RequiredExact (M.exact self.new.0) (M.meaning self.new.0) }
-        ensures finds { IfOk result (FindsMaterials
-            (required_meaning self.old.1 (M.meaning self.old.0))
-            (required_meaning self.new.1 (M.meaning self.new.0))
-            (M.tells self.old.0) (RequiredExact (M.exact self.old.0) (M.meaning self.old.0))
-            request.now) }
-        ensures cause { IfErr result (FindsNone
-            (required_meaning self.old.1 (M.meaning self.old.0))
-            (required_meaning self.new.1 (M.meaning self.new.0))
-            (M.tells self.old.0) (RequiredExact (M.exact self.old.0) (M.meaning self.old.0))
-            request.now) }
-        ensures bears { BearsOn (M.bears self.old.0)
-            (M.bears self.new.0) Unseal now None dec_served result }
-        ensures within { (lines : List JournalLine) → M.within self.new.0 lines
-            → M.within self.old.0 lines }
-        ensures found { IfOk result (M.found self.new.0 request.now now) }
+        ensures went { Went (required_now self.old.1 (M.state self.old.0))
+            (required_now self.new.1 (M.state self.new.0)) }
+        ensures finds { IfOk result (FindsMaterials (required_now self.old.1 (M.state self.old.0))
+            (required_now self.new.1 (M.state self.new.0)) request.now) }
+        ensures cause { IfErr result (FindsNone (required_now self.old.1 (M.state self.old.0))
+            (required_now self.new.1 (M.state self.new.0)) request.now) }
+        ensures bears { BearsOn (required_now self.old.1 (M.state self.old.0))
+            (required_now self.new.1 (M.state self.new.0)) Unseal now None dec_served result }
+        ensures found { IfOk result ((M.state self.new.0).found request.now now) }
 
         // Its own keys, over any inner manager.
         ensures keys { self.new.1 ≡ self.old.1 }
@@ -168,30 +132,11 @@ impl<M: Manager> Manager for RequiredCmm<M> {
         ensures unasked { IfSome (missing_required request.now.given self.old.1)
             (λ _. self.new.0 ≡ self.old.0) }
     {
-        unasked(&self.inner);
-        if let Some(missing) = first_missing(request.given(), self.keys.keys()) {
+        // Where the inner manager isn't asked, it stays as it is: `wraps` says what that keeps.
+        let _wraps = self.inner.wraps();
+        if let Some(missing) = request.given().first_missing(self.keys.keys()) {
             return Err(ManagerError::Fault(Fault::MissingRequired(missing.copy()?)));
         }
         self.inner.for_decryption(alloc, request, now)
     }
-}
-
-/// A manager that isn't asked goes on as it is.
-fn unasked<M: Manager>(manager: &M)
-    ensures { ManagerGoes (M.meaning manager.now) (M.meaning manager.now) }
-{
-    let _wraps = manager.wraps();
-}
-
-/// The first of the keys that isn't given.
-fn first_missing<'a>(given: &Context, keys: &'a [Text]) -> Option<&'a Text>
-    ensures { option_map (λ key. key.now) result ≡ find
-        (λ key. not (holds given.now key)) keys.now }
-{
-    for key in keys {
-        if !given.contains_key(key.as_str()) {
-            return Some(key);
-        }
-    }
-    None
 }

@@ -10,7 +10,8 @@ use Rattle.raw_aes_keyring.specs.declared.raw_aes.RawError.TheVariants.{Reserved
 use Rattle.raw_aes_keyring.specs.RawKey.{reserved_namespace}
 use Rattle.keydir_keyring.specs.Reading.{told_key}
 
--- The shelf, the file's name on it, the namespace and the name of the wrapping key, and how often the keyring failed.
+-- The shelf, the file's name on it, the namespace and the name of the wrapping key, and how often
+-- the keyring failed.
 pub record KeydirValue (S : Type 0) : Type 0 where
   pub shelf : S
   pub file : List ℕ
@@ -18,7 +19,8 @@ pub record KeydirValue (S : Type 0) : Type 0 where
   pub name : List ℕ
   pub faults : ℕ
 
--- A keyring that was made so; or the namespace is the reserved one, and only then is it refused. Memory may run out only where it is not.
+-- A keyring that was made so; or the namespace is the reserved one, and only then is it refused.
+-- Memory may run out only where it is not.
 abbrev pub MakesKeydir : {S : Type 0} → KeydirValue S → Result (KeydirValue S) RawError → Type 0
 MakesKeydir k (Ok made) = (made ≡ k) × (k.namespace ≢ reserved_namespace)
 MakesKeydir k (Err ReservedNamespace) = k.namespace ≡ reserved_namespace
@@ -28,7 +30,8 @@ MakesKeydir k (Err Memory) = k.namespace ≢ reserved_namespace
 abbrev pub wrap_key : {S : Type 0} → KeydirValue S → List ℕ → WrapKeyValue
 wrap_key k bytes = record { namespace = k.namespace; name = k.name; key = bytes; retired = false }
 
--- It tells its one wrapping key where its shelf tells a file of 32 bytes; it makes one entry, refuses nothing, and counts its own failures.
+-- It tells its one wrapping key where its shelf tells a file of 32 bytes; it makes one entry,
+-- refuses nothing, and counts its own failures.
 abbrev pub keydir_meaning : {S : Type 0} → (S → ShelfState) → KeydirValue S → KeyringMeaning
 keydir_meaning state k = record {
   keys = option_map (λ bytes. wrap_key k bytes ∷ []) (told_key (state k.shelf).files k.file);

@@ -4,7 +4,7 @@
 ghost use Rattle.std.specs.Prelude.{◌≡◌, ◌∷◌, [], false, None, length, is_some, IfOk, IfErr, IfSome, OnOk};
 ghost use Rattle.std.specs.Option.{option_copied};
 ghost use Rattle.keyring_trait.specs.Keyring.{KeyringGoes, Opens, UnwrapCause, WrapCause, Wraps, refusal_with, wanted};
-ghost use Rattle.keydir_keyring.specs.Answers.{Answers, Keeps};
+ghost use Rattle.keydir_keyring.specs.Answers.{KeydirAnswers, Keeps};
 ghost use Rattle.keydir_keyring.specs.Keydir.{keydir_meaning};
 
 use crate::keydir::KeydirKeyring;
@@ -52,7 +52,7 @@ impl<S: Shelf + Drop> Keyring for KeydirKeyring<S> {
         ensures cause { IfErr result (WrapCause (refusal_with (is_some key.entry)
             (keydir_meaning S.state self.old)) self.old.faults self.new.faults) }
         ensures keeps { Keeps S.state self.old self.new }
-        ensures answers { Answers S.state self.old self.new result }
+        ensures answers { KeydirAnswers S.state self.old self.new result }
     {
         let mut keyring = self.read(alloc)?;
         keyring.on_encrypt(alloc, context, random, key)
@@ -70,7 +70,7 @@ impl<S: Shelf + Drop> Keyring for KeydirKeyring<S> {
             (keydir_meaning S.state self.new) context.now entries.now) }
         ensures cause { IfErr result (UnwrapCause self.old.faults self.new.faults) }
         ensures keeps { Keeps S.state self.old self.new }
-        ensures answers { Answers S.state self.old self.new result }
+        ensures answers { KeydirAnswers S.state self.old self.new result }
     {
         let mut keyring = self.read(alloc)?;
         keyring.on_decrypt(alloc, context, entries)
@@ -84,7 +84,7 @@ impl<S: Shelf> KeydirKeyring<S> {
             (λ keys. keys ≡ keyring ∷ [])) }
         ensures active { IfOk result (λ keyring. keyring.retired ≡ false) }
         ensures keeps { Keeps S.state self.old self.new }
-        ensures answers { Answers S.state self.old self.new result }
+        ensures answers { KeydirAnswers S.state self.old self.new result }
     {
         let Some(key) = read_key(&mut self.shelf, self.file.as_str()) else {
             self.faults = self.faults.saturating_add(1);

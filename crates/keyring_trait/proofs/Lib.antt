@@ -6,3 +6,4 @@ pub mod Made
 pub mod Least
 pub mod Holding
 pub mod Back
+pub mod Going

@@ -9,8 +9,9 @@ use Rattle.keyring_trait.specs.declared.ring_refusals.RingError.{RingError}
 use Rattle.keyring_trait.specs.declared.ring_refusals.RingError.TheVariants.{Refused, KeyringFault, Memory}
 use Rattle.keyring_trait.specs.Wrapping.{WrapKeyValue, unwrapped, made, ivs_of, IsOpened}
 
--- The wrapping keys, retired or not, where the keyring tells them; how many entries it makes of a data key; what it refuses with a data key handed to it, and without one;
--- how often it failed; and whether it is steady, so that it never fails.
+-- The wrapping keys, retired or not, where the keyring tells them; how many entries it makes of a
+-- data key; what it refuses with a data key handed to it, and without one; how often it failed; and
+-- whether it is steady, so that it never fails.
 pub record KeyringMeaning : Type 0 where
   pub keys : Option (List WrapKeyValue)
   pub wraps : ℕ
@@ -36,7 +37,8 @@ abbrev pub refusal_with : Bool → KeyringMeaning → Option RingRefusal
 refusal_with true m = m.refuses_key
 refusal_with false m = m.refuses_none
 
--- how many random bytes are wanted: an IV of 12 for each entry, and before them the 32 of a data key where none is handed over
+-- how many random bytes are wanted: an IV of 12 for each entry, and before them the 32 of a data
+-- key where none is handed over
 abbrev pub wanted : Bool → ℕ → ℕ
 wanted true wraps = 12 * wraps
 wanted false wraps = 32 + 12 * wraps
@@ -56,14 +58,17 @@ pub record WrappedValue : Type 0 where
   pub key : List ℕ
   pub entries : List Entry
 
--- The data key is the one handed over or drawn, and there is one entry for each wrap. Where the keys are told, these are
--- the wraps of it under those that aren't retired, in order.
-pub record Wraps (m : KeyringMeaning) (c : List KeyValue) (random : List ℕ) (handed : Option (List ℕ)) (wrapped : WrappedValue) : Type 0 where
+-- The data key is the one handed over or drawn, and there is one entry for each wrap. Where the
+-- keys are told, these are the wraps of it under those that aren't retired, in order.
+pub record Wraps (m : KeyringMeaning) (c : List KeyValue) (random : List ℕ)
+    (handed : Option (List ℕ)) (wrapped : WrappedValue) : Type 0 where
   pub key : wrapped.key ≡ key_in handed random
   pub count : length wrapped.entries ≡ m.wraps
-  pub told : IfSome m.keys (λ keys. wrapped.entries ≡ made keys c wrapped.key (ivs_of m.wraps (ivs_in handed random)))
+  pub told : IfSome m.keys (λ keys. wrapped.entries
+      ≡ made keys c wrapped.key (ivs_of m.wraps (ivs_in handed random)))
 
--- Why nothing is wrapped: the refusal that stands, or a failure that was counted, or want of memory; the latter two only where no refusal stands.
+-- Why nothing is wrapped: the refusal that stands, or a failure that was counted, or want of
+-- memory; the latter two only where no refusal stands.
 abbrev pub WrapCause : Option RingRefusal → ℕ → ℕ → RingError → Type 0
 WrapCause refusal old new (Refused r) = refusal ≡ Some r
 WrapCause refusal old new KeyringFault = (refusal ≡ None) × Rose old new
@@ -71,16 +76,20 @@ WrapCause refusal old new Memory = refusal ≡ None
 
 -- ---- unwrapping
 
--- What is found with these keys, retired or not. A data key is one that some key of these opens; nothing is found only where none opens an entry; and where nothing failed it is
--- the one of the first key, and for it of the first entry.
-pub record OpensWith (keys : List WrapKeyValue) (entries : List Entry) (c : List KeyValue) (stayed : Type 0) (found : Option (List ℕ)) : Type 0 where
+-- What is found with these keys, retired or not. A data key is one that some key of these opens;
+-- nothing is found only where none opens an entry; and where nothing failed it is the one of the
+-- first key, and for it of the first entry.
+pub record OpensWith (keys : List WrapKeyValue) (entries : List Entry) (c : List KeyValue)
+    (stayed : Type 0) (found : Option (List ℕ)) : Type 0 where
   pub opened : IfSome found (λ key. IsOpened keys entries c key)
   pub none : found ≡ None → unwrapped keys entries c ≡ None
   pub first : stayed → found ≡ unwrapped keys entries c
 
 -- the same, where the keys are told
-abbrev pub Opens : KeyringMeaning → KeyringMeaning → List KeyValue → List Entry → Option (List ℕ) → Type 0
-Opens old new c entries found = IfSome old.keys (λ keys. OpensWith keys entries c (Stayed old.faults new.faults) found)
+abbrev pub Opens : KeyringMeaning → KeyringMeaning → List KeyValue → List Entry → Option (List ℕ)
+    → Type 0
+Opens old new c entries found =
+    IfSome old.keys (λ keys. OpensWith keys entries c (Stayed old.faults new.faults) found)
 
 -- Why it isn't known what opens: a failure that was counted, or want of memory.
 abbrev pub UnwrapCause : ℕ → ℕ → RingError → Type 0

@@ -5,3 +5,4 @@ pub mod Keyring
 pub mod Requests
 pub mod Materials
 pub mod Manager
+pub mod Saying

@@ -1,5 +1,6 @@
 -- What a cryptographic materials manager is to its callers, and what its calls answer.
--- AWS Encryption SDK Specification, "CMM Interface", Get Encryption Materials and Decrypt Materials.
+-- AWS Encryption SDK Specification, "CMM Interface", Get Encryption Materials and Decrypt
+-- Materials.
 use Rattle.std.specs.Prelude.{◌≡◌, ℕ, ◌≤◌, ◌<◌, Bool, true, false, List, [], ◌∷◌, ◌++◌, length, take, drop, All, ⊤, Option, Some, None, option_map, find, nat_eq, codes, Result, MatchResult}
 use Rattle.std.specs.List.{starts_with}
 use Rattle.esdk_fields.specs.Counts.{Rose, Stayed}
@@ -24,8 +25,10 @@ use Rattle.keyring_trait.specs.Requests.{EncRequestValue, DecRequestValue, requi
 use Rattle.keyring_trait.specs.Unlocking.{reserved_key, pair_offence}
 use Rattle.keyring_trait.specs.Wrapping.{WrapKeyValue, first_some, unwrapped, made, ivs_of, IsOpened, AreIvs}
 
--- How many entries it makes of a data key; what its keyrings refuse where no data key is there yet; how often it failed; whether it is steady, so that it never
--- fails; whether it is fresh, so that each data key that isn't served from a cache is drawn for the request; whether it is plain, so that it is fresh and has no
+-- How many entries it makes of a data key; what its keyrings refuse where no data key is there yet;
+-- how often it failed; whether it is steady, so that it never
+-- fails; whether it is fresh, so that each data key that isn't served from a cache is drawn for the
+-- request; whether it is plain, so that it is fresh and has no
 -- cache; and the keys that it requires by itself of every context.
 pub record ManagerMeaning : Type 0 where
   pub wraps : ℕ
@@ -47,6 +50,44 @@ pub record ManagerGoes (old new : ManagerMeaning) : Type 0 where
   pub later : old.faults ≤ new.faults
   pub still : old.steady ≡ true → Stayed old.faults new.faults
 
+-- ---- a manager at a moment
+
+-- keys that were told are told still
+abbrev pub TellsOn : (List WrapKeyValue → Type 0) → (List WrapKeyValue → Type 0) → Type 0
+TellsOn old new = (keys : List WrapKeyValue) → old keys → new keys
+
+-- What a manager is at a moment: what it means to its callers; which keys it tells as its wrapping
+-- keys, retired or not, in order; that it is exact, so that it refuses exactly where the
+-- definitions
+-- say so, in their order, and requires its own demands and no more; which lines of what it served
+-- it
+-- bears, so that it can go on from them; and which lines are within the limits of its cache, or,
+-- without a cache, say what is true of all that it serves. Then the last materials that it gave: to
+-- this request to encrypt, at this moment, with these random bytes; and those that it found for
+-- this
+-- request to decrypt, at this moment. A manager whose answers rest on nothing but the call may take
+-- the relation that always holds for these two; one that asks another manager says what that one
+-- gave.
+pub record ManagerNow : Type 1 where
+  pub meaning : ManagerMeaning
+  pub tells : List WrapKeyValue → Type 0
+  pub exact : Type 0
+  pub bears : List JournalLine → Type 0
+  pub within : List JournalLine → Type 0
+  pub gave : EncRequestValue → ℕ → List ℕ → EncMaterialsValue → Type 0
+  pub found : DecRequestValue → ℕ → DecMaterialsValue → Type 0
+
+-- What a manager keeps from one moment to a later one: all that it means but the count of faults,
+-- the
+-- keys that it tells, of which a plain manager tells no others later, that it is exact, and the
+-- limits, which no call widens.
+pub record Went (old new : ManagerNow) : Type 0 where
+  pub goes : ManagerGoes old.meaning new.meaning
+  pub tells : TellsOn old.tells new.tells
+  pub same : old.meaning.plain ≡ true → TellsOn new.tells old.tells
+  pub exact : old.exact → new.exact
+  pub limits : (lines : List JournalLine) → new.within lines → old.within lines
+
 -- ---- how materials were served
 
 -- not from a cache
@@ -67,69 +108,93 @@ has_reserved_prefix key = starts_with nat_eq key (codes "aws-crypto-")
 
 -- Q1: the first key of the context that has the reserved prefix
 abbrev pub reserved_used : List KeyValue → Option Refusal
-reserved_used context = option_map (λ p. refusals.ReservedPrefix p.0) (find (λ p. has_reserved_prefix p.0) context)
+reserved_used context = option_map (λ p. refusals.ReservedPrefix p.0)
+    (find (λ p. has_reserved_prefix p.0) context)
 
 -- Q5 and Q6: what the keyrings refuse
 abbrev pub refusal_named : RingRefusal → Refusal
 refusal_named rings.NoGenerator = refusals.NoGenerator
 refusal_named rings.GeneratorHasKey = refusals.GeneratorHasKey
 
--- What a request is refused for, in this order. The keys that are demanded and those of the context ascend, so that the first such key is the least.
+-- What a request is refused for, in this order. The keys that are demanded and those of the context
+-- ascend, so that the first such key is the least.
 unfoldable pub request_refusal : ManagerMeaning → List KeyValue → Option Refusal
-request_refusal m context = first_some (λ o. o) (required_absent context m.demands ∷ reserved_used context ∷ option_map refusal_named m.refuses ∷ [])
+request_refusal m context = first_some (λ o. o)
+    (required_absent context m.demands ∷ reserved_used context ∷ option_map refusal_named m.refuses
+    ∷ [])
 
--- The entries are wraps of the data key over the whole context, one under each of these keys that isn't retired, in order. The IV of each stands in its information.
+-- The entries are wraps of the data key over the whole context, one under each of these keys that
+-- isn't retired, in order. The IV of each stands in its information.
 pub record AreWraps (keys : List WrapKeyValue) (materials : EncMaterialsValue) : Type 0 where
   pub ivs : List (List ℕ)
   pub are_ivs : AreIvs keys ivs
   pub entries : materials.entries ≡ made keys materials.context materials.key ivs
 
--- The data key is the first 32 of these random bytes. Where the keys are told, the entries are the wraps of it under those
+-- The data key is the first 32 of these random bytes. Where the keys are told, the entries are the
+-- wraps of it under those
 -- that aren't retired, with the bytes behind it as IVs.
-pub record AreDrawn (wraps : ℕ) (tells : List WrapKeyValue → Type 0) (random : List ℕ) (materials : EncMaterialsValue) : Type 0 where
+pub record AreDrawn (wraps : ℕ) (tells : List WrapKeyValue → Type 0) (random : List ℕ)
+    (materials : EncMaterialsValue) : Type 0 where
   pub key : materials.key ≡ take 32 random
-  pub entries : (keys : List WrapKeyValue) → tells keys → materials.entries ≡ made keys materials.context materials.key (ivs_of wraps (drop 32 random))
+  pub entries : (keys : List WrapKeyValue) → tells keys
+      → materials.entries ≡ made keys materials.context materials.key (ivs_of wraps (drop 32 random))
 
--- What a manager answers to a request with these random bytes: the context is the request's, and the keys that a reader has to give are the request's and maybe more;
--- an exact manager adds those that it demands, and no others, and answers only where nothing is refused.
-pub record GivesMaterials (m : ManagerMeaning) (tells : List WrapKeyValue → Type 0) (exact : Type 0) (request : EncRequestValue) (random : List ℕ) (materials : EncMaterialsValue) : Type 0 where
+-- What a manager answers to a request with these random bytes: the context is the request's, and
+-- the
+-- keys that a reader has to give are the request's and maybe more; an exact manager adds those that
+-- it
+-- demands, and no others, and answers only where nothing is refused.
+pub record GivesMaterials (n : ManagerNow) (request : EncRequestValue) (random : List ℕ)
+    (materials : EncMaterialsValue) : Type 0 where
   pub context : materials.context ≡ request.context
   pub required : All (λ key. has materials.required key ≡ true) request.required
-  pub count : length materials.entries ≡ m.wraps
-  pub wrapped : (keys : List WrapKeyValue) → tells keys → AreWraps keys materials
-  pub fresh : m.fresh ≡ true → IsNew materials.served → AreDrawn m.wraps tells random materials
-  pub plain : ServesPlainly m materials.served
-  pub demanded : exact → materials.required ≡ with_keys request.required m.demands
-  pub unrefused : exact → request_refusal m request.context ≡ None
+  pub count : length materials.entries ≡ n.meaning.wraps
+  pub wrapped : (keys : List WrapKeyValue) → n.tells keys → AreWraps keys materials
+  pub fresh : n.meaning.fresh ≡ true → IsNew materials.served
+      → AreDrawn n.meaning.wraps n.tells random materials
+  pub plain : ServesPlainly n.meaning materials.served
+  pub demanded : n.exact → materials.required ≡ with_keys request.required n.meaning.demands
+  pub unrefused : n.exact → request_refusal n.meaning request.context ≡ None
 
 -- The refusal stands in the context, or is one of the keyrings'.
 abbrev pub RefusalStands : ManagerMeaning → List KeyValue → Refusal → Type 0
-RefusalStands m context (refusals.ReservedPrefix key) = (has_reserved_prefix key ≡ true) × (holds context key ≡ true)
+RefusalStands m context (refusals.ReservedPrefix key) =
+    (has_reserved_prefix key ≡ true) × (holds context key ≡ true)
 RefusalStands m context (refusals.RequiredAbsent key) = holds context key ≡ false
 RefusalStands m context refusals.NoGenerator = m.refuses ≡ Some rings.NoGenerator
 RefusalStands m context refusals.GeneratorHasKey = m.refuses ≡ Some rings.GeneratorHasKey
 RefusalStands m context refusal = ⊥
 
--- Why there are no materials: a refusal that stands; or a failure that was counted; or want of memory. Of an exact manager it is the first refusal, and it fails only
--- where nothing is refused.
-abbrev pub GivesNone : ManagerMeaning → ManagerMeaning → Type 0 → EncRequestValue → ManagerError → Type 0
-GivesNone old new exact request (errors.Refusal refusal) =
-    RefusalStands old request.context refusal × (exact → request_refusal old request.context ≡ Some refusal)
-GivesNone old new exact request errors.KeyringFault = Rose old.faults new.faults × (exact → request_refusal old request.context ≡ None)
-GivesNone old new exact request (errors.Fault fault) = ⊥
-GivesNone old new exact request errors.Memory = ⊤
+-- Why there are no materials: a refusal that stands; or a failure that was counted; or want of
+-- memory. Of an exact manager it is the first refusal, and it fails only where nothing is refused.
+abbrev pub GivesNone : ManagerNow → ManagerNow → EncRequestValue → ManagerError → Type 0
+GivesNone old new request (errors.Refusal refusal) =
+    RefusalStands old.meaning request.context refusal
+    × (old.exact → request_refusal old.meaning request.context ≡ Some refusal)
+GivesNone old new request errors.KeyringFault = Rose old.meaning.faults new.meaning.faults
+    × (old.exact → request_refusal old.meaning request.context ≡ None)
+GivesNone old new request (errors.Fault fault) = ⊥
+GivesNone old new request errors.Memory = ⊤
 
 -- ---- materials to decrypt with
 
--- What a manager answers to a header's pairs and entries: the whole context, its pairs that are only authenticated, and a data key that a told key opens from an entry;
--- where nothing failed it is that of the first key, and for it of the first entry. An exact manager answers only where nothing is wrong with the pairs.
-pub record FindsMaterials (old new : ManagerMeaning) (tells : List WrapKeyValue → Type 0) (exact : Type 0) (request : DecRequestValue) (materials : DecMaterialsValue) : Type 0 where
+-- What a manager answers to a header's pairs and entries: the whole context, its pairs that are
+-- only
+-- authenticated, and a data key that a told key opens from an entry; where nothing failed it is
+-- that
+-- of the first key, and for it of the first entry. An exact manager answers only where nothing is
+-- wrong with the pairs.
+pub record FindsMaterials (old new : ManagerNow) (request : DecRequestValue)
+    (materials : DecMaterialsValue) : Type 0 where
   pub context : materials.context ≡ whole_of request.stored request.given
   pub only : materials.only ≡ only_given request.stored request.given
-  pub opened : (keys : List WrapKeyValue) → tells keys → IsOpened keys request.entries materials.context materials.key
-  pub first : (keys : List WrapKeyValue) → tells keys → Stayed old.faults new.faults → unwrapped keys request.entries materials.context ≡ Some materials.key
-  pub plain : ServesPlainly old materials.served
-  pub unfaulted : exact → pair_offence request.stored request.given old.demands ≡ None
+  pub opened : (keys : List WrapKeyValue) → old.tells keys
+      → IsOpened keys request.entries materials.context materials.key
+  pub first : (keys : List WrapKeyValue) → old.tells keys
+      → Stayed old.meaning.faults new.meaning.faults
+      → unwrapped keys request.entries materials.context ≡ Some materials.key
+  pub plain : ServesPlainly old.meaning materials.served
+  pub unfaulted : old.exact → pair_offence request.stored request.given old.meaning.demands ≡ None
 
 -- the text of the whole context has so many bytes, which are too many
 abbrev pub IsTooLong : DecRequestValue → ℕ → Type 0
@@ -138,38 +203,51 @@ IsTooLong request n = (n ≡ length (ctx_text (whole_of request.stored request.g
 -- The fault stands in the pairs, or no told key opens an entry.
 abbrev pub FaultStands : (List WrapKeyValue → Type 0) → DecRequestValue → Fault → Type 0
 FaultStands tells request faults.ReservedKey = holds request.stored reserved_key ≡ true
-FaultStands tells request (faults.ContextMismatch key) = HasTwoValues request.stored request.given key
+FaultStands tells request (faults.ContextMismatch key) =
+    HasTwoValues request.stored request.given key
 FaultStands tells request (faults.MissingRequired key) = holds request.given key ≡ false
 FaultStands tells request (faults.ContextTooLong n) = IsTooLong request n
-FaultStands tells request faults.NoKeyOpens = (keys : List WrapKeyValue) → tells keys → unwrapped keys request.entries (whole_of request.stored request.given) ≡ None
+FaultStands tells request faults.NoKeyOpens = (keys : List WrapKeyValue) → tells keys
+    → unwrapped keys request.entries (whole_of request.stored request.given) ≡ None
 FaultStands tells request fault = ⊥
 
--- what is wrong with the pairs, where this is the fault that is answered; that no key opens says that nothing is
+-- what is wrong with the pairs, where this is the fault that is answered; that no key opens says
+-- that nothing is
 abbrev pub offence_told : Fault → Option Fault
 offence_told faults.NoKeyOpens = None
 offence_told fault = Some fault
 
--- Why there are no materials: a fault that stands; or a failure that was counted; or want of memory. Of an exact manager it is the first fault of the pairs, and it
--- fails, or says that no key opens, only where nothing is wrong with them.
-abbrev pub FindsNone : ManagerMeaning → ManagerMeaning → (List WrapKeyValue → Type 0) → Type 0 → DecRequestValue → ManagerError → Type 0
-FindsNone old new tells exact request (errors.Fault fault) =
-    FaultStands tells request fault × (exact → pair_offence request.stored request.given old.demands ≡ offence_told fault)
-FindsNone old new tells exact request errors.KeyringFault = Rose old.faults new.faults × (exact → pair_offence request.stored request.given old.demands ≡ None)
-FindsNone old new tells exact request (errors.Refusal refusal) = ⊥
-FindsNone old new tells exact request errors.Memory = ⊤
+-- Why there are no materials: a fault that stands; or a failure that was counted; or want of
+-- memory.
+-- Of an exact manager it is the first fault of the pairs, and it fails, or says that no key opens,
+-- only
+-- where nothing is wrong with them.
+abbrev pub FindsNone : ManagerNow → ManagerNow → DecRequestValue → ManagerError → Type 0
+FindsNone old new request (errors.Fault fault) = FaultStands old.tells request fault
+    × (old.exact → pair_offence request.stored request.given old.meaning.demands
+    ≡ offence_told fault)
+FindsNone old new request errors.KeyringFault = Rose old.meaning.faults new.meaning.faults
+    × (old.exact → pair_offence request.stored request.given old.meaning.demands ≡ None)
+FindsNone old new request (errors.Refusal refusal) = ⊥
+FindsNone old new request errors.Memory = ⊤
 
--- ---- what was told, and what was served
+-- ---- what was served
 
--- keys that were told are told still
-abbrev pub TellsOn : (List WrapKeyValue → Type 0) → (List WrapKeyValue → Type 0) → Type 0
-TellsOn old new = (keys : List WrapKeyValue) → old keys → new keys
-
--- Where a manager bears the lines of what it served, it bears one line more once it served, and the same lines after an error. The session's number plays no part.
-abbrev pub BearsOn : {M E : Type 0} → (List JournalLine → Type 0) → (List JournalLine → Type 0) → Kind → ℕ → Option ℕ → (M → Served) → Result M E → Type 0
+-- Where a manager bears the lines of what it served, it bears one line more once it served, and the
+-- same lines after an error. The session's number plays no part.
+abbrev pub BearsOn : {M E : Type 0} → ManagerNow → ManagerNow → Kind → ℕ → Option ℕ → (M → Served)
+    → Result M E → Type 0
 BearsOn old new kind now size served result =
     MatchResult result
-    (λ m. (lines : List JournalLine) (session : ℕ) → old lines → new (lines ++ record { session = session; kind = kind; served = served m; now = now; length = size } ∷ []))
-    (λ _. (lines : List JournalLine) → old lines → new lines)
+    (λ m. (lines : List JournalLine) (session : ℕ) → old.bears lines
+    → new.bears (lines ++ record {
+      session = session;
+      kind = kind;
+      served = served m;
+      now = now;
+      length = size;
+    } ∷ []))
+    (λ _. (lines : List JournalLine) → old.bears lines → new.bears lines)
 
 abbrev pub enc_served : EncMaterialsValue → Served
 enc_served m = m.served

@@ -1,5 +1,6 @@
--- What a reader makes of a header's stored pairs and entries, of the pairs that the caller gives, of the keys that it requires, and of its wrapping keys.
--- AWS Encryption SDK Specification, "Default CMM" and "Required Encryption Context CMM", Decrypt Materials.
+-- What a reader makes of a header's stored pairs and entries, of the pairs that the caller gives,
+-- of the keys that it requires, and of its wrapping keys. AWS Encryption SDK Specification,
+-- "Default CMM" and "Required Encryption Context CMM", Decrypt Materials.
 use Rattle.std.specs.Prelude.{ℕ, Bool, not, List, [], ◌∷◌, Option, Some, None, option_map, find, if◌then◌else◌, codes}
 use Rattle.esdk_fields.specs.declared.faults.Fault.{Fault}
 use Rattle.esdk_fields.specs.declared.faults.Fault.TheVariants.{ReservedKey, MissingRequired, NoKeyOpens}
@@ -9,7 +10,8 @@ use Rattle.edk_codec.specs.Entry.{Entry}
 use Rattle.context_codec.specs.Parts.{holds, only_given, whole_of}
 use Rattle.keyring_trait.specs.Wrapping.{WrapKeyValue, first_some, unwrapped}
 
--- A reader's answer: a fault, or the whole context, its pairs that are only authenticated, and the data key.
+-- A reader's answer: a fault, or the whole context, its pairs that are only authenticated, and the
+-- data key.
 pub data Unlocking : Type 0 where
   Refuses : (fault : Fault) → Unlocking
   Unlocks : (whole only : List KeyValue) (key : List ℕ) → Unlocking
@@ -23,16 +25,19 @@ when b fault = if b then Some fault else None
 
 -- M13: the first required key that is not given
 abbrev pub missing_required : List KeyValue → List (List ℕ) → Option Fault
-missing_required given required = option_map MissingRequired (find (λ key. not (holds given key)) required)
+missing_required given required =
+    option_map MissingRequired (find (λ key. not (holds given key)) required)
 
 -- M11: the reserved key is stored
 abbrev pub reserved_stored : List KeyValue → Option Fault
 reserved_stored stored = when (holds stored reserved_key) ReservedKey
 
--- What is wrong with the pairs, in this order. The keys that are required and the stored pairs ascend, so that the first such key is the least.
+-- What is wrong with the pairs, in this order. The keys that are required and the stored pairs
+-- ascend, so that the first such key is the least.
 unfoldable pub offences : List KeyValue → List KeyValue → List (List ℕ) → List (Option Fault)
 offences stored given required =
-    missing_required given required ∷ reserved_stored stored ∷ mismatch stored given ∷ too_long (whole_of stored given) ∷ []
+    missing_required given required ∷ reserved_stored stored ∷ mismatch stored given
+    ∷ too_long (whole_of stored given) ∷ []
 
 -- the first of them
 abbrev pub pair_offence : List KeyValue → List KeyValue → List (List ℕ) → Option Fault
@@ -48,7 +53,9 @@ unless None answer = answer
 unless (Some fault) answer = Refuses fault
 
 -- The first offence of the pairs; else what opens an entry under the whole context.
-unfoldable pub unlock : (stored : List KeyValue) (entries : List Entry) (given : List KeyValue) (required : List (List ℕ)) (keys : List WrapKeyValue) → Unlocking
+unfoldable pub unlock : (stored : List KeyValue) (entries : List Entry) (given : List KeyValue)
+    (required : List (List ℕ)) (keys : List WrapKeyValue) → Unlocking
 unlock stored entries given required keys =
     unless (pair_offence stored given required)
-    (opens_with (whole_of stored given) (only_given stored given) (unwrapped keys entries (whole_of stored given)))
+    (opens_with (whole_of stored given) (only_given stored given)
+    (unwrapped keys entries (whole_of stored given)))

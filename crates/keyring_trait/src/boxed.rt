@@ -47,19 +47,7 @@ impl Keyring for Box<dyn Keyring> {
 
 /// A manager in a box is the manager that it holds.
 impl Manager for Box<dyn Manager> {
-    ghost meaning = { λ b. (Manager-box b).meaning b.value };
-
-    ghost tells = { λ b. (Manager-box b).tells b.value };
-
-    ghost exact = { λ b. (Manager-box b).exact b.value };
-
-    ghost bears = { λ b. (Manager-box b).bears b.value };
-
-    ghost within = { λ b. (Manager-box b).within b.value };
-
-    ghost gave = { λ b. (Manager-box b).gave b.value };
-
-    ghost found = { λ b. (Manager-box b).found b.value };
+    ghost state = { λ b. (Manager-box b).state b.value };
 
     fn wraps(&self) -> u32 {
         (**self).wraps()

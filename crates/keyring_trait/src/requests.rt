@@ -1,14 +1,13 @@
 //! What is asked of a materials manager.
 
-ghost use Rattle.std.specs.Prelude.{◌≡◌, [], None, not, find, option_map, IfOk, IfErr, OnOk};
-ghost use Rattle.context_codec.specs.Parts.{holds};
+ghost use Rattle.std.specs.Prelude.{◌≡◌, [], None, IfOk, IfErr, OnOk};
 ghost use Rattle.context_codec.specs.Insert.{RefusesAs};
 ghost use Rattle.context_codec.specs.KeySet.{with_keys};
 ghost use Rattle.keyring_trait.specs.Requests.{AllHeld, required_absent};
 
 use context_codec::{Context, KeySet, PairError};
 use edk_codec::DataKeyEntry;
-use esdk_fields::{Refusal, Text};
+use esdk_fields::Refusal;
 use std::alloc::{AllocError, Global};
 use std::marker::Model;
 
@@ -59,7 +58,7 @@ impl EncRequest {
         ensures taken { OnOk result (required_absent self.now.context keys.now ≡ None) }
         ensures cause { IfErr result (λ e. RefusesAs e (required_absent self.now.context keys.now)) }
     {
-        match first_absent(&self.context, keys.keys()) {
+        match self.context.first_missing(keys.keys()) {
             Some(absent) => Err(PairError::Refusal(Refusal::RequiredAbsent(absent.copy()?))),
             None => Ok(self.with_required(alloc, keys)?),
         }
@@ -105,19 +104,6 @@ impl EncRequest {
     {
         self.declared
     }
-}
-
-/// The first of the keys that isn't in the context.
-fn first_absent<'a>(context: &Context, keys: &'a [Text]) -> Option<&'a Text>
-    ensures { option_map (λ key. key.now) result ≡ find
-        (λ key. not (holds context.now key)) keys.now }
-{
-    for key in keys {
-        if !context.contains_key(key.as_str()) {
-            return Some(key);
-        }
-    }
-    None
 }
 
 /// A request for materials to decrypt with. A contract sees a `DecRequestValue`.

@@ -5,8 +5,8 @@ use Rattle.keyring_trait.specs.Wrapping.{WrapKeyValue}
 use Rattle.keyring_trait.specs.Keyring.{KeyringMeaning}
 use Rattle.keyring_trait.specs.declared.ring_refusals.RingRefusal.TheVariants.{NoGenerator}
 
--- It tells its one wrapping key, and never fails. Where the key isn't retired, it makes one entry and refuses nothing; a retired key makes none, and refuses to
--- generate a data key.
+-- It tells its one wrapping key, and never fails. Where the key isn't retired, it makes one entry
+-- and refuses nothing; a retired key makes none, and refuses to generate a data key.
 abbrev pub raw_meaning : WrapKeyValue → KeyringMeaning
 raw_meaning w = record {
   keys = Some (w ∷ []);

@@ -1,4 +1,5 @@
--- The wrapping key of a raw AES keyring. AWS Encryption SDK Specification, "Raw AES Keyring", Initialization.
+-- The wrapping key of a raw AES keyring. AWS Encryption SDK Specification, "Raw AES Keyring",
+-- Initialization.
 use Rattle.std.specs.Prelude.{◌≢◌, ℕ, ◌≤◌, List, length, codes}
 use Rattle.keyring_trait.specs.Wrapping.{WrapKeyValue}
 

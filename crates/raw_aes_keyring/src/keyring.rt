@@ -9,6 +9,7 @@ ghost use Rattle.raw_aes_keyring.specs.Keyring.{raw_meaning};
 use crate::raw_aes::RawAes;
 use context_codec::Context;
 use edk_codec::DataKeyEntry;
+use esdk_fields::array_of;
 use keyring_trait::{DataKey, Keyring, RingError, RingRefusal, Wrapped};
 use std::alloc::Global;
 
@@ -76,14 +77,4 @@ fn key_and_iv(random: &[u8], key: Option<&DataKey>) -> (DataKey, [u8; 12])
             (DataKey::new(array_of(drawn)), array_of(iv))
         }
     }
-}
-
-/// The bytes as an array of their number.
-fn array_of<const N: usize>(bytes: &[u8]) -> [u8; N]
-    requires { length bytes.now ≡ N }
-    ensures { result ≡ bytes.now }
-{
-    let mut array = [0; N];
-    array.copy_from_slice(bytes);
-    array
 }

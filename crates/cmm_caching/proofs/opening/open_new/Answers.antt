@@ -1,5 +1,5 @@
 -- What the inner manager gives is a new entry.
-use Rattle.std.proofs.Common.{rules, None, refl, ◌∙◌}
+use Rattle.std.proofs.Common.{None, refl, ◌∙◌}
 use Rattle.cmm_caching.specs.Ask.{dec_handed, dec_wish}
 use Rattle.cmm_caching.specs.Store.{after_new, asked_for}
 use Rattle.cmm_caching.proofs.Asking.{newly}
@@ -11,9 +11,3 @@ returns-clause-asked g c =
     c.requires.missing c.in_ok-number.ensures.number
     (c.in_ok-number.ensures.ok ∙ (λ i. after_new c.args.cache.now (asked_for ((c.name.view_is ∙ c.requires.name) i) None) c.args.now (c.in_ok-copy.ensures i)))
     c.into_opening.ensures
-
-pub returns-clause-got : goal.returns-clause-got
-returns-clause-got g c = search rules
-
-pub returns-clause-last : goal.returns-clause-last
-returns-clause-last g c = search rules

@@ -5,5 +5,5 @@ use Rattle.cmm_default.proofs.default_cmm.DefaultCmmManager.for_encryption.Goals
 
 pub returns-clause-gives : goal.returns-clause-gives
 returns-clause-gives g c =
-    gives_drawn (g.K.Keyring.meaning c.args.self.now) (Unit {0}) c.args.request.now c.args.random.now c.in_ok-wrapped.wrapped c.in_ok-enc_materials.field-0
+    gives_drawn (g.K.Keyring.meaning c.args.self.now) c.args.request.now c.args.random.now c.in_ok-wrapped.wrapped c.in_ok-enc_materials.field-0
     (search rules) (search rules) (search rules) (search rules) (search rules)

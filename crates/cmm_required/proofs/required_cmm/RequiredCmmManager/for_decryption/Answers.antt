@@ -4,18 +4,23 @@ use Rattle.std.specs.Prelude.{find, not}
 use Rattle.context_codec.specs.Parts.{holds}
 use Rattle.cmm_required.proofs.Absent.{all_given}
 use Rattle.cmm_required.proofs.Decrypting.{misses, finds_required, finds_none_required}
+use Rattle.cmm_required.proofs.Going.{went_required}
 use Rattle.cmm_required.proofs.required_cmm.RequiredCmmManager.for_decryption.Goals as goal
 
 pub returns-in-Some-clause-cause : goal.returns-in-Some-clause-cause
-returns-in-Some-clause-cause g c = misses _ _ c.args.self.now.1 _ _ _ (search rules)
+returns-in-Some-clause-cause g c =
+    misses c.args.self.now.1 (g.M.Manager.state c.args.self.now.0) (g.M.Manager.state c.args.self.now.0) c.args.request.now _ (search rules)
+
+pub returns-clause-went : goal.returns-clause-went
+returns-clause-went g c = rw (← c.self.view_is) (went_required _ _ _ c.for_decryption.ensures.went)
 
 pub returns-clause-finds : goal.returns-clause-finds
-returns-clause-finds g c = rw (← c.self.view_is) (finds_required _ _ _ _ _ _ _ (search rules) c.for_decryption.ensures.finds)
+returns-clause-finds g c = rw (← c.self.view_is) (finds_required _ _ _ _ _ (search rules) c.for_decryption.ensures.finds)
 
 pub returns-clause-cause : goal.returns-clause-cause
 returns-clause-cause g c =
     rw (← c.self.view_is)
-    (finds_none_required c.self.inside.keys (g.M.Manager.meaning c.self.inside.inner) (g.M.Manager.meaning c.for_decryption.new.self) _ _ c.args.request.now _ (search rules)
+    (finds_none_required c.self.inside.keys (g.M.Manager.state c.self.inside.inner) (g.M.Manager.state c.for_decryption.new.self) c.args.request.now _ (search rules)
     c.for_decryption.ensures.cause)
 
 pub returns-clause-given : goal.returns-clause-given

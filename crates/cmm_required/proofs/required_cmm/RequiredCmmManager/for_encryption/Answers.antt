@@ -2,23 +2,28 @@
 use Rattle.std.proofs.Common.{◌≡◌, Some, refl, rules}
 use Rattle.keyring_trait.specs.Requests.{required_absent}
 use Rattle.cmm_required.proofs.Encrypting.{refuses_absent, requires_own, gives_required, gives_none_required}
+use Rattle.cmm_required.proofs.Going.{went_required}
 use Rattle.cmm_required.proofs.required_cmm.RequiredCmmManager.for_encryption.Goals as goal
 
+pub returns-in-Ok-clause-went : goal.returns-in-Ok-clause-went
+returns-in-Ok-clause-went g c = rw (← c.self.view_is) (went_required _ _ _ c.for_encryption.ensures.went)
+
 pub returns-in-Ok-clause-gives : goal.returns-in-Ok-clause-gives
-returns-in-Ok-clause-gives g c = rw (← c.self.view_is) (gives_required _ _ _ _ _ _ _ _ c.in-Ok.ensures.request c.in-Ok.ensures.taken c.for_encryption.ensures.gives)
+returns-in-Ok-clause-gives g c = rw (← c.self.view_is) (gives_required _ _ _ _ _ _ c.in-Ok.ensures.request c.in-Ok.ensures.taken c.for_encryption.ensures.gives)
 
 pub returns-in-Ok-clause-cause : goal.returns-in-Ok-clause-cause
 returns-in-Ok-clause-cause g c =
     rw (← c.self.view_is)
-    (gives_none_required _ (g.M.Manager.meaning c.self.inside.inner) (g.M.Manager.meaning c.for_encryption.new.self) _ _ _ _ c.in-Ok.ensures.request c.in-Ok.ensures.taken
+    (gives_none_required _ (g.M.Manager.state c.self.inside.inner) (g.M.Manager.state c.for_encryption.new.self) _ _ _ c.in-Ok.ensures.request c.in-Ok.ensures.taken
     c.for_encryption.ensures.cause)
 
 pub returns-in-Err-Refusal-clause-cause : goal.returns-in-Err-Refusal-clause-cause
-returns-in-Err-Refusal-clause-cause g c = refuses_absent c.args.self.now.1 (g.M.Manager.meaning c.args.self.now.0) _ c.args.request.now.context _ (search rules)
+returns-in-Err-Refusal-clause-cause g c =
+    refuses_absent c.args.self.now.1 (g.M.Manager.state c.args.self.now.0) (g.M.Manager.state c.args.self.now.0) c.args.request.now _ (search rules)
 
 pub returns-in-Ok-clause-required : goal.returns-in-Ok-clause-required
 returns-in-Ok-clause-required g c =
-    rw (← c.self.view_is) (requires_own c.self.inside.keys _ _ _ c.args.request.now _ _ c.for_encryption.result c.in-Ok.ensures.request c.for_encryption.ensures.gives)
+    rw (← c.self.view_is) (requires_own c.self.inside.keys _ c.args.request.now _ _ c.for_encryption.result c.in-Ok.ensures.request c.for_encryption.ensures.gives)
 
 pub returns-in-Ok-clause-bears : goal.returns-in-Ok-clause-bears
 returns-in-Ok-clause-bears g c = rw (← c.self.view_is) (rw c.in-Ok.ensures.request at c.for_encryption.ensures.bears)
