@@ -1,5 +1,6 @@
 -- What the code finds, where it stands in the file.
-use Rattle.std.specs.Prelude.{◌≡◌, ◌≤◌, ℕ, List, length, Bool, true, false, Option, Some, None, IfSome, Result, Ok, Err}
+use Rattle.std.specs.Prelude.{◌≡◌, ◌≤◌, ℕ, List, length, Bool, true, false, Option, Some, None}
+use Rattle.std.specs.Prelude.{IfSome, Result, Ok, Err}
 use Rattle.std.specs.Borrow.{Bor}
 use Rattle.std.specs.BTreeSet.{BTreeSet, contains}
 use Rattle.std.specs.Cmp.Lexicographic.{slice_cmp}
@@ -14,7 +15,13 @@ use Rattle.job_file.specs.JobForm.{Head}
 
 -- what a file says of itself
 abbrev pub head_value : head.Head → Head
-head_value h = record { keyring = h.keyring.now; width = h.width; piece = h.piece; cache = h.cache; jobs = items_view h.jobs.now }
+head_value h = record {
+  keyring = h.keyring.now;
+  width = h.width;
+  piece = h.piece;
+  cache = h.cache;
+  jobs = items_view h.jobs.now;
+}
 
 -- this value, where the test says so
 abbrev pub only_if : {A : Type 0} → Bool → A → Option A
@@ -39,4 +46,5 @@ Reads means (Err Memory) reading = Unit {0}
 
 -- The set has the names that pass this test, and no others.
 abbrev pub HasThose : BTreeSet (Bor (List ℕ)) → (List ℕ → Bool) → Type 0
-HasThose set test = (name : Bor (List ℕ)) → contains (λ one other. slice_cmp nat_cmp one.now other.now) set name ≡ test name.now
+HasThose set test = (name : Bor (List ℕ))
+    → contains (λ one other. slice_cmp nat_cmp one.now other.now) set name ≡ test name.now

@@ -1,5 +1,6 @@
 -- What stands in a job file, with the members that it leaves out.
-use Rattle.std.specs.Prelude.{◌≡◌, ◌≢◌, ◌≤◌, ℕ, ◌-◌, ◌^◌, Bool, true, false, List, length, All, AllPairs, Option, IfSome}
+use Rattle.std.specs.Prelude.{◌≡◌, ◌≢◌, ◌≤◌, ℕ, ◌-◌, ◌^◌, Bool, true, false, List, length, All}
+use Rattle.std.specs.Prelude.{AllPairs, Option, IfSome}
 use Rattle.std.specs.List.{list_all, list_any}
 use Rattle.std.specs.Str.{bytes_eq}
 use Rattle.cmm_caching.specs.Limits.{LimitsValue, AreLimits}
@@ -8,7 +9,8 @@ use Rattle.job_file.specs.declared.job.Job.{Job}
 use Rattle.job_file.specs.declared.job.Work.{Work}
 use Rattle.job_file.specs.declared.job.Work.TheVariants.{Encrypt, Decrypt}
 
--- The keyring file's name; how many jobs run at a time; how many bytes a turn reads; the limits of the cache, where it is on; the jobs in their order.
+-- The keyring file's name; how many jobs run at a time; how many bytes a turn reads; the limits of
+-- the cache, where it is on; the jobs in their order.
 pub record JobFile : Type 0 where
   pub keyring : List ℕ
   pub width : ℕ
@@ -16,9 +18,11 @@ pub record JobFile : Type 0 where
   pub cache : Option LimitsValue
   pub jobs : List Job
 
--- A declared length is below 2^63 and a frame has 1 to 2^32 - 1 bytes; the required keys are keys of the context.
+-- A declared length is below 2^63 and a frame has 1 to 2^32 - 1 bytes; the required keys are keys
+-- of the context.
 abbrev pub IsWork : Work → Type 0
-IsWork (Encrypt length frame context required) = IfSome length (λ n. n ≤ 2 ^ 63 - 1) × (1 ≤ frame) × (list_all (holds context) required ≡ true)
+IsWork (Encrypt length frame context required) =
+    IfSome length (λ n. n ≤ 2 ^ 63 - 1) × (1 ≤ frame) × (list_all (holds context) required ≡ true)
 IsWork (Decrypt given required) = list_all (holds given) required ≡ true
 
 -- some job is to write this name

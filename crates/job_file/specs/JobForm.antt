@@ -1,5 +1,7 @@
--- The forms of a job file and of its jobs. They are this library's. A member that stands twice counts as it stands last.
-use Rattle.std.specs.Prelude.{ℕ, ◌+◌, ◌-◌, ◌^◌, ◌&&◌, ◌==◌, not, nat_le, List, [], length, codes, Option, Some, None, is_some, option_map, if◌then◌else◌}
+-- The forms of a job file and of its jobs. They are this library's. A member that stands twice
+-- counts as it stands last.
+use Rattle.std.specs.Prelude.{ℕ, ◌+◌, ◌-◌, ◌^◌, ◌&&◌, ◌==◌, not, nat_le, List, [], length, codes}
+use Rattle.std.specs.Prelude.{Option, Some, None, is_some, option_map, if◌then◌else◌}
 use Rattle.std.specs.BTreeMap.{insert_entry}
 use Rattle.std.specs.Ordering.{nat_cmp}
 use Rattle.std.specs.Cmp.Lexicographic.{slice_cmp}
@@ -11,17 +13,13 @@ use Rattle.context_codec.specs.Context.{KeyValue}
 use Rattle.context_codec.specs.Insert.{refusal_of}
 use Rattle.context_codec.specs.KeySet.{has, with_key}
 use Rattle.context_codec.specs.Parts.{holds}
-use Rattle.keyring_file.specs.JsonValues.{◌>>=◌, ◌>>◌, provided, member_count, text_at}
-use Rattle.keyring_file.specs.Form.{count, number_at}
+use Rattle.keyring_file.specs.JsonValues.{◌>>=◌, ◌>>◌, provided, member_count, present, text_at}
+use Rattle.keyring_file.specs.Form.{number_at}
 use Rattle.job_file.specs.declared.job.Job.{Job}
 use Rattle.job_file.specs.declared.job.Work.{Work}
 use Rattle.job_file.specs.declared.job.Work.TheVariants.{Encrypt, Decrypt}
 
 -- ---- members
-
--- how many members of this name there are: one or none
-unfoldable pub present : List ℕ → Data → ℕ
-present name d = count (get name d)
 
 -- where the member is absent, this; else what it is read as
 abbrev pub unless_absent : {A : Type 0} → Option Data → A → Option A → Option A
@@ -38,7 +36,8 @@ number_from least most name d = number_at name d >>= within least most
 
 -- the same, or another number where the member is absent
 unfoldable pub number_or : ℕ → ℕ → ℕ → List ℕ → Data → Option ℕ
-number_or least most absent name d = unless_absent (get name d) absent (number_from least most name d)
+number_or least most absent name d =
+    unless_absent (get name d) absent (number_from least most name d)
 
 -- ---- the file's own members
 
@@ -54,7 +53,9 @@ limits_of d = do
 
 -- the cache's limits; a file without them has no cache
 unfoldable pub cache_at : Data → Option (Option LimitsValue)
-cache_at d = unless_absent (get (codes "cache") d) None (option_map Some (get (codes "cache") d >>= limits_of))
+cache_at d =
+    unless_absent (get (codes "cache") d) None
+    (option_map Some (get (codes "cache") d >>= limits_of))
 
 abbrev pub length_of_items : Items → ℕ
 length_of_items no_items = 0
@@ -62,7 +63,8 @@ length_of_items (item d ds) = length_of_items ds + 1
 
 -- the jobs, of which there are 1 to 1,000
 abbrev pub some_jobs : Items → Option Items
-some_jobs ds = if nat_le 1 (length_of_items ds) && nat_le (length_of_items ds) 1000 then Some ds else None
+some_jobs ds =
+    if nat_le 1 (length_of_items ds) && nat_le (length_of_items ds) 1000 then Some ds else None
 
 unfoldable pub jobs_at : Data → Option Items
 jobs_at d = get (codes "jobs") d >>= as_array >>= some_jobs
@@ -75,10 +77,13 @@ pub record Head : Type 0 where
   pub cache : Option LimitsValue
   pub jobs : Items
 
--- {"version":1,"keyring":TEXT,"width":N,"piece":N,"cache":{..},"jobs":[..]}, where the width is 4, the piece 65,536 bytes and the cache off where they are absent
+-- {"version":1,"keyring":TEXT,"width":N,"piece":N,"cache":{..},"jobs":[..]}, where the width is 4,
+-- the piece 65,536 bytes and the cache off where they are absent
 unfoldable pub head_of : Data → Option Head
 head_of d = do
-  provided (member_count d == 3 + present (codes "width") d + present (codes "piece") d + present (codes "cache") d)
+  provided
+      (member_count d
+      == 3 + present (codes "width") d + present (codes "piece") d + present (codes "cache") d)
   version ← number_from 1 1 (codes "version") d
   keyring ← text_at (codes "keyring") d
   width ← number_or 1 64 4 (codes "width") d
@@ -89,7 +94,8 @@ head_of d = do
 
 -- ---- a job's members
 
--- the context with one more pair, where the value is a text and the context's own text isn't too long then, over 65,535 bytes
+-- the context with one more pair, where the value is a text and the context's own text isn't too
+-- long then, over 65,535 bytes
 unfoldable pub with_pair : List KeyValue → List ℕ → Data → Option (List KeyValue)
 with_pair context key d = do
   value ← as_str d
@@ -123,16 +129,23 @@ keys_in context keys (item d ds) = do
 
 -- [KEY, ..]; no keys, where the member is absent
 unfoldable pub required_at : List KeyValue → Data → Option (List (List ℕ))
-required_at context d = unless_absent (get (codes "required") d) [] (get (codes "required") d >>= as_array >>= keys_in context [])
+required_at context d =
+    unless_absent (get (codes "required") d) []
+    (get (codes "required") d >>= as_array >>= keys_in context [])
 
 -- the length of what is encrypted, where it is declared
 unfoldable pub length_at : Data → Option (Option ℕ)
-length_at d = unless_absent (get (codes "length") d) None (option_map Some (number_from 0 (2 ^ 63 - 1) (codes "length") d))
+length_at d =
+    unless_absent (get (codes "length") d) None
+    (option_map Some (number_from 0 (2 ^ 63 - 1) (codes "length") d))
 
 -- what stands in an encrypt job beside its names
 unfoldable pub encryption_of : Data → Option Work
 encryption_of d = do
-  provided (member_count d == 3 + present (codes "length") d + present (codes "frame") d + present (codes "context") d + present (codes "required") d)
+  provided
+      (member_count d
+      == 3 + present (codes "length") d + present (codes "frame") d + present (codes "context") d
+      + present (codes "required") d)
   length ← length_at d
   frame ← number_or 1 (2 ^ 32 - 1) 4096 (codes "frame") d
   context ← context_at (codes "context") d
@@ -148,9 +161,13 @@ decryption_of d = do
   Some (Decrypt given required)
 
 abbrev pub work_named : List ℕ → Data → Option Work
-work_named name d = if bytes_eq name (codes "encrypt") then encryption_of d else if bytes_eq name (codes "decrypt") then decryption_of d else None
+work_named name d =
+    if bytes_eq name (codes "encrypt") then encryption_of d
+    else if bytes_eq name (codes "decrypt") then decryption_of d
+    else None
 
--- {"do":"encrypt","from":TEXT,"to":TEXT,"length":N,"frame":N,"context":{..},"required":[..]} or {"do":"decrypt","from":TEXT,"to":TEXT,"given":{..},"required":[..]}
+-- {"do":"encrypt","from":TEXT,"to":TEXT,"length":N,"frame":N,"context":{..},"required":[..]} or
+-- {"do":"decrypt","from":TEXT,"to":TEXT,"given":{..},"required":[..]}
 unfoldable pub job_of : Data → Option Job
 job_of d = do
   work ← text_at (codes "do") d >>= (λ name. work_named name d)

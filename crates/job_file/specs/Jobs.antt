@@ -1,7 +1,9 @@
 -- What a job file means, or why it is refused.
-use Rattle.std.specs.Prelude.{ℕ, ◌+◌, ◌||◌, List, [], ◌∷◌, ◌++◌, map, Option, Some, None, Result, Ok, Err, if◌then◌else◌}
+use Rattle.std.specs.Prelude.{ℕ, ◌+◌, ◌||◌, List, [], ◌∷◌, ◌++◌, map, Option, Some, None, Result}
+use Rattle.std.specs.Prelude.{Ok, Err, if◌then◌else◌}
 use Rattle.esdk_fields.specs.declared.refusals.FileRefusal.{FileRefusal}
-use Rattle.esdk_fields.specs.declared.refusals.FileRefusal.TheVariants.{NotJson, BadShape, NamesClash}
+use Rattle.esdk_fields.specs.declared.refusals.FileRefusal.TheVariants.{NotJson, BadShape}
+use Rattle.esdk_fields.specs.declared.refusals.FileRefusal.TheVariants.{NamesClash}
 use Rattle.serde_json.specs.Data.{Items, no_items, item}
 use Rattle.context_codec.specs.KeySet.{has}
 use Rattle.keyring_file.specs.JsonValues.{value_of}
@@ -10,12 +12,14 @@ use Rattle.job_file.specs.JobFile.{JobFile, is_written}
 use Rattle.job_file.specs.JobForm.{Head, head_of, job_of}
 
 -- where there is a value, the reading that it chooses goes on
-abbrev pub then_read : {A B : Type 0} → Result A FileRefusal → (A → Result B FileRefusal) → Result B FileRefusal
+abbrev pub then_read : {A B : Type 0} → Result A FileRefusal → (A → Result B FileRefusal)
+    → Result B FileRefusal
 then_read (Ok x) next = next x
 then_read (Err refusal) next = Err refusal
 
 infixl 10 ◌>>=◌
-abbrev pub ◌>>=◌ : {A B : Type 0} → Result A FileRefusal → (A → Result B FileRefusal) → Result B FileRefusal
+abbrev pub ◌>>=◌ : {A B : Type 0} → Result A FileRefusal → (A → Result B FileRefusal)
+    → Result B FileRefusal
 (found >>= next) = then_read found next
 
 -- this value, if there is one; else this refusal
@@ -31,11 +35,13 @@ jobs_from number (item d ds) = do
   jobs ← jobs_from (number + 1) ds
   Ok (job ∷ jobs)
 
--- The first name, in the order of the jobs, that a job is to write although it is one of these names, or an earlier job is to write it.
+-- The first name, in the order of the jobs, that a job is to write although it is one of these
+-- names, or an earlier job is to write it.
 unfoldable pub clash_among : (names : List (List ℕ)) (earlier jobs : List Job) → Option (List ℕ)
 clash_among names earlier [] = None
 clash_among names earlier (job ∷ jobs) =
-    if has names job.to || is_written earlier job.to then Some job.to else clash_among names (earlier ++ job ∷ []) jobs
+    if has names job.to || is_written earlier job.to then Some job.to
+    else clash_among names (earlier ++ job ∷ []) jobs
 
 -- the names that no job may write: the job file's own, the keyring's, and those that are read
 abbrev pub read_names : List ℕ → List ℕ → List Job → List (List ℕ)
@@ -43,15 +49,22 @@ read_names own_name keyring jobs = own_name ∷ keyring ∷ map (λ job. job.fro
 
 -- the file of these jobs
 abbrev pub file_of : Head → List Job → JobFile
-file_of head jobs = record { keyring = head.keyring; width = head.width; piece = head.piece; cache = head.cache; jobs = jobs }
+file_of head jobs = record {
+  keyring = head.keyring;
+  width = head.width;
+  piece = head.piece;
+  cache = head.cache;
+  jobs = jobs;
+}
 
 -- K9, if a name clashes
 abbrev pub unless_clash : Option (List ℕ) → JobFile → Result JobFile FileRefusal
 unless_clash None file = Ok file
 unless_clash (Some name) file = Err (NamesClash name)
 
--- What the bytes of a job file of this name mean; or the first refusal: K1, where they are no JSON; K2 with 0, where the file's own members have another form;
--- K2 with the number of the first job that has another form; K9, where a name clashes.
+-- What the bytes of a job file of this name mean; or the first refusal: K1, where they are no JSON;
+-- K2 with 0, where the file's own members have another form; K2 with the number of the first job
+-- that has another form; K9, where a name clashes.
 unfoldable pub jobs_of : (bytes own_name : List ℕ) → Result JobFile FileRefusal
 jobs_of bytes own_name = do
   file ← or_refuse NotJson (value_of bytes)

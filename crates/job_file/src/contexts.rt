@@ -5,7 +5,8 @@ ghost use Rattle.std.specs.List.{list_all};
 ghost use Rattle.serde_json.specs.View.{view, items_view, members_view};
 ghost use Rattle.context_codec.specs.KeySet.{has};
 ghost use Rattle.context_codec.specs.Parts.{holds};
-ghost use Rattle.job_file.specs.JobForm.{context_at, with_pair, pairs_in, required_at, with_required, keys_in};
+ghost use Rattle.job_file.specs.JobForm.{context_at, with_pair, pairs_in, required_at};
+ghost use Rattle.job_file.specs.JobForm.{with_required, keys_in};
 ghost use Rattle.job_file.specs.Found.{only_if};
 
 use context_codec::{Context, KeySet, PairError};
@@ -16,11 +17,7 @@ use std::alloc::{AllocError, Global};
 /// it is no object of texts, or the context's text would be longer than 65,535 bytes; fails only
 /// where memory runs out.
 #[tactic(auto, unfolding(crate::specs::JobForm::context_at))]
-pub(crate) fn context_at(
-    alloc: Global,
-    value: &Value,
-    name: &str,
-) -> Result<Option<Context>, AllocError>
+pub fn context_at(alloc: Global, value: &Value, name: &str) -> Result<Option<Context>, AllocError>
     ensures { IfOk result (λ context. context ≡ context_at name.now (view value.now)) }
 {
     match value.get(name) {

@@ -6,9 +6,9 @@ ghost use Rattle.cmm_caching.specs.Limits.{AreLimits};
 ghost use Rattle.job_file.specs.JobForm.{limits_of, cache_at, some_jobs, jobs_at, head_of};
 ghost use Rattle.job_file.specs.Found.{IsHead, head_value};
 
-use crate::json_values::{member_count, present, text_at};
 use crate::numbers::{number_from, number_or};
 use cmm_caching::CacheLimits;
+use keyring_file::json_values::{member_count, present, text_at};
 use serde_json::Value;
 
 /// The most jobs that a file may have.

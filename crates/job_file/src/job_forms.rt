@@ -7,9 +7,9 @@ ghost use Rattle.job_file.specs.JobForm.{encryption_of, decryption_of, work_name
 
 use crate::contexts::{context_at, required_at};
 use crate::job::{Job, Work};
-use crate::json_values::{member_count, present, text_at};
 use crate::numbers::{length_at, number_or};
 use esdk_fields::Text;
+use keyring_file::json_values::{member_count, present, text_at};
 use serde_json::Value;
 use std::alloc::{AllocError, Global};
 

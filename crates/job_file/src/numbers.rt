@@ -6,9 +6,10 @@ ghost use Rattle.job_file.specs.JobForm.{within, number_from, number_or, length_
 
 use serde_json::Value;
 
-/// The number that the member of this name is, from the least to the most.
+/// The number that the member of this name is, from the least to the most. None exactly where there
+/// is no such member, or it is no number between them without a point or an exponent.
 #[tactic(auto, unfolding(crate::specs::JobForm::number_from))]
-pub(crate) fn number_from(value: &Value, name: &str, least: u64, most: u64) -> Option<u64>
+pub fn number_from(value: &Value, name: &str, least: u64, most: u64) -> Option<u64>
     ensures value { result ≡ number_from least most name.now (view value.now) }
     ensures least { IfSome result (λ n. least ≤ n) }
     ensures most { IfSome result (λ n. n ≤ most) }

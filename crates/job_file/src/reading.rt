@@ -10,10 +10,10 @@ use crate::head::head_of;
 use crate::job::Job;
 use crate::job_forms::job_of;
 use crate::jobs::Jobs;
-use crate::json_values::value_of;
 use crate::names::clash_among;
 use esdk_fields::{FileRefusal, Text};
 use keyring_file::TreeError;
+use keyring_file::json_values::value_of;
 use serde_json::Value;
 use std::alloc::Global;
 

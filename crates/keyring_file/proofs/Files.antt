@@ -1,11 +1,16 @@
 -- The tree of a whole file.
 use Rattle.std.proofs.Common.{◌≡◌, ◌<◌, ◌≤◌, ℕ, Bool, true, false, List, [], ◌∷◌, length, map, refl, ap, subst, ◌∙◌, arith}
 use Rattle.std.specs.Prelude.{◌^◌, Contains, Option, Some, None, Result, Ok, Err, if◌then◌else◌}
-use Rattle.std.proofs.lemmas.List.{get_or-map, length-map}
+use Rattle.std.proofs.lemmas.List.{get_or-map, length-append, length-map}
 use Rattle.serde_json.specs.Data.{Data}
 use Rattle.esdk_fields.specs.declared.refusals.FileRefusal.{FileRefusal}
 use Rattle.keyring_trait.specs.Wrapping.{WrapKeyValue}
-use Rattle.multi_keyring.specs.Forest.{Forest, Nil, RawThen, tallest}
+use Rattle.keyring_trait.specs.Keyring.{KeyringMeaning}
+use Rattle.multi_keyring.specs.declared.tree.Node.{Node}
+use Rattle.multi_keyring.specs.declared.tree.Node.TheVariants.{Raw, Handed, Multi}
+use Rattle.multi_keyring.specs.Forest.{Forest, Nil, RawThen, HandedThen, MultiThen, tallest}
+use Rattle.multi_keyring.specs.Nodes.{forest}
+use Rattle.multi_keyring.specs.Tree.{leaves, node_leaves}
 use Rattle.keyring_file.specs.declared.plugs.Plug.{Plug}
 use Rattle.keyring_file.specs.declared.form.Version.{Version}
 use Rattle.keyring_file.specs.KeyLine.{key_line}
@@ -16,6 +21,7 @@ use Rattle.keyring_file.specs.Walk.{Met}
 use Rattle.keyring_file.specs.Tree.{tree}
 use Rattle.keyring_file.specs.Room.{HasRoom}
 use Rattle.keyring_file.specs.Counts.{leaves_of, raw_keys, AreOfOneKey}
+use Rattle.keyring_file.specs.Retired.{nodes_in}
 use Rattle.keyring_file.proofs.Agreeing.{agree_more}
 use Rattle.keyring_file.proofs.Beside.{unretired, kept_are}
 use Rattle.keyring_file.proofs.Facts.{IsRead, tree_read}
@@ -66,6 +72,31 @@ low_of wraps plugs trees few (of_node new r) =
 pub file_is_low : {P : Type 0} (wraps : P → ℕ) (bytes : List ℕ) (plugs : List (Plug P)) (trees : Forest P) → length plugs < 2 ^ 24 → tree_of wraps bytes plugs ≡ Ok trees
     → (tallest trees ≤ 8) × (leaves_of wraps trees ≤ 64)
 file_is_low wraps bytes plugs trees few e = low_of wraps plugs trees few (of_file wraps bytes plugs trees e)
+
+-- ---- leaves
+
+leaves_in : {P : Type 0} (leaf : P → KeyringMeaning) (trees : Forest P) → length (leaves leaf trees) ≤ nodes_in trees
+leaves_in leaf Nil = omega arith
+leaves_in leaf (RawThen w trees) = omega (arith, leaves_in leaf trees)
+leaves_in leaf (HandedThen keyring trees) = omega (arith, leaves_in leaf trees)
+leaves_in leaf (MultiThen has members trees) = omega (arith, leaves_in leaf members, leaves_in leaf trees, length-append (leaves leaf members) (leaves leaf trees))
+
+leaves_one : {P : Type 0} (leaf : P → KeyringMeaning) (node : Node P) → length (node_leaves leaf node) ≤ nodes_in (forest (node ∷ []))
+leaves_one leaf (Raw w) = omega arith
+leaves_one leaf (Handed keyring) = omega arith
+leaves_one leaf (Multi multi) = omega (arith, leaves_in leaf multi.value.1)
+
+few_of : {P : Type 0} (wraps : P → ℕ) (plugs : List (Plug P)) (trees : Forest P) → length plugs < 2 ^ 24 → IsOf wraps plugs trees → nodes_in trees < 2 ^ 32
+few_of wraps plugs trees few (of_line w is) = subst (λ t. nodes_in t < 2 ^ 32) is (omega arith)
+few_of wraps plugs trees few (of_node new r) =
+    let settled = r.read.settled (omega (arith, r.one)) (start_room plugs few) in
+    omega (arith, r.read.nodes, settled.nodes, settled.keys, settled.leaves)
+
+pub leaves_few : {P : Type 0} (wraps : P → ℕ) (leaf : P → KeyringMeaning) (bytes : List ℕ) (plugs : List (Plug P)) (node : Node P) → length plugs < 2 ^ 24
+    → tree_of wraps bytes plugs ≡ Ok (forest (node ∷ [])) → length (node_leaves leaf node) < 2 ^ 32
+leaves_few wraps leaf bytes plugs node few e = omega (arith, leaves_one leaf node, few_of wraps plugs (forest (node ∷ [])) few (of_file wraps bytes plugs (forest (node ∷ [])) e))
+
+-- ---- keys of one name
 
 one_agrees : (w : WrapKeyValue) → AreOfOneKey (w ∷ [])
 one_agrees w = agree_more [] w refl (λ u v one two namespace name. absurd (omega (arith, one.1)))

@@ -1,5 +1,7 @@
--- A key in base64, as a JSON keyring file has it (RFC 4648, section 4: with padding; nothing else among the symbols, and no bits left over).
-use Rattle.std.specs.Prelude.{ℕ, ◌==◌, List, length, Option, Some, None, Result, Ok, Err, if◌then◌else◌}
+-- A key in base64, as a JSON keyring file has it (RFC 4648, section 4: with padding; nothing else
+-- among the symbols, and no bits left over).
+use Rattle.std.specs.Prelude.{ℕ, ◌==◌, List, length, Option, Some, None, Result, Ok, Err}
+use Rattle.std.specs.Prelude.{if◌then◌else◌}
 use Rattle.base64.specs.GeneralPurpose.{decode_of}
 use Rattle.base64.specs.Engines.{standard}
 use Rattle.base64.specs.declared.decode.DecodeError.{DecodeError}

@@ -26,4 +26,5 @@ count_of_trees (MultiThen has members trees) = suc (count_of_trees trees)
 
 -- keys of one namespace and name are one key
 abbrev pub AreOfOneKey : List WrapKeyValue → Type 0
-AreOfOneKey keys = (v w : WrapKeyValue) → Contains keys v → Contains keys w → v.namespace ≡ w.namespace → v.name ≡ w.name → v.key ≡ w.key
+AreOfOneKey keys = (v w : WrapKeyValue) → Contains keys v → Contains keys w
+    → v.namespace ≡ w.namespace → v.name ≡ w.name → v.key ≡ w.key

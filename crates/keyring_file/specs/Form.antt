@@ -1,12 +1,14 @@
 -- The forms of a JSON keyring file and of its nodes. They are this library's.
-use Rattle.std.specs.Prelude.{◌≡◌, ◌≤◌, ℕ, Bool, true, false, ◌+◌, ◌||◌, ◌==◌, not, nat_le, List, length, codes, Option, Some, None, is_some, option_map, if◌then◌else◌}
+use Rattle.std.specs.Prelude.{◌≡◌, ◌≤◌, ℕ, Bool, true, false, ◌+◌, ◌||◌, ◌==◌, not, nat_le, List}
+use Rattle.std.specs.Prelude.{length, codes, Option, Some, None, is_some, option_map, if◌then◌else◌}
 use Rattle.serde_json.specs.Data.{Data, Items, no_items, item}
 use Rattle.serde_json.specs.Find.{get, as_bool, as_str, as_array, as_number, as_u64}
 use Rattle.keyring_file.specs.declared.form.Version.{Version}
 use Rattle.keyring_file.specs.declared.form.Version.TheVariants.{One, Two}
-use Rattle.keyring_file.specs.JsonValues.{◌>>=◌, ◌>>◌, provided, member_count, text_at}
+use Rattle.keyring_file.specs.JsonValues.{◌>>=◌, ◌>>◌, provided, count, member_count, text_at}
 
--- A node: a raw key by its namespace, its name, its key in base64 and whether it is retired; a keyring that is handed over under a name; or a multi-keyring of nodes.
+-- A node: a raw key by its namespace, its name, its key in base64 and whether it is retired; a
+-- keyring that is handed over under a name; or a multi-keyring of nodes.
 pub data Form : Type 0 where
   RawForm : (namespace name key : List ℕ) (retired : Bool) → Form
   PlugForm : (name : List ℕ) → Form
@@ -20,10 +22,6 @@ short text = do
 
 unfoldable pub short_text_at : List ℕ → Data → Option (List ℕ)
 short_text_at name d = text_at name d >>= short
-
-abbrev pub count : Option Data → ℕ
-count (Some d) = 1
-count None = 0
 
 -- the member that says whether a raw key is retired; version 1 has none
 abbrev pub retired_member : Version → Data → Option Data
@@ -101,7 +99,8 @@ ring_of d = do
   ring ← get (codes "ring") d
   Some (version, ring)
 
--- What the form of a node keeps: no namespace and no name is too long, and a multi-keyring has a member.
+-- What the form of a node keeps: no namespace and no name is too long, and a multi-keyring has a
+-- member.
 abbrev pub IsFit : Form → Type 0
 IsFit (RawForm namespace name key retired) = (length namespace ≤ 1024) × (length name ≤ 1024)
 IsFit (PlugForm name) = Unit {0}

@@ -1,5 +1,6 @@
 -- What the code finds, where it stands in the bytes.
-use Rattle.std.specs.Prelude.{◌≡◌, ◌≢◌, ◌<◌, ℕ, false, slice_index_or, List, [], ◌∷◌, length, Option, Some, None, option_map, Result, Ok, Err}
+use Rattle.std.specs.Prelude.{◌≡◌, ◌≢◌, ◌<◌, ℕ, false, slice_index_or, List, [], ◌∷◌, length}
+use Rattle.std.specs.Prelude.{Option, Some, None, option_map, Result, Ok, Err}
 use Rattle.std.specs.Borrow.{Bor}
 use Rattle.std.specs.List.{remove}
 use Rattle.esdk_fields.specs.declared.refusals.FileRefusal.{FileRefusal}
@@ -22,7 +23,8 @@ use Rattle.keyring_file.specs.Plugs.{taken}
 use Rattle.keyring_file.specs.Walk.{Met}
 use Rattle.keyring_file.specs.Form.{Form, RawForm, PlugForm, MultiForm}
 
--- the parts of the text are what stands before the first space and the parts of what stands behind it; or the text is the one part
+-- the parts of the text are what stands before the first space and the parts of what stands behind
+-- it; or the text is the one part
 abbrev pub SplitsAtSpace : Option (Bor (List ℕ) × Bor (List ℕ)) → List ℕ → Type 0
 SplitsAtSpace (Some halves) text = space_parts text ≡ halves.0.now ∷ space_parts halves.1.now
 SplitsAtSpace None text = space_parts text ≡ text ∷ []
@@ -34,7 +36,8 @@ FindsParts None parts = length parts ≢ 3
 
 -- the key of a line
 abbrev pub key_value : KeyLine → WrapKeyValue
-key_value line = record { namespace = line.namespace.now; name = line.name.now; key = line.key; retired = false }
+key_value line =
+    record { namespace = line.namespace.now; name = line.name.now; key = line.key; retired = false }
 
 -- this key, or this refusal
 abbrev pub FindsKey : Result KeyLine FileRefusal → Result WrapKeyValue FileRefusal → Type 0
@@ -53,7 +56,8 @@ ReadsValue (Err Memory) found = Unit {0}
 abbrev pub form_value : form.Form → Form
 form_value (forms.Raw namespace name key retired) = RawForm namespace.now name.now key.now retired
 form_value (forms.Plug name) = PlugForm name.now
-form_value (forms.Multi generator children) = MultiForm (option_map (λ node. view node.now) generator) (items_view children.now)
+form_value (forms.Multi generator children) =
+    MultiForm (option_map (λ node. view node.now) generator) (items_view children.now)
 
 -- ---- plugs
 
@@ -64,10 +68,13 @@ wraps_of meaning keyring = (meaning keyring).wraps
 -- the first plug of the name stands at this index; or no plug has the name
 abbrev pub IsIndexOf : {P : Type 0} → List ℕ → List (Plug P) → Option ℕ → Type 0
 IsIndexOf {P = P} name plugs (Some index) =
-    (index < length plugs) × ((plug : Plug P) → slice_index_or plugs index plug ≡ plug → taken name plugs ≡ Some (plug.keyring, remove plugs index))
+    (index < length plugs)
+    × ((plug : Plug P) → slice_index_or plugs index plug ≡ plug
+    → taken name plugs ≡ Some (plug.keyring, remove plugs index))
 IsIndexOf name plugs None = taken name plugs ≡ None
 
--- the first keyring of the name, and the plugs that are left; or no plug has the name, and all are left
+-- the first keyring of the name, and the plugs that are left; or no plug has the name, and all are
+-- left
 abbrev pub Takes : {P : Type 0} → List ℕ → List (Plug P) → List (Plug P) → Option P → Type 0
 Takes name old new (Some keyring) = taken name old ≡ Some (keyring, new)
 Takes name old new None = (taken name old ≡ None) × (new ≡ old)
@@ -76,16 +83,23 @@ Takes name old new None = (taken name old ≡ None) × (new ≡ old)
 
 -- what a walk has met
 abbrev pub met : {P : Type 0} → Walk P → Met P
-met walk = record { nodes = walk.nodes; leaves = walk.leaves; keys = walk.keys.items; plugs = walk.plugs.items }
+met walk = record {
+  nodes = walk.nodes;
+  leaves = walk.leaves;
+  keys = walk.keys.items;
+  plugs = walk.plugs.items;
+}
 
 -- this value, and what is met then; or this refusal. Want of memory may come at any time.
-abbrev pub Gives : {P A B : Type 0} → (A → B) → Result A TreeError → Walk P → Result (B × Met P) FileRefusal → Type 0
+abbrev pub Gives : {P A B : Type 0} → (A → B) → Result A TreeError → Walk P
+    → Result (B × Met P) FileRefusal → Type 0
 Gives means (Ok x) now reading = reading ≡ Ok (means x, met now)
 Gives means (Err (File refusal)) now reading = reading ≡ Err refusal
 Gives means (Err Memory) now reading = Unit {0}
 
 -- the same without a value
-abbrev pub GivesNothing : {P A : Type 0} → Result A TreeError → Walk P → Result (Unit {0} × Met P) FileRefusal → Type 0
+abbrev pub GivesNothing : {P A : Type 0} → Result A TreeError → Walk P
+    → Result (Unit {0} × Met P) FileRefusal → Type 0
 GivesNothing result now reading = Gives (λ _. tt) result now reading
 
 -- the keyring of this key; only memory may be wanting

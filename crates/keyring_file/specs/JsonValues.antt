@@ -1,5 +1,7 @@
--- What stands in a JSON text (RFC 8259). Of two members of one name the last counts, so an object has each name once.
-use Rattle.std.specs.Prelude.{ℕ, Bool, true, false, List, Option, Some, None, option_and_then, if◌then◌else◌}
+-- What stands in a JSON text (RFC 8259). Of two members of one name the last counts, so an object
+-- has each name once.
+use Rattle.std.specs.Prelude.{ℕ, Bool, true, false, List, Option, Some, None, option_and_then}
+use Rattle.std.specs.Prelude.{if◌then◌else◌}
 use Rattle.std.specs.Str.{is_utf8}
 use Rattle.serde_json.specs.Data.{Data, Members}
 use Rattle.serde_json.specs.Events.{members_len}
@@ -31,6 +33,15 @@ count_of None = 0
 -- how many members an object has; another value has none
 unfoldable pub member_count : Data → ℕ
 member_count d = count_of (as_object d)
+
+-- one member, or none
+abbrev pub count : Option Data → ℕ
+count (Some d) = 1
+count None = 0
+
+-- how many members of this name there are: one or none
+unfoldable pub present : List ℕ → Data → ℕ
+present name d = count (get name d)
 
 -- the text that the member of this name is
 unfoldable pub text_at : List ℕ → Data → Option (List ℕ)

@@ -13,5 +13,6 @@ pub mod Counts
 pub mod Plain
 pub mod Migrate
 pub mod Retired
+pub mod RawNodes
 pub mod Found
 pub mod Laws

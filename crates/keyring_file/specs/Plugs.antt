@@ -7,4 +7,5 @@ use Rattle.keyring_file.specs.declared.plugs.Plug.{Plug}
 unfoldable pub taken : {P : Type 0} → List ℕ → List (Plug P) → Option (P × List (Plug P))
 taken name [] = None
 taken name (plug ∷ plugs) =
-    if bytes_eq plug.name name then Some (plug.keyring, plugs) else option_map (λ found. (found.0, plug ∷ found.1)) (taken name plugs)
+    if bytes_eq plug.name name then Some (plug.keyring, plugs)
+    else option_map (λ found. (found.0, plug ∷ found.1)) (taken name plugs)

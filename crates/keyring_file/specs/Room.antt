@@ -1,8 +1,10 @@
--- The numbers of the nodes that are met fit 32 bits: a multi-keyring has a leaf below it, at most 64 leaves are raw keys, and there are fewer than 2^24 plugs.
+-- The numbers of the nodes that are met fit 32 bits: a multi-keyring has a leaf below it, at most
+-- 64 leaves are raw keys, and there are fewer than 2^24 plugs.
 use Rattle.std.specs.Prelude.{ℕ, ◌+◌, ◌*◌, ◌≤◌, ◌^◌, length}
 use Rattle.keyring_file.specs.Walk.{Met}
 
--- What was met where a node may have so many levels: of each leaf at most its 8 levels, and the nodes above this one.
+-- What was met where a node may have so many levels: of each leaf at most its 8 levels, and the
+-- nodes above this one.
 pub record HasRoom {P : Type 0} (levels : ℕ) (met : Met P) : Type 0 where
   pub few : levels ≤ 8
   pub leaves : met.leaves ≤ 64

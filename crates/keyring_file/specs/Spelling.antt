@@ -26,7 +26,8 @@ IsLineEnd end = (end ≡ []) ⊎ (end ≡ 10 ∷ [])
 abbrev pub line_text : WrapKeyValue → List ℕ → List ℕ → List ℕ
 line_text w digits end = w.namespace ++ 32 ∷ w.name ++ 32 ∷ digits ++ end
 
--- The bytes are the line of this key, in UTF-8. Its 32 bytes are spelled by two digits of either case each.
+-- The bytes are the line of this key, in UTF-8. Its 32 bytes are spelled by two digits of either
+-- case each.
 pub record IsKeyLine (bytes : List ℕ) (w : WrapKeyValue) : Type 0 where
   pub digits : List ℕ
   pub end : List ℕ

@@ -29,13 +29,15 @@ optional tree (Some d) = tree d
 optional tree None = done Nil
 
 -- A multi-keyring: its generator, then its children, each with what is below it.
-unfoldable pub multi : {P : Type 0} → (Data → Walk P (Forest P)) → Option Data → Items → Walk P (Bool × Forest P)
+unfoldable pub multi : {P : Type 0} → (Data → Walk P (Forest P)) → Option Data → Items
+    → Walk P (Bool × Forest P)
 multi tree generator children = do
   first ← optional tree generator
   others ← row tree children
   done (is_some generator, beside first others)
 
-abbrev pub formed : {P : Type 0} → (P → ℕ) → (Data → Walk P (Forest P)) → ℕ → Form → Walk P (Forest P)
+abbrev pub formed : {P : Type 0} → (P → ℕ) → (Data → Walk P (Forest P)) → ℕ → Form
+    → Walk P (Forest P)
 formed wraps tree place (RawForm namespace name text retired) = do
   w ← raw_leaf place namespace name text retired
   done (RawThen w Nil)
@@ -46,7 +48,8 @@ formed wraps tree place (MultiForm generator children) = do
   members ← multi tree generator children
   done (MultiThen members.0 members.1 Nil)
 
--- The tree of a node, which may have so many levels. K2 at its number where it has none of the three forms; then K6 where no level is left for it.
+-- The tree of a node, which may have so many levels. K2 at its number where it has none of the
+-- three forms; then K6 where no level is left for it.
 unfoldable pub tree : {P : Type 0} → (P → ℕ) → Version → (levels : ℕ) → Data → Walk P (Forest P)
 tree wraps version zero d = do
   place ← numbered

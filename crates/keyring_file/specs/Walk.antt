@@ -1,14 +1,17 @@
 -- Reading the nodes of a keyring file in the order of their numbers.
-use Rattle.std.specs.Prelude.{ℕ, ◌+◌, Bool, true, false, ◌&&◌, not, nat_lt, List, ◌∷◌, [], ◌++◌, Option, Some, None, Result, Ok, Err, if◌then◌else◌}
+use Rattle.std.specs.Prelude.{ℕ, ◌+◌, Bool, true, false, ◌&&◌, not, nat_lt, List, ◌∷◌, [], ◌++◌}
+use Rattle.std.specs.Prelude.{Option, Some, None, Result, Ok, Err, if◌then◌else◌}
 use Rattle.std.specs.List.{list_any}
 use Rattle.std.specs.Str.{bytes_eq}
 use Rattle.esdk_fields.specs.declared.refusals.FileRefusal.{FileRefusal}
-use Rattle.esdk_fields.specs.declared.refusals.FileRefusal.TheVariants.{ClashingKeys, TooManyLeaves, NoSuchPlug}
+use Rattle.esdk_fields.specs.declared.refusals.FileRefusal.TheVariants.{ClashingKeys, TooManyLeaves}
+use Rattle.esdk_fields.specs.declared.refusals.FileRefusal.TheVariants.{NoSuchPlug}
 use Rattle.keyring_trait.specs.Wrapping.{WrapKeyValue}
 use Rattle.keyring_file.specs.declared.plugs.Plug.{Plug}
 use Rattle.keyring_file.specs.Plugs.{taken}
 
--- What was met: how many nodes, how many leaves, where a keyring that is handed over counts as many as it wraps, the raw keys, and the plugs that are left.
+-- What was met: how many nodes, how many leaves, where a keyring that is handed over counts as many
+-- as it wraps, the raw keys, and the plugs that are left.
 pub record Met (P : Type 0) : Type 0 where
   pub nodes : ℕ
   pub leaves : ℕ
@@ -20,7 +23,8 @@ abbrev pub Walk : Type 0 → Type 0 → Type 0
 Walk P A = Met P → Result (A × Met P) FileRefusal
 
 -- where there is a value, the walk that it chooses goes on
-abbrev pub then_walk : {P A B : Type 0} → Result (A × Met P) FileRefusal → (A → Walk P B) → Result (B × Met P) FileRefusal
+abbrev pub then_walk : {P A B : Type 0} → Result (A × Met P) FileRefusal → (A → Walk P B)
+    → Result (B × Met P) FileRefusal
 then_walk (Ok x) next = next x.0 x.1
 then_walk (Err refusal) next = Err refusal
 
@@ -53,18 +57,24 @@ numbered met = Ok (met.nodes + 1, record met { nodes = met.nodes + 1 })
 
 -- so many leaves more. K7 where the leaves so far are over 64
 unfoldable pub counted : {P : Type 0} → ℕ → Walk P (Unit {0})
-counted n met = if nat_lt 64 (met.leaves + n) then Err TooManyLeaves else Ok (tt, record met { leaves = met.leaves + n })
+counted n met =
+    if nat_lt 64 (met.leaves + n) then Err TooManyLeaves
+    else Ok (tt, record met { leaves = met.leaves + n })
 
 -- another key of the same namespace and name
 abbrev pub clashes : WrapKeyValue → WrapKeyValue → Bool
-clashes w other = bytes_eq other.namespace w.namespace && bytes_eq other.name w.name && not (bytes_eq other.key w.key)
+clashes w other =
+    bytes_eq other.namespace w.namespace && bytes_eq other.name w.name
+    && not (bytes_eq other.key w.key)
 
 -- one more raw key. K5 where an earlier one clashes with it
 unfoldable pub kept : {P : Type 0} → WrapKeyValue → Walk P (Unit {0})
 kept w met =
-    if list_any (clashes w) met.keys then Err (ClashingKeys w.namespace w.name) else Ok (tt, record met { keys = met.keys ++ w ∷ [] })
+    if list_any (clashes w) met.keys then Err (ClashingKeys w.namespace w.name)
+    else Ok (tt, record met { keys = met.keys ++ w ∷ [] })
 
-abbrev pub used_of : {P : Type 0} → List ℕ → Met P → Option (P × List (Plug P)) → Result (P × Met P) FileRefusal
+abbrev pub used_of : {P : Type 0} → List ℕ → Met P → Option (P × List (Plug P))
+    → Result (P × Met P) FileRefusal
 used_of name met (Some found) = Ok (found.0, record met { plugs = found.1 })
 used_of name met None = Err (NoSuchPlug name)
 

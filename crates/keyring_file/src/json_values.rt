@@ -1,8 +1,9 @@
-//! Looking into JSON values.
+//! Looking into JSON values (RFC 8259). Of two members of one name the last counts, so an object
+//! has each name once.
 
-ghost use Rattle.std.specs.Prelude.{◌≡◌, option_map};
+ghost use Rattle.std.specs.Prelude.{◌≡◌, ◌≤◌, option_map};
 ghost use Rattle.serde_json.specs.View.{view};
-ghost use Rattle.keyring_file.specs.JsonValues.{value_of, member_count, text_at};
+ghost use Rattle.keyring_file.specs.JsonValues.{value_of, member_count, present, text_at};
 ghost use Rattle.keyring_file.specs.Found.{ReadsValue};
 
 use crate::key_file::TreeError;
@@ -10,8 +11,9 @@ use esdk_fields::FileRefusal;
 use serde_json::Value;
 use std::alloc::Global;
 
-/// The value of a JSON text. `NotJson` exactly where the bytes aren't one in UTF-8.
-pub(crate) fn value_of(alloc: Global, bytes: &[u8]) -> Result<Value, TreeError>
+/// The value of a JSON text. K1 `NotJson` exactly where the bytes aren't one in UTF-8; `Memory`
+/// where memory runs out.
+pub fn value_of(alloc: Global, bytes: &[u8]) -> Result<Value, TreeError>
     ensures { ReadsValue result (value_of bytes.now) }
 {
     match Value::from_slice(alloc, bytes) {
@@ -28,7 +30,7 @@ pub(crate) fn value_of(alloc: Global, bytes: &[u8]) -> Result<Value, TreeError>
 
 /// How many members an object has; another value has none.
 #[tactic(auto, unfolding(crate::specs::JsonValues::member_count), using(crate::proofs::Members::members_counted))]
-pub(crate) fn member_count(value: &Value) -> usize
+pub fn member_count(value: &Value) -> usize
     ensures { result ≡ member_count (view value.now) }
 {
     match value.as_object() {
@@ -37,9 +39,22 @@ pub(crate) fn member_count(value: &Value) -> usize
     }
 }
 
-/// The text that the member of this name is.
+/// How many members of this name a value has: one or none.
+#[tactic(auto, unfolding(crate::specs::JsonValues::present))]
+pub fn present(value: &Value, name: &str) -> usize
+    ensures within { result ≤ 1 }
+    ensures value { result ≡ present name.now (view value.now) }
+{
+    match value.get(name) {
+        Some(_) => 1,
+        None => 0,
+    }
+}
+
+/// The text that the member of this name is. None exactly where there is no such member, or it is
+/// another value.
 #[tactic(auto, unfolding(crate::specs::JsonValues::text_at))]
-pub(crate) fn text_at<'a>(value: &'a Value, name: &str) -> Option<&'a str>
+pub fn text_at<'a>(value: &'a Value, name: &str) -> Option<&'a str>
     ensures { option_map (λ text. text.now) result ≡ text_at name.now (view value.now) }
 {
     value.get(name)?.as_str()

@@ -2,7 +2,7 @@
 
 ghost use Rattle.std.specs.Prelude.{◌≡◌, ◌<◌, ◌^◌, length};
 ghost use Rattle.keyring_file.specs.KeyLine.{key_line};
-ghost use Rattle.keyring_file.specs.KeyFile.{is_blank, is_json, tree_of, Answers, AnswersKey};
+ghost use Rattle.keyring_file.specs.KeyFile.{is_blank, is_json, tree_of, FileAnswers, AnswersKey};
 ghost use Rattle.keyring_file.specs.Found.{wraps_of};
 
 use crate::form::ring_of;
@@ -102,7 +102,7 @@ pub fn read_tree<P: Keyring>(
     plugs: Vec<Plug<P>>,
 ) -> Result<Node<P>, TreeError>
     requires { length plugs.items < 2 ^ 24 }
-    ensures { Answers result (tree_of (wraps_of P.meaning) bytes.now plugs.items) }
+    ensures { FileAnswers result (tree_of (wraps_of P.meaning) bytes.now plugs.items) }
 {
     if !is_json(bytes) {
         return Ok(Node::Raw(line_keyring(alloc, bytes)?));

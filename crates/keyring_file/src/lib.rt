@@ -5,13 +5,15 @@
 //! `specs/KeyFile.antt` says what a file is read as. `specs/KeyLine.antt` reads a key line, and
 //! `specs/Spelling.antt` says the same without splitting; `specs/Form.antt` has the forms of a JSON
 //! file and its nodes, and `specs/Tree.antt` the order in which nodes are read and refused.
-//! `specs/Migrate.antt` says how a file is written anew in version 2, and `specs/Retired.antt` what
-//! its tree is.
+//! `specs/Migrate.antt` says how a file is written anew in version 2, `specs/Retired.antt` what its
+//! tree is, and `specs/RawNodes.antt` which nodes may be retired.
+//!
+//! The module `json_values` looks into JSON values, for all files of this library's formats.
 #![tactic(auto)]
 
 mod base64_key;
 mod form;
-mod json_values;
+pub mod json_values;
 mod key_file;
 mod key_line;
 mod laws;
@@ -24,8 +26,8 @@ mod walk;
 
 pub use key_file::{TreeError, read_tree};
 pub use laws::{
-    key_lines_are_read, migration_keeps_trees, raw_keys_agree, trees_are_small,
-    written_lines_are_read,
+    key_lines_are_read, leaves_are_few, migration_keeps_trees, migration_retires_raw_keys,
+    raw_keys_agree, trees_are_small, written_lines_are_read,
 };
 pub use migration::migrate;
 pub use plugs::Plug;

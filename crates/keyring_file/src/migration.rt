@@ -5,7 +5,8 @@ ghost use Rattle.serde_json.specs.View.{view};
 ghost use Rattle.keyring_file.specs.KeyLine.{key_line};
 ghost use Rattle.keyring_file.specs.JsonValues.{value_of};
 ghost use Rattle.keyring_file.specs.Plain.{IsPlain, IsPlainObject};
-ghost use Rattle.keyring_file.specs.Migrate.{migration, json_migration, line_migration, file_with, Migrates, IsFileOf, MakesFile};
+ghost use Rattle.keyring_file.specs.Migrate.{migration, json_migration, line_migration, file_with};
+ghost use Rattle.keyring_file.specs.Migrate.{Migrates, IsFileOf, MakesFile};
 
 use crate::form::ring_of;
 use crate::json_values::value_of;

@@ -4,7 +4,8 @@ ghost use Rattle.std.specs.Prelude.{◌≡◌, option_map};
 ghost use Rattle.serde_json.specs.View.{view, items_view};
 ghost use Rattle.keyring_file.specs.Room.{HasSpace};
 ghost use Rattle.keyring_file.specs.Form.{IsFit};
-ghost use Rattle.keyring_file.specs.Migrate.{migrated, migrated_form, migrated_multi, migrated_optional, migrated_row, is_at, list_if};
+ghost use Rattle.keyring_file.specs.Migrate.{migrated, migrated_form, migrated_multi};
+ghost use Rattle.keyring_file.specs.Migrate.{migrated_optional, migrated_row, is_at, list_if};
 ghost use Rattle.keyring_file.specs.Found.{met, Gives, form_value};
 
 use crate::form::{Form, Version, form_of, lists_children};

@@ -1,6 +1,7 @@
 //! The tree that a JSON keyring file means.
 
-ghost use Rattle.std.specs.Prelude.{◌≡◌, ◌≤◌, true, [], ◌∷◌, is_some, option_map, option_to_list, IfOk};
+ghost use Rattle.std.specs.Prelude.{◌≡◌, ◌≤◌, true, [], ◌∷◌, is_some, option_map, option_to_list};
+ghost use Rattle.std.specs.Prelude.{IfOk};
 ghost use Rattle.serde_json.specs.View.{view, items_view};
 ghost use Rattle.multi_keyring.specs.Nodes.{forest};
 ghost use Rattle.keyring_file.specs.Form.{IsFit, has_node};

@@ -1,14 +1,12 @@
 -- How the trees of a row wrap a data key, one after the other.
 use Rattle.std.proofs.Common.{◌≡◌, ℕ, ◌+◌, ◌*◌, ◌≤◌, ◌<◌, List, [], ◌∷◌, ◌++◌, length, map, slice_index_or, slice_set, Option, Some, None, refl, sym, ap, ◌∙◌, subst, arith, length-append}
 use Rattle.std.specs.Prelude.{Result, Err, IfErr}
-use Rattle.std.specs.Option.{option_or}
 use Rattle.std.proofs.lemmas.List.{append_assoc, append-nil, map-append}
 use Rattle.std.proofs.Math.Seq.{set-append_seam, get_or-append_seam}
 use Rattle.esdk_fields.specs.Counts.{Rose}
 use Rattle.context_codec.specs.Context.{KeyValue}
 use Rattle.edk_codec.specs.Entry.{Entry}
 use Rattle.keyring_trait.specs.Keyring.{KeyringMeaning, KeyringGoes, WrappedValue, Wraps, WrapCause}
-use Rattle.keyring_trait.specs.declared.ring_refusals.RingRefusal.{RingRefusal}
 use Rattle.keyring_trait.specs.declared.ring_refusals.RingError.{RingError}
 use Rattle.keyring_trait.specs.declared.ring_refusals.RingError.TheVariants.{Refused, KeyringFault, Memory}
 use Rattle.multi_keyring.specs.Nodes.{node_height}
@@ -16,6 +14,7 @@ use Rattle.multi_keyring.specs.Tree.{all_faults, all_wraps, first_refusal, tree_
 use Rattle.multi_keyring.specs.Rows.{AllCounted, Appends}
 use Rattle.multi_keyring.specs.Staying.{Stays}
 use Rattle.multi_keyring.specs.declared.tree.Node.{Node}
+use Rattle.multi_keyring.proofs.Counted.{or_first, or_next}
 use Rattle.multi_keyring.proofs.Going.{faults_go}
 use Rattle.multi_keyring.proofs.Joining.{all_wraps-append}
 use Rattle.multi_keyring.proofs.Made.{appends_join, one_appends, none_append}
@@ -32,14 +31,6 @@ one_stays leaf o n kept = record { heights = ap (λ (h : ℕ). h ∷ []) kept.he
 AllCounted-append : (os ms : List KeyringMeaning) → AllCounted os → AllCounted ms → AllCounted (os ++ ms)
 AllCounted-append [] ms counted others = others
 AllCounted-append (o ∷ os) ms counted others = (counted.0, AllCounted-append os ms counted.1 others)
-
-or_first : (a b : Option RingRefusal) → option_or a b ≡ None → a ≡ None
-or_first None b is = refl
-or_first (Some r) b is = absurd cc
-
-or_next : (a b : Option RingRefusal) → option_or a b ≡ None → b ≡ None
-or_next None b is = is
-or_next (Some r) b is = absurd cc
 
 -- Some trees of the row have wrapped the data key, and the others stand as they did; the random bytes are used and left for them.
 pub record Midway {P : Type 0} (leaf : P → KeyringMeaning) (old now : List (Node P)) (i : ℕ) (c : List KeyValue) (key random rest : List ℕ) (start es : List Entry) : Type 0 where

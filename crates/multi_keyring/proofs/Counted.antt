@@ -29,14 +29,19 @@ capped_told true n keys is told = tt
 capped_told false n None is told = tt
 capped_told false n (Some ks) is told = grind (arith, nat_tests, is, told)
 
-or_none : (a b : Option RingRefusal) → option_or a b ≡ None → a ≡ None
-or_none None b is = refl
-or_none (Some r) b is = absurd cc
+-- where neither refuses
+pub or_first : (a b : Option RingRefusal) → option_or a b ≡ None → a ≡ None
+or_first None b is = refl
+or_first (Some r) b is = absurd cc
+
+pub or_next : (a b : Option RingRefusal) → option_or a b ≡ None → b ≡ None
+or_next None b is = is
+or_next (Some r) b is = absurd cc
 
 -- a multi-keyring that generates data keys makes an entry
 generates : (ms : List KeyringMeaning) → AllCounted ms → generator_refusal ms ≡ None → 1 ≤ min (all_wraps ms) 64
 generates [] counted is = absurd cc
-generates (m ∷ ms) counted is = omega (arith, counted.0.generates (or_none m.refuses_none (first_refusal ms) is))
+generates (m ∷ ms) counted is = omega (arith, counted.0.generates (or_first m.refuses_none (first_refusal ms) is))
 
 joined_generates : (has : Bool) (ms : List KeyringMeaning) → AllCounted ms → (joined has ms).refuses_none ≡ None → 1 ≤ min (all_wraps ms) 64
 joined_generates true ms counted is = generates ms counted is

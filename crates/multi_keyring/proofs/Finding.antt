@@ -12,14 +12,14 @@ use Rattle.keyring_trait.specs.declared.ring_refusals.RingError.TheVariants.{Key
 use Rattle.raw_aes_keyring.specs.Keyring.{raw_meaning}
 use Rattle.multi_keyring.specs.Nodes.{forest, node_height, all_of, generator_first}
 use Rattle.multi_keyring.specs.Tree.{both_keys, all_keys, all_faults, leaves, node_leaves, tree_meaning}
-use Rattle.multi_keyring.specs.Rows.{AllCounted, AllGo, OpensAs, FindsNone, NoneOpens}
+use Rattle.multi_keyring.specs.Rows.{AllCounted, AllGo, OpensAs, FindsNoKey, NoneOpens, RestBehind}
 use Rattle.multi_keyring.specs.Staying.{Stays}
 use Rattle.multi_keyring.specs.Unwrapping.{Unwraps}
 use Rattle.multi_keyring.specs.declared.tree.Node.{Node}
 use Rattle.multi_keyring.specs.declared.tree.Node.TheVariants.{Raw, Handed, Multi}
 use Rattle.multi_keyring.specs.declared.tree.Members.{Members}
 use Rattle.multi_keyring.proofs.Going.{faults_go}
-use Rattle.multi_keyring.proofs.Joining.{both_keys-right, all_keys-append, all_faults-append, AllGo-append, NoneOpens-append, so_far, after, opens_join, opens_ends, so_far-none, after-none}
+use Rattle.multi_keyring.proofs.Joining.{both_keys-right, all_keys-append, all_faults-append, AllGo-append, NoneOpens-append, RestBehind-append, RestBehind-unasked, so_far, after, opens_join, opens_ends, so_far-none, after-none}
 
 -- ---- one row behind another
 
@@ -65,11 +65,13 @@ unwraps_join leaf f r os ns ps qs c es u v = record {
       (faults_go (map (tree_meaning leaf) os) (map (tree_meaning leaf) ns) u.stays.goes) (faults_go (map (tree_meaning leaf) ps) (map (tree_meaning leaf) qs) v.stays.goes) u.opens v.opens);
   none = λ e. rw (leaves-append leaf os ps, leaves-append leaf ns qs)
       (NoneOpens-append (leaves leaf (forest os)) (leaves leaf (forest ns)) (leaves leaf (forest ps)) (leaves leaf (forest qs)) c es (u.none (so_far-none f)) (v.none (after-none f r e)));
+  behind = rw (leaves-append leaf os ps, leaves-append leaf ns qs)
+      (RestBehind-append (leaves leaf (forest os)) (leaves leaf (forest ns)) (leaves leaf (forest ps)) (leaves leaf (forest qs)) c es (u.none (so_far-none f)) v.behind);
 }
 
 -- a row whose answer ended the search, and another that wasn't asked
 pub unwraps_ends : {P : Type 0} (leaf : P → KeyringMeaning) (r : Result (Option (List ℕ)) RingError) (os ns rest : List (Node P)) (c : List KeyValue) (es : List Entry)
-    → (FindsNone r → ⊥) → Unwraps leaf os ns c es r → Stays leaf rest rest → Unwraps leaf (os ++ rest) (ns ++ rest) c es r
+    → (FindsNoKey r → ⊥) → Unwraps leaf os ns c es r → Stays leaf rest rest → Unwraps leaf (os ++ rest) (ns ++ rest) c es r
 unwraps_ends leaf r os ns rest c es ends u same = record {
   stays = stays_join leaf os ns rest rest u.stays same;
   opens = rw (keys-append leaf os rest, faults-append leaf os rest, faults-append leaf ns rest)
@@ -77,6 +79,7 @@ unwraps_ends leaf r os ns rest c es ends u same = record {
       (all_faults (map (tree_meaning leaf) rest)) (all_faults (map (tree_meaning leaf) rest)) c es
       (faults_go (map (tree_meaning leaf) os) (map (tree_meaning leaf) ns) u.stays.goes) (faults_go (map (tree_meaning leaf) rest) (map (tree_meaning leaf) rest) same.goes) ends u.opens);
   none = λ e. absurd (ends e);
+  behind = rw (leaves-append leaf os rest, leaves-append leaf ns rest) (RestBehind-unasked (leaves leaf (forest os)) (leaves leaf (forest ns)) (leaves leaf (forest rest)) c es u.behind);
 }
 
 -- ---- one tree
@@ -94,7 +97,8 @@ pub record Answers {P : Type 0} (leaf : P → KeyringMeaning) (o n : Node P) (c 
   pub height : node_height n ≡ node_height o
   pub goes : KeyringGoes (tree_meaning leaf o) (tree_meaning leaf n)
   pub opens : OpensAs (tree_meaning leaf o).keys (tree_meaning leaf o).faults (tree_meaning leaf n).faults c es r
-  pub none : FindsNone r → NoneOpens (node_leaves leaf o) (node_leaves leaf n) c es
+  pub none : FindsNoKey r → NoneOpens (node_leaves leaf o) (node_leaves leaf n) c es
+  pub behind : RestBehind (node_leaves leaf o) (node_leaves leaf n) c es
 
 -- it is a row by itself
 pub one_unwraps : {P : Type 0} (leaf : P → KeyringMeaning) (o n : Node P) (c : List KeyValue) (es : List Entry) (r : Result (Option (List ℕ)) RingError)
@@ -103,6 +107,7 @@ one_unwraps leaf o n c es r is = record {
   stays = record { heights = ap (λ (h : ℕ). h ∷ []) is.height; goes = (is.goes, tt) };
   opens = rw (both_keys-right (tree_meaning leaf o).keys, plus_none (tree_meaning leaf o).faults, plus_none (tree_meaning leaf n).faults) is.opens;
   none = λ e. rw (leaves_one leaf o, leaves_one leaf n) (is.none e);
+  behind = rw (leaves_one leaf o, leaves_one leaf n) is.behind;
 }
 
 -- no tree finds no key
@@ -112,6 +117,7 @@ unwraps_none leaf c es = record {
   stays = record { heights = refl; goes = tt };
   opens = record { opened = tt; none = λ _. refl; first = λ _. refl };
   none = λ _. tt;
+  behind = tt;
 }
 
 -- ---- a loop over a row
@@ -149,7 +155,7 @@ pub ends_all : {P : Type 0} (leaf : P → KeyringMeaning) (old now : List (Node 
     → Unwraps leaf old now c es (so_far f)
 ends_all leaf old now i f c es b all = rw (b.old_is, b.now_is) (at_end leaf f b.before b.asked b.left c es (omega (arith, ap length b.now_is, length-append b.asked b.left, b.at, all)) b.unwraps)
 
-after-ends : (f : Bool) (r : Result (Option (List ℕ)) RingError) → (FindsNone r → ⊥) → after f r ≡ r
+after-ends : (f : Bool) (r : Result (Option (List ℕ)) RingError) → (FindsNoKey r → ⊥) → after f r ≡ r
 after-ends false r ends = refl
 after-ends true (Ok None) ends = absurd (ends tt)
 after-ends true (Ok (Some key)) ends = refl
@@ -157,7 +163,7 @@ after-ends true (Err e) ends = refl
 
 ends_at : {P : Type 0} (leaf : P → KeyringMeaning) (f : Bool) (before asked left : List (Node P)) (x d : Node P) (c : List KeyValue) (es : List Entry) (r : Result (Option (List ℕ)) RingError)
     → length asked < length (asked ++ left) → Unwraps leaf before asked c es (so_far f) → AllCounted (map (tree_meaning leaf) left)
-    → Answers leaf (slice_index_or (asked ++ left) (length asked) d) x c es r → (FindsNone r → ⊥) → Unwraps leaf (before ++ left) (slice_set (asked ++ left) (length asked) x) c es r
+    → Answers leaf (slice_index_or (asked ++ left) (length asked) d) x c es r → (FindsNoKey r → ⊥) → Unwraps leaf (before ++ left) (slice_set (asked ++ left) (length asked) x) c es r
 ends_at leaf f before asked [] x d c es r some u counted is ends = absurd (omega (arith, some, length-append asked []))
 ends_at leaf f before asked (y ∷ left) x d c es r some u counted is ends =
     let one = one_unwraps leaf y x c es r (subst (λ (z : Node _). Answers leaf z x c es r) (get_or-append_seam asked y left d) is) in
@@ -168,7 +174,7 @@ ends_at leaf f before asked (y ∷ left) x d c es r some u counted is ends =
 
 -- the tree at the index gave an answer that ends the search
 pub ends_here : {P : Type 0} (leaf : P → KeyringMeaning) (old now : List (Node P)) (i : ℕ) (f : Bool) (c : List KeyValue) (es : List Entry) (y x : Node P) (r s : Result (Option (List ℕ)) RingError)
-    → Between leaf old now i f c es → i < length now → slice_index_or now i y ≡ y → Answers leaf y x c es r → r ≡ s → (FindsNone s → ⊥) → Unwraps leaf old (slice_set now i x) c es s
+    → Between leaf old now i f c es → i < length now → slice_index_or now i y ≡ y → Answers leaf y x c es r → r ≡ s → (FindsNoKey s → ⊥) → Unwraps leaf old (slice_set now i x) c es s
 ends_here {P = P} leaf old now i f c es y x r s b some there is same ends =
     rw (b.old_is, b.now_is, sym b.at)
     (ends_at leaf f b.before b.asked b.left x y c es s (subst (λ (l : List (Node P)). length b.asked < length l) b.now_is (omega (arith, some, b.at))) b.unwraps b.counted
@@ -221,7 +227,7 @@ all_with {P = P} members generator is = ap (λ (o : Option (Node P)). generator_
 
 -- the generator's answer ended the search
 pub generator_ends : {P : Type 0} (leaf : P → KeyringMeaning) (members : Members P) (o n : Node P) (shown : List (Node P)) (c : List KeyValue) (es : List Entry) (r s : Result (Option (List ℕ)) RingError)
-    → members.generator ≡ Some o → Answers leaf o n c es r → r ≡ s → (FindsNone s → ⊥) → shown ≡ members.children.items → AllCounted (map (tree_meaning leaf) shown)
+    → members.generator ≡ Some o → Answers leaf o n c es r → r ≡ s → (FindsNoKey s → ⊥) → shown ≡ members.children.items → AllCounted (map (tree_meaning leaf) shown)
     → Unwraps leaf (all_of members) (n ∷ members.children.items) c es s
 generator_ends {P = P} leaf members o n shown c es r s has is same ends shown_is counted =
     let first = subst (λ (a : Result (Option (List ℕ)) RingError). Unwraps leaf (o ∷ []) (n ∷ []) c es a) same (one_unwraps leaf o n c es r is) in

@@ -44,11 +44,11 @@ faults_go [] (n ∷ ns) go = absurd go
 faults_go (o ∷ os) [] go = absurd go
 faults_go (o ∷ os) (n ∷ ns) go = omega (arith, go.0.later, faults_go os ns go.1)
 
-first_true : (a b : Bool) → (a && b) ≡ true → a ≡ true
+pub first_true : (a b : Bool) → (a && b) ≡ true → a ≡ true
 first_true true b is = refl
 first_true false b is = absurd cc
 
-second_true : (a b : Bool) → (a && b) ≡ true → b ≡ true
+pub second_true : (a b : Bool) → (a && b) ≡ true → b ≡ true
 second_true true b is = is
 second_true false b is = absurd cc
 

@@ -1,6 +1,6 @@
 -- What is found by keyrings in a row, where these are two rows one behind the other.
-use Rattle.std.proofs.Common.{◌≡◌, ℕ, ◌+◌, ◌≤◌, Bool, true, false, List, [], ◌∷◌, ◌++◌, Option, Some, None, refl, sym, ap, ◌∙◌, arith}
-use Rattle.std.specs.Prelude.{Result, Ok, Err}
+use Rattle.std.proofs.Common.{◌≡◌, ℕ, ◌+◌, ◌≤◌, Bool, true, false, List, [], ◌∷◌, ◌++◌, Option, Some, None, refl, sym, ap, ◌∙◌, subst, arith}
+use Rattle.std.specs.Prelude.{IfSome, Result, Ok, Err}
 use Rattle.std.specs.Option.{option_or}
 use Rattle.std.proofs.lemmas.List.{append_assoc, append-nil}
 use Rattle.std.proofs.lemmas.List.Elements.{Contains-append_left, Contains-append_right}
@@ -12,7 +12,7 @@ use Rattle.keyring_trait.specs.Keyring.{KeyringMeaning, OpensWith}
 use Rattle.keyring_trait.specs.declared.ring_refusals.RingError.{RingError}
 use Rattle.keyring_trait.specs.declared.ring_refusals.RingError.TheVariants.{Refused, KeyringFault, Memory}
 use Rattle.multi_keyring.specs.Tree.{both_keys, all_keys, all_wraps, all_faults}
-use Rattle.multi_keyring.specs.Rows.{AllGo, OpensAs, FindsNone, NoneOpens}
+use Rattle.multi_keyring.specs.Rows.{AllGo, OpensAs, FindsNoKey, NoneOpens, OpensEntry, RestBehind}
 
 -- ---- sums and lists
 
@@ -54,6 +54,31 @@ NoneOpens-append [] (n ∷ ns) ps qs c es none others = absurd none
 NoneOpens-append (o ∷ os) [] ps qs c es none others = absurd none
 NoneOpens-append (o ∷ os) (n ∷ ns) ps qs c es none others = (none.0, NoneOpens-append os ns ps qs c es none.1 others)
 
+opens_not : (o n : KeyringMeaning) (c : List KeyValue) (es : List Entry) → (Stayed o.faults n.faults → IfSome o.keys (λ keys. unwrapped keys es c ≡ None)) → OpensEntry o n c es → ⊥
+opens_not o n c es none finds =
+    let nothing : unwrapped finds.keys es c ≡ None = subst (λ (k : Option (List WrapKeyValue)). IfSome k (λ keys. unwrapped keys es c ≡ None)) finds.told (none finds.stayed) in
+    let clash : None ≡ Some finds.key = sym nothing ∙ finds.found in
+    absurd cc
+
+-- a row in which none opens, and another behind it
+pub RestBehind-append : (os ns ps qs : List KeyringMeaning) (c : List KeyValue) (es : List Entry) → NoneOpens os ns c es → RestBehind ps qs c es → RestBehind (os ++ ps) (ns ++ qs) c es
+RestBehind-append [] [] ps qs c es none rest = rest
+RestBehind-append [] (n ∷ ns) ps qs c es none rest = absurd none
+RestBehind-append (o ∷ os) [] ps qs c es none rest = absurd none
+RestBehind-append (o ∷ os) (n ∷ ns) ps qs c es none rest = (λ finds. absurd (opens_not o n c es none.0 finds), RestBehind-append os ns ps qs c es none.1 rest)
+
+RestBehind-same : (os : List KeyringMeaning) (c : List KeyValue) (es : List Entry) → RestBehind os os c es
+RestBehind-same [] c es = tt
+RestBehind-same (o ∷ os) c es = (λ finds. refl, RestBehind-same os c es)
+
+-- a row, and another behind it that wasn't asked
+pub RestBehind-unasked : (os ns rest : List KeyringMeaning) (c : List KeyValue) (es : List Entry) → RestBehind os ns c es → RestBehind (os ++ rest) (ns ++ rest) c es
+RestBehind-unasked [] [] rest c es behind = RestBehind-same rest c es
+RestBehind-unasked [] (n ∷ ns) rest c es behind = absurd behind
+RestBehind-unasked (o ∷ os) [] rest c es behind = absurd behind
+RestBehind-unasked (o ∷ os) (n ∷ ns) rest c es behind =
+    (λ finds. ap (λ (l : List KeyringMeaning). l ++ rest) (behind.0 finds), RestBehind-unasked os ns rest c es behind.1)
+
 -- ---- answers
 
 -- the answer where no key was found yet, and perhaps a keyring failed
@@ -76,7 +101,7 @@ first_some-append : {X A : Type 0} (look : X → Option A) (xs ys : List X) → 
 first_some-append look [] ys = refl
 first_some-append look (x ∷ xs) ys = ap (option_or (look x)) (first_some-append look xs ys) ∙ sym (option_or-assoc (look x) (first_some look xs) (first_some look ys))
 
-unwrapped-append : (ks ls : List WrapKeyValue) (es : List Entry) (c : List KeyValue) → unwrapped (ks ++ ls) es c ≡ option_or (unwrapped ks es c) (unwrapped ls es c)
+pub unwrapped-append : (ks ls : List WrapKeyValue) (es : List Entry) (c : List KeyValue) → unwrapped (ks ++ ls) es c ≡ option_or (unwrapped ks es c) (unwrapped ls es c)
 unfolding unwrapped
 unwrapped-append ks ls es c = first_some-append (λ w. first_some (unwrap w c) es) ks ls
 
@@ -157,7 +182,7 @@ opens_join true (Err Memory) k l a b x y c es ab xy first next = tt
 
 -- the first row's answer stands where it is a key, or where memory ran out
 pub opens_ends : (r : Result (Option (List ℕ)) RingError) (k l : Option (List WrapKeyValue)) (a b x y : ℕ) (c : List KeyValue) (es : List Entry) → a ≤ b → x ≤ y
-    → (FindsNone r → ⊥) → OpensAs k a b c es r → OpensAs (both_keys k l) (a + x) (b + y) c es r
+    → (FindsNoKey r → ⊥) → OpensAs k a b c es r → OpensAs (both_keys k l) (a + x) (b + y) c es r
 opens_ends (Ok None) k l a b x y c es ab xy ends first = absurd (ends tt)
 opens_ends (Ok (Some key)) None l a b x y c es ab xy ends first = tt
 opens_ends (Ok (Some key)) (Some ks) None a b x y c es ab xy ends first = tt
@@ -166,11 +191,11 @@ opens_ends (Err (Refused r)) k l a b x y c es ab xy ends first = first
 opens_ends (Err KeyringFault) k l a b x y c es ab xy ends first = absurd (ends tt)
 opens_ends (Err Memory) k l a b x y c es ab xy ends first = tt
 
-pub so_far-none : (f : Bool) → FindsNone (so_far f)
+pub so_far-none : (f : Bool) → FindsNoKey (so_far f)
 so_far-none false = tt
 so_far-none true = tt
 
-pub after-none : (f : Bool) (r : Result (Option (List ℕ)) RingError) → FindsNone (after f r) → FindsNone r
+pub after-none : (f : Bool) (r : Result (Option (List ℕ)) RingError) → FindsNoKey (after f r) → FindsNoKey r
 after-none false r none = none
 after-none true (Ok None) none = tt
 after-none true (Ok (Some key)) none = none

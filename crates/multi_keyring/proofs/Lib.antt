@@ -10,3 +10,4 @@ pub mod Appending
 pub mod Multis
 pub mod Leaves
 pub mod Unvisited
+pub mod LeafUnwrapping

@@ -10,7 +10,7 @@ use Rattle.keyring_trait.specs.declared.ring_refusals.RingError.{RingError}
 use Rattle.multi_keyring.specs.Forest.{Forest, tallest}
 use Rattle.multi_keyring.specs.Nodes.{forest, all_of}
 use Rattle.multi_keyring.specs.Tree.{all_keys, all_wraps, all_faults, joined, leaves, meanings, tree_meaning}
-use Rattle.multi_keyring.specs.Rows.{IsCounted, AllCounted, Appends, OpensAs, FindsNone, NoneOpens}
+use Rattle.multi_keyring.specs.Rows.{IsCounted, AllCounted, Appends, OpensAs, FindsNoKey, NoneOpens, RestBehind}
 use Rattle.multi_keyring.specs.Staying.{Stays}
 use Rattle.multi_keyring.specs.Unwrapping.{Unwraps}
 use Rattle.multi_keyring.specs.declared.tree.Members.{Members}
@@ -57,8 +57,12 @@ multi_opens leaf old now v w c es r old_is now_is u =
     (all_faults (map (tree_meaning leaf) (all_of now))) c es r u.opens))
 
 pub multi_none : {P : Type 0} (leaf : P → KeyringMeaning) (old now : Members P) (v w : Bool × Forest P) (c : List KeyValue) (es : List Entry) (r : Result (Option (List ℕ)) RingError)
-    → value_of old ≡ v → value_of now ≡ w → Unwraps leaf (all_of old) (all_of now) c es r → FindsNone r → NoneOpens (leaves leaf v.1) (leaves leaf w.1) c es
+    → value_of old ≡ v → value_of now ≡ w → Unwraps leaf (all_of old) (all_of now) c es r → FindsNoKey r → NoneOpens (leaves leaf v.1) (leaves leaf w.1) c es
 multi_none leaf old now v w c es r old_is now_is u none = rw (sym old_is, sym now_is) (u.none none)
+
+pub multi_behind : {P : Type 0} (leaf : P → KeyringMeaning) (old now : Members P) (v w : Bool × Forest P) (c : List KeyValue) (es : List Entry) (r : Result (Option (List ℕ)) RingError)
+    → value_of old ≡ v → value_of now ≡ w → Unwraps leaf (all_of old) (all_of now) c es r → RestBehind (leaves leaf v.1) (leaves leaf w.1) c es
+multi_behind leaf old now v w c es r old_is now_is u = rw (sym old_is, sym now_is) u.behind
 
 -- ---- wrapping
 

@@ -1,6 +1,7 @@
 -- How the logic stores a forest: as a list of marks, front to back.
 use Rattle.std.specs.Prelude.{◌≡◌, ℕ, Bool, List, [], ◌∷◌, ◌++◌, ◌⊎◌, Option, Some, None, refl}
-use Rattle.std.specs.Coded.{Coded, code_by, coded×, coded⊎, coded_ℕ, coded_bool, coded_list, coded_option}
+use Rattle.std.specs.Coded.{Coded, code_by, coded×, coded⊎, coded_ℕ, coded_bool, coded_list}
+use Rattle.std.specs.Coded.{coded_option}
 use Rattle.std.proofs.Common.{ap, ◌∙◌, sym}
 use Rattle.std.proofs.lemmas.List.{append_assoc, append-nil}
 use mathlib.Core.Logic.{inl, inr}
@@ -38,12 +39,15 @@ rows (inr (inl key) ∷ ms) = before_first (RawThen key) (rows ms)
 rows (inr (inr keyring) ∷ ms) = before_first (HandedThen keyring) (rows ms)
 
 -- the marks of a row, and others behind them, mean that row and the others' rows
-pub rows-marks : {P : Type 0} (f : Forest P) (ms : List (Mark P)) → rows (marks f ++ ms) ≡ f ∷ rows ms
+pub rows-marks : {P : Type 0} (f : Forest P) (ms : List (Mark P))
+    → rows (marks f ++ ms) ≡ f ∷ rows ms
 rows-marks Nil ms = refl
 rows-marks (RawThen key f) ms = ap (before_first (RawThen key)) (rows-marks f ms)
 rows-marks (HandedThen keyring f) ms = ap (before_first (HandedThen keyring)) (rows-marks f ms)
 rows-marks (MultiThen has members f) ms =
-    ap (λ l. of_first has (rows l)) (append_assoc (marks members) (marks f) ms) ∙ ap (of_first has) (rows-marks members (marks f ++ ms) ∙ ap (λ r. members ∷ r) (rows-marks f ms))
+    ap (λ l. of_first has (rows l)) (append_assoc (marks members) (marks f) ms)
+    ∙ ap (of_first has)
+    (rows-marks members (marks f ++ ms) ∙ ap (λ r. members ∷ r) (rows-marks f ms))
 
 abbrev pub first_row : {P : Type 0} → List (Forest P) → Forest P
 first_row [] = Nil
@@ -58,9 +62,16 @@ from_marks-marks f = ap from_marks (sym (append-nil (marks f))) ∙ ap first_row
 -- a raw key is stored as its four parts
 abbrev pub key_code : Coded WrapKeyValue
 key_code =
-    code_by (((List ℕ × List ℕ) × List ℕ) × Bool) (coded× (coded× (coded× (coded_list coded_ℕ) (coded_list coded_ℕ)) (coded_list coded_ℕ)) coded_bool)
-    (λ w. (((w.namespace, w.name), w.key), w.retired)) (λ p. record { namespace = p.0.0.0; name = p.0.0.1; key = p.0.1; retired = p.1 }) (λ _. refl)
+    code_by (((List ℕ × List ℕ) × List ℕ) × Bool)
+    (coded× (coded× (coded× (coded_list coded_ℕ) (coded_list coded_ℕ)) (coded_list coded_ℕ))
+    coded_bool)
+    (λ w. (((w.namespace, w.name), w.key), w.retired))
+    (λ p. record { namespace = p.0.0.0; name = p.0.0.1; key = p.0.1; retired = p.1 })
+    (λ _. refl)
 
 -- a forest is stored as its marks
 abbrev pub forest_code : {P : Type 0} → Coded P → Coded (Forest P)
-forest_code {P = P} code = code_by (List (Mark P)) (coded_list (coded⊎ (coded_option coded_bool) (coded⊎ key_code code))) marks from_marks from_marks-marks
+forest_code {P = P} code =
+    code_by (List (Mark P))
+    (coded_list (coded⊎ (coded_option coded_bool) (coded⊎ key_code code)))
+    marks from_marks from_marks-marks

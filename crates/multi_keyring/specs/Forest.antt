@@ -3,8 +3,9 @@
 use Rattle.std.specs.Prelude.{ℕ, ◌+◌, max, Bool}
 use Rattle.keyring_trait.specs.Wrapping.{WrapKeyValue}
 
--- Trees in a row, first to last. A tree is a raw key, which may be retired, a keyring that was handed in, or a multi-keyring; of the latter stand here whether it has a generator, and
--- the row of its members, in which the generator is first.
+-- Trees in a row, first to last. A tree is a raw key, which may be retired, a keyring that was
+-- handed in, or a multi-keyring; of the latter stand here whether it has a generator, and the row
+-- of its members, in which the generator is first.
 pub data Forest (P : Type 0) : Type 0 where
   Nil : Forest P
   RawThen : WrapKeyValue → Forest P → Forest P

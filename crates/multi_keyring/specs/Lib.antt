@@ -7,4 +7,5 @@ pub mod Making
 pub mod Rows
 pub mod Staying
 pub mod Unwrapping
+pub mod LeafUnwrapping
 pub mod Laws

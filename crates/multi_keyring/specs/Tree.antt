@@ -1,11 +1,13 @@
 -- What a tree is to its callers, as a keyring.
 -- AWS Encryption SDK Specification, "Multi-Keyring", OnEncrypt and OnDecrypt.
-use Rattle.std.specs.Prelude.{ℕ, ◌+◌, ◌-◌, ◌^◌, min, nat_lt, Bool, true, ◌&&◌, List, [], ◌∷◌, ◌++◌, Option, Some, None, if◌then◌else◌}
+use Rattle.std.specs.Prelude.{ℕ, ◌+◌, ◌-◌, ◌^◌, min, nat_lt, Bool, true, ◌&&◌, List, [], ◌∷◌, ◌++◌}
+use Rattle.std.specs.Prelude.{Option, Some, None, if◌then◌else◌}
 use Rattle.std.specs.Option.{option_or}
 use Rattle.keyring_trait.specs.Wrapping.{WrapKeyValue}
 use Rattle.keyring_trait.specs.Keyring.{KeyringMeaning}
 use Rattle.keyring_trait.specs.declared.ring_refusals.RingRefusal.{RingRefusal}
-use Rattle.keyring_trait.specs.declared.ring_refusals.RingRefusal.TheVariants.{NoGenerator, GeneratorHasKey}
+use Rattle.keyring_trait.specs.declared.ring_refusals.RingRefusal.TheVariants.{NoGenerator}
+use Rattle.keyring_trait.specs.declared.ring_refusals.RingRefusal.TheVariants.{GeneratorHasKey}
 use Rattle.raw_aes_keyring.specs.Keyring.{raw_meaning}
 use Rattle.multi_keyring.specs.Forest.{Forest, Nil, RawThen, HandedThen, MultiThen}
 use Rattle.multi_keyring.specs.declared.tree.Node.{Node}
@@ -14,7 +16,8 @@ use Rattle.multi_keyring.specs.declared.tree.Node.TheVariants.{Raw, Handed, Mult
 -- ---- keyrings in a row
 
 -- the keys of the first, and then those of the others, where both are told
-abbrev pub both_keys : Option (List WrapKeyValue) → Option (List WrapKeyValue) → Option (List WrapKeyValue)
+abbrev pub both_keys : Option (List WrapKeyValue) → Option (List WrapKeyValue)
+    → Option (List WrapKeyValue)
 both_keys None others = None
 both_keys (Some keys) None = None
 both_keys (Some keys) (Some others) = Some (keys ++ others)
@@ -51,10 +54,12 @@ generator_refusal (generator ∷ children) = option_or generator.refuses_none (f
 
 -- ---- a multi-keyring
 
--- A multi-keyring of these members, the first of which is its generator where it has one. It tells their keys, where all tell theirs; makes their entries; and its
--- faults are theirs. With a data key handed to it a generator refuses, or else the first child that does. Without one it refuses where it has no generator.
--- No multi-keyring is made whose members make more than 64 entries, and no keyring's number of entries changes. A contract that says what the members mean now says of more
--- than 64 that no keys are told and 64 entries are made.
+-- A multi-keyring of these members, the first of which is its generator where it has one. It tells
+-- their keys, where all tell theirs; makes their entries; and its faults are theirs. With a data
+-- key handed to it a generator refuses, or else the first child that does. Without one it refuses
+-- where it has no generator. No multi-keyring is made whose members make more than 64 entries, and
+-- no keyring's number of entries changes. A contract that says what the members mean now says of
+-- more than 64 that no keys are told and 64 entries are made.
 abbrev pub joined : Bool → List KeyringMeaning → KeyringMeaning
 joined has_generator members = record {
   keys = if nat_lt 64 (all_wraps members) then None else all_keys members;
@@ -72,7 +77,8 @@ abbrev pub meanings : {P : Type 0} → (P → KeyringMeaning) → Forest P → L
 meanings leaf Nil = []
 meanings leaf (RawThen key f) = raw_meaning key ∷ meanings leaf f
 meanings leaf (HandedThen keyring f) = leaf keyring ∷ meanings leaf f
-meanings leaf (MultiThen has_generator members f) = joined has_generator (meanings leaf members) ∷ meanings leaf f
+meanings leaf (MultiThen has_generator members f) =
+    joined has_generator (meanings leaf members) ∷ meanings leaf f
 
 -- what a tree means
 abbrev pub tree_meaning : {P : Type 0} → (P → KeyringMeaning) → Node P → KeyringMeaning
@@ -82,7 +88,8 @@ tree_meaning leaf (Multi multi) = joined multi.value.0 (meanings leaf multi.valu
 
 -- ---- leaves
 
--- what the leaves of the trees of a row mean, which are the raw keys and the keyrings that were handed in, in order
+-- what the leaves of the trees of a row mean, which are the raw keys and the keyrings that were
+-- handed in, in order
 abbrev pub leaves : {P : Type 0} → (P → KeyringMeaning) → Forest P → List KeyringMeaning
 leaves leaf Nil = []
 leaves leaf (RawThen key f) = raw_meaning key ∷ leaves leaf f

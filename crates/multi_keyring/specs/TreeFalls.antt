@@ -12,20 +12,24 @@ use Rattle.multi_keyring.specs.declared.tree.Multi.TheShapes.{split-Members-gene
 -- how deep the generator reaches
 abbrev pub generator_depth : {P : Type 0} → Option (Node P) → ℕ
 generator_depth {P = P} generator =
-    or_weight (w_const (Unit {0})) (w_or (w_pair w_this (w_const (Unit {0}))) (w_const ⊥)) (Node P) (deep-Node P) (split-Members-generator-at-1 P (Node P) generator)
+    or_weight (w_const (Unit {0})) (w_or (w_pair w_this (w_const (Unit {0}))) (w_const ⊥)) (Node P)
+    (deep-Node P) (split-Members-generator-at-1 P (Node P) generator)
 
 -- how deep the children reach
 abbrev pub children_depth : {P : Type 0} → List (Node P) → ℕ
-children_depth {P = P} children = most {X = Node P} (λ x. (w_this).weight (Node P) (deep-Node P) x) children
+children_depth {P = P} children =
+    most {X = Node P} (λ x. (w_this).weight (Node P) (deep-Node P) x) children
 
-pub children_fall : {P : Type 0} (children : List (Node P)) → children_depth children ≤ tallest (forest children) + 1
+pub children_fall : {P : Type 0} (children : List (Node P))
+    → children_depth children ≤ tallest (forest children) + 1
 children_fall [] = omega arith
 children_fall (Raw key ∷ children) = omega (arith, children_fall children)
 children_fall (Handed keyring ∷ children) = omega (arith, children_fall children)
 children_fall (Multi multi ∷ children) = omega (arith, children_fall children)
 
 pub members_fall : {P : Type 0} (generator : Option (Node P)) (children : List (Node P))
-    → max (max (generator_depth generator) (max (children_depth children) 0)) 0 ≤ tallest (forest (generator_first generator children)) + 1
+    → max (max (generator_depth generator) (max (children_depth children) 0)) 0
+    ≤ tallest (forest (generator_first generator children)) + 1
 members_fall None children = omega (arith, children_fall children)
 members_fall (Some (Raw key)) children = omega (arith, children_fall children)
 members_fall (Some (Handed keyring)) children = omega (arith, children_fall children)

@@ -3,7 +3,7 @@
 ghost use Rattle.std.specs.Prelude.{IfOk, IfErr};
 ghost use Rattle.keyring_trait.specs.Keyring.{KeyringGoes, Opens, UnwrapCause};
 ghost use Rattle.multi_keyring.specs.Tree.{node_leaves, tree_meaning};
-ghost use Rattle.multi_keyring.specs.Rows.{FindsNone, NoneOpens};
+ghost use Rattle.multi_keyring.specs.Rows.{FindsNoKey, NoneOpens, RestBehind};
 
 use crate::tree::Node;
 use context_codec::Context;
@@ -23,7 +23,9 @@ use std::alloc::Global;
 /// keeps to its number of entries.
 ///
 /// A member that fails is passed over by `on_decrypt`: `KeyringFault` comes only where no leaf
-/// opens an entry that tells its key and didn't fail.
+/// opens an entry that tells its key and didn't fail. The search ends with the first key that is
+/// found: behind a leaf that tells its keys, didn't fail and opens an entry, every leaf means what
+/// it meant.
 impl<P: Keyring> Keyring for Node<P> {
     ghost meaning = { tree_meaning P.meaning };
 
@@ -57,8 +59,10 @@ impl<P: Keyring> Keyring for Node<P> {
             (tree_meaning P.meaning self.new) context.now entries.now) }
         ensures cause { IfErr result (UnwrapCause (tree_meaning P.meaning self.old).faults
             (tree_meaning P.meaning self.new).faults) }
-        ensures none { FindsNone result
+        ensures none { FindsNoKey result
             → NoneOpens (node_leaves P.meaning self.old)
+            (node_leaves P.meaning self.new) context.now entries.now }
+        ensures behind { RestBehind (node_leaves P.meaning self.old)
             (node_leaves P.meaning self.new) context.now entries.now }
     {
         self.decrypt(alloc, context, entries)

@@ -2,6 +2,8 @@
 //! proved.
 
 ghost use Rattle.multi_keyring.specs.Laws.{MeansItsKey, TellsItsLeaves, MeansItsTrees};
+ghost use Rattle.multi_keyring.specs.Laws.{CountsItsLeaves, IsSteadyInItsLeaves};
+ghost use Rattle.multi_keyring.specs.Laws.{OpensWithItsLeaves};
 
 use keyring_trait::Keyring;
 
@@ -19,4 +21,19 @@ pub fn a_tree_tells_the_keys_of_its_leaves<P: Keyring>()
 /// The trees of a row mean what each of them means.
 pub fn a_row_means_its_trees<P: Keyring>()
     ensures { MeansItsTrees P.meaning }
+{}
+
+/// The count of faults of a tree is the sum of its leaves'.
+pub fn a_tree_counts_the_faults_of_its_leaves<P: Keyring>()
+    ensures { CountsItsLeaves P.meaning }
+{}
+
+/// The leaves of a steady tree are steady.
+pub fn the_leaves_of_a_steady_tree_are_steady<P: Keyring>()
+    ensures { IsSteadyInItsLeaves P.meaning }
+{}
+
+/// The keys that a tree tells open the data key that the first of its leaves opens that opens one.
+pub fn a_tree_opens_what_its_first_leaf_opens<P: Keyring>()
+    ensures { OpensWithItsLeaves P.meaning }
 {}

@@ -6,7 +6,7 @@ ghost use Rattle.keyring_trait.specs.Keyring.{KeyringGoes};
 ghost use Rattle.multi_keyring.specs.Forest.{tallest};
 ghost use Rattle.multi_keyring.specs.Nodes.{all_of, node_height};
 ghost use Rattle.multi_keyring.specs.Tree.{joined, leaves, meanings, node_leaves, tree_meaning};
-ghost use Rattle.multi_keyring.specs.Rows.{OpensAs, FindsNone, NoneOpens};
+ghost use Rattle.multi_keyring.specs.Rows.{OpensAs, FindsNoKey, NoneOpens, RestBehind};
 ghost use Rattle.multi_keyring.specs.Unwrapping.{Unwraps};
 
 use crate::tree::{Members, Multi, Node};
@@ -18,7 +18,8 @@ use std::alloc::Global;
 
 impl<P: Keyring> Node<P> {
     /// Unwraps as `Keyring::on_decrypt` says. A member that fails is passed over: `KeyringFault`
-    /// comes only where no leaf opens that didn't fail.
+    /// comes only where no leaf opens that didn't fail. Behind the first leaf that tells its keys,
+    /// didn't fail and opens an entry, none is asked.
     #[cycle(decrypt)]
     pub(crate) fn decrypt(
         &mut self,
@@ -32,8 +33,10 @@ impl<P: Keyring> Node<P> {
         ensures opens { OpensAs (tree_meaning P.meaning self.old).keys
             (tree_meaning P.meaning self.old).faults
             (tree_meaning P.meaning self.new).faults context.now entries.now result }
-        ensures none { FindsNone result
+        ensures none { FindsNoKey result
             → NoneOpens (node_leaves P.meaning self.old)
+            (node_leaves P.meaning self.new) context.now entries.now }
+        ensures behind { RestBehind (node_leaves P.meaning self.old)
             (node_leaves P.meaning self.new) context.now entries.now }
     {
         match self {
@@ -60,8 +63,10 @@ impl<P: Keyring> Multi<P> {
             (joined self.old.0 (meanings P.meaning self.old.1)).faults
             (joined self.new.0 (meanings P.meaning self.new.1)).faults context.now entries.now
             result }
-        ensures none { FindsNone result
+        ensures none { FindsNoKey result
             → NoneOpens (leaves P.meaning self.old.1)
+            (leaves P.meaning self.new.1) context.now entries.now }
+        ensures behind { RestBehind (leaves P.meaning self.old.1)
             (leaves P.meaning self.new.1) context.now entries.now }
     {
         self.members.decrypt(alloc, context, entries)
@@ -94,7 +99,7 @@ impl<P: Keyring> Members<P> {
             Ok(None) => unwrap_with_any(&mut self.children, alloc, context, entries),
             Err(RingError::KeyringFault) => {
                 match unwrap_with_any(&mut self.children, alloc, context, entries) {
-                    Ok(Some(key)) => Ok(Some(key)),
+                    Ok(Some(later)) => Ok(Some(later)),
                     Ok(None) => Err(RingError::KeyringFault),
                     Err(error) => Err(error),
                 }

@@ -1,12 +1,14 @@
 //! Wrapping a data key with each member. AWS Encryption SDK Specification, "Multi-Keyring",
 //! OnEncrypt.
 
-ghost use Rattle.std.specs.Prelude.{◌≡◌, ◌<◌, ◌*◌, ◌^◌, None, length, map, min, is_some, IfOk, IfErr, OnOk};
+ghost use Rattle.std.specs.Prelude.{◌≡◌, ◌<◌, ◌*◌, ◌^◌, None, length, map, min, is_some, IfOk};
+ghost use Rattle.std.specs.Prelude.{IfErr, OnOk};
 ghost use Rattle.std.specs.Option.{option_copied};
 ghost use Rattle.keyring_trait.specs.Keyring.{KeyringGoes, Wraps, WrapCause, refusal_with, wanted};
 ghost use Rattle.multi_keyring.specs.Forest.{tallest};
 ghost use Rattle.multi_keyring.specs.Nodes.{all_of, node_height};
-ghost use Rattle.multi_keyring.specs.Tree.{all_faults, all_wraps, first_refusal, joined, meanings, tree_meaning};
+ghost use Rattle.multi_keyring.specs.Tree.{all_faults, all_wraps, first_refusal, joined, meanings};
+ghost use Rattle.multi_keyring.specs.Tree.{tree_meaning};
 ghost use Rattle.multi_keyring.specs.Rows.{Appends};
 ghost use Rattle.multi_keyring.specs.Staying.{Stays};
 
