@@ -7,7 +7,8 @@ use Rattle.esdk_fields.specs.declared.faults.Fault.{Fault}
 use Rattle.esdk_fields.specs.declared.faults.Fault.TheVariants.{TrailingBytes}
 use Rattle.esdk_fields.specs.Place.{Place, cut}
 use Rattle.esdk_fields.specs.Reading.{Reading, Wanting}
-use Rattle.frame_codec.specs.UnitHead.{longest_block, is_over}
+use Rattle.esdk_fields.specs.Limits.{is_over}
+use Rattle.frame_codec.specs.UnitHead.{longest_block}
 use Rattle.frame_codec.specs.Unit.{Piece, Under, frame, block}
 use Rattle.frame_codec.specs.Written.{single_block}
 use Rattle.body_format.specs.declared.verdicts.Verdict.TheVariants.{Going, Whole, Faulty}

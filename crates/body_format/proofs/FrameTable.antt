@@ -13,37 +13,17 @@ use Rattle.frame_codec.specs.UnitAad.{unit_aad}
 use Rattle.frame_codec.specs.declared.unit_heads.UnitHead.{UnitHead}
 use Rattle.frame_codec.specs.UnitHead.{final_mark, is_final, frame_start, unit_head}
 use Rattle.frame_codec.specs.Rows.{number_at}
-use Rattle.frame_codec.specs.Unit.{Piece, More, Last, Under, unit, frame, opened_unit}
+use Rattle.frame_codec.specs.Unit.{More, Last, Under, unit, frame, opened_unit}
 use Rattle.frame_codec.proofs.Fields.{place}
 use Rattle.frame_codec.proofs.Steps.{made_regular, made_final, after_head}
 use Rattle.frame_codec.proofs.Heads.{ReadsHead}
-use Rattle.frame_codec.proofs.Units.{opened_there, unit_size, unit_wants, unit_reads, unit_refuses}
+use Rattle.frame_codec.specs.InPlace.{unit_size}
+use Rattle.frame_codec.proofs.Units.{opened_there, unit_wants, unit_reads, unit_refuses}
 use Rattle.frame_codec.proofs.Ways.{Short, Other, Numbered, Regular, Marked, FinalOther, FinalNumbered, FinalLong, Final, frame_way}
 use Rattle.body_format.specs.declared.verdicts.Verdict.TheVariants.{Whole, Faulty}
-use Rattle.body_format.specs.Rows.{is_more, behind_last, verdict_of}
+use Rattle.body_format.specs.Rows.{behind_last}
 use Rattle.body_format.specs.Table.{part, good_regular, good_final, framed_verdict}
-
--- ---- what a reading has
-
--- the content of a unit that others follow
-abbrev pub more_in : Reading Piece → Option (List ℕ)
-more_in (Read (More content) next) = Some content
-more_in (Read (Last content) next) = None
-more_in (Refused fault at) = None
-more_in Wanting = None
-
--- the content of a last unit
-abbrev pub last_in : Reading Piece → Option (List ℕ)
-last_in (Read (More content) next) = None
-last_in (Read (Last content) next) = Some content
-last_in (Refused fault at) = None
-last_in Wanting = None
-
--- What is read of frame k is what the table says of the bytes.
-pub record Tabled (u : Under) (k : ℕ) (bytes : List ℕ) (r : Reading Piece) : Type 0 where
-  pub regular : more_in r ≡ good_regular u k bytes
-  pub last : last_in r ≡ good_final u k bytes
-  pub verdict : is_more r ≡ false → verdict_of r ≡ framed_verdict u k bytes
+use Rattle.body_format.specs.OneSlot.{IsTabled}
 
 -- ---- each way
 
@@ -59,7 +39,7 @@ ends_at bytes n m long same =
       | inr all ↦ rw (eq-eqb (length (drop n bytes)) 0 (omega (arith, length-drop n bytes)), eq-eqb (length bytes) m (omega arith)) refl
     ]
 
-tabled_short : (u : Under) (k : ℕ) (bytes : List ℕ) → length bytes < 4 → Tabled u k bytes Wanting
+tabled_short : (u : Under) (k : ℕ) (bytes : List ℕ) → length bytes < 4 → IsTabled u k bytes Wanting
 unfolding good_regular good_final framed_verdict
 tabled_short u k bytes short = record {
   regular = rw (lt-ltb (length bytes) (u.frame + 32) (omega arith)) refl;
@@ -68,7 +48,7 @@ tabled_short u k bytes short = record {
 }
 
 tabled_other : (u : Under) (k : ℕ) (bytes : List ℕ) (at : ℕ) → 4 ≤ length bytes → is_final bytes ≡ false → eqb (number_at 0 bytes) (k + 1) ≡ false
-    → Tabled u k bytes (Refused (WrongSequence (k + 1) (number_at 0 bytes)) at)
+    → IsTabled u k bytes (Refused (WrongSequence (k + 1) (number_at 0 bytes)) at)
 unfolding good_regular good_final framed_verdict
 tabled_other u k bytes at long plain other = record {
   regular = rw (other, and_false) refl;
@@ -76,7 +56,7 @@ tabled_other u k bytes at long plain other = record {
   verdict = λ h. rw (le-ltb (length bytes) 4 long, plain, other) refl;
 }
 
-tabled_cut : (u : Under) (k : ℕ) (bytes : List ℕ) → 4 ≤ length bytes → is_final bytes ≡ false → eqb (number_at 0 bytes) (k + 1) ≡ true → length bytes < u.frame + 32 → Tabled u k bytes Wanting
+tabled_cut : (u : Under) (k : ℕ) (bytes : List ℕ) → 4 ≤ length bytes → is_final bytes ≡ false → eqb (number_at 0 bytes) (k + 1) ≡ true → length bytes < u.frame + 32 → IsTabled u k bytes Wanting
 unfolding good_regular good_final framed_verdict
 tabled_cut u k bytes long plain same short = record {
   regular = rw (lt-ltb (length bytes) (u.frame + 32) short) refl;
@@ -85,11 +65,11 @@ tabled_cut u k bytes long plain same short = record {
 }
 
 -- the content of a regular frame, as the table has it
-abbrev regular_content : Under → ℕ → List ℕ → Option (List ℕ)
+abbrev pub regular_content : Under → ℕ → List ℕ → Option (List ℕ)
 regular_content u k bytes = opened u.key (part 4 12 bytes) (unit_aad u.id kinds.Regular (k + 1) u.frame) (part 16 u.frame bytes) (part (16 + u.frame) 16 bytes)
 
 tabled_regular : (u : Under) (k : ℕ) (bytes text : List ℕ) (next : Place) → is_final bytes ≡ false → eqb (number_at 0 bytes) (k + 1) ≡ true → u.frame + 32 ≤ length bytes
-    → regular_content u k bytes ≡ Some text → Tabled u k bytes (Read (More text) next)
+    → regular_content u k bytes ≡ Some text → IsTabled u k bytes (Read (More text) next)
 unfolding good_regular good_final framed_verdict
 tabled_regular u k bytes text next plain same long good = record {
   regular = rw (le-ltb (length bytes) (u.frame + 32) long, plain, same) (sym good);
@@ -98,7 +78,7 @@ tabled_regular u k bytes text next plain same long good = record {
 }
 
 tabled_regular_bad : (u : Under) (k : ℕ) (bytes : List ℕ) (at : ℕ) → is_final bytes ≡ false → eqb (number_at 0 bytes) (k + 1) ≡ true → u.frame + 32 ≤ length bytes
-    → regular_content u k bytes ≡ None → Tabled u k bytes (Refused (UnitTag (k + 1)) at)
+    → regular_content u k bytes ≡ None → IsTabled u k bytes (Refused (UnitTag (k + 1)) at)
 unfolding good_regular good_final framed_verdict
 tabled_regular_bad u k bytes at plain same long bad = record {
   regular = rw (le-ltb (length bytes) (u.frame + 32) long, plain, same) (sym bad);
@@ -106,7 +86,7 @@ tabled_regular_bad u k bytes at plain same long bad = record {
   verdict = λ h. rw (le-ltb (length bytes) 4 (omega arith), plain, same, le-ltb (length bytes) (u.frame + 32) long) refl;
 }
 
-tabled_markless : (u : Under) (k : ℕ) (bytes : List ℕ) → 4 ≤ length bytes → is_final bytes ≡ true → length bytes < 8 → Tabled u k bytes Wanting
+tabled_markless : (u : Under) (k : ℕ) (bytes : List ℕ) → 4 ≤ length bytes → is_final bytes ≡ true → length bytes < 8 → IsTabled u k bytes Wanting
 unfolding good_regular good_final framed_verdict
 tabled_markless u k bytes long marked short = record {
   regular = rw (marked, and_false) refl;
@@ -115,7 +95,7 @@ tabled_markless u k bytes long marked short = record {
 }
 
 tabled_final_other : (u : Under) (k : ℕ) (bytes : List ℕ) (at : ℕ) → 8 ≤ length bytes → is_final bytes ≡ true → eqb (number_at 4 bytes) (k + 1) ≡ false
-    → Tabled u k bytes (Refused (WrongSequence (k + 1) (number_at 4 bytes)) at)
+    → IsTabled u k bytes (Refused (WrongSequence (k + 1) (number_at 4 bytes)) at)
 unfolding good_regular good_final framed_verdict
 tabled_final_other u k bytes at long marked other = record {
   regular = rw (marked, and_false) refl;
@@ -123,7 +103,7 @@ tabled_final_other u k bytes at long marked other = record {
   verdict = λ h. rw (le-ltb (length bytes) 4 (omega arith), marked, le-ltb (length bytes) 8 long, other) refl;
 }
 
-tabled_headless : (u : Under) (k : ℕ) (bytes : List ℕ) → 8 ≤ length bytes → is_final bytes ≡ true → eqb (number_at 4 bytes) (k + 1) ≡ true → length bytes < 24 → Tabled u k bytes Wanting
+tabled_headless : (u : Under) (k : ℕ) (bytes : List ℕ) → 8 ≤ length bytes → is_final bytes ≡ true → eqb (number_at 4 bytes) (k + 1) ≡ true → length bytes < 24 → IsTabled u k bytes Wanting
 unfolding good_regular good_final framed_verdict
 tabled_headless u k bytes long marked same short = record {
   regular = rw (marked, and_false) refl;
@@ -132,7 +112,7 @@ tabled_headless u k bytes long marked same short = record {
 }
 
 tabled_over : (u : Under) (k : ℕ) (bytes : List ℕ) (at : ℕ) → 24 ≤ length bytes → is_final bytes ≡ true → eqb (number_at 4 bytes) (k + 1) ≡ true → ltb u.frame (number_at 20 bytes) ≡ true
-    → Tabled u k bytes (Refused (FinalTooLong (number_at 20 bytes)) at)
+    → IsTabled u k bytes (Refused (FinalTooLong (number_at 20 bytes)) at)
 unfolding good_regular good_final framed_verdict
 tabled_over u k bytes at long marked same over = record {
   regular = rw (marked, and_false) refl;
@@ -141,7 +121,7 @@ tabled_over u k bytes at long marked same over = record {
 }
 
 tabled_final_cut : (u : Under) (k : ℕ) (bytes : List ℕ) → 24 ≤ length bytes → is_final bytes ≡ true → eqb (number_at 4 bytes) (k + 1) ≡ true → ltb u.frame (number_at 20 bytes) ≡ false
-    → length bytes < number_at 20 bytes + 40 → Tabled u k bytes Wanting
+    → length bytes < number_at 20 bytes + 40 → IsTabled u k bytes Wanting
 unfolding good_regular good_final framed_verdict
 tabled_final_cut u k bytes long marked same within short = record {
   regular = rw (marked, and_false) refl;
@@ -150,11 +130,11 @@ tabled_final_cut u k bytes long marked same within short = record {
 }
 
 -- the content of a final frame, as the table has it
-abbrev final_content : Under → ℕ → List ℕ → Option (List ℕ)
+abbrev pub final_content : Under → ℕ → List ℕ → Option (List ℕ)
 final_content u k bytes = opened u.key (part 8 12 bytes) (unit_aad u.id kinds.Final (k + 1) (number_at 20 bytes)) (part 24 (number_at 20 bytes) bytes) (part (24 + number_at 20 bytes) 16 bytes)
 
 tabled_final : (u : Under) (k : ℕ) (bytes text : List ℕ) (at : ℕ) → is_final bytes ≡ true → eqb (number_at 4 bytes) (k + 1) ≡ true → ltb u.frame (number_at 20 bytes) ≡ false
-    → number_at 20 bytes + 40 ≤ length bytes → final_content u k bytes ≡ Some text → Tabled u k bytes (Read (Last text) (place at (drop (24 + number_at 20 bytes + 16) bytes)))
+    → number_at 20 bytes + 40 ≤ length bytes → final_content u k bytes ≡ Some text → IsTabled u k bytes (Read (Last text) (place at (drop (24 + number_at 20 bytes + 16) bytes)))
 unfolding good_regular good_final framed_verdict
 tabled_final u k bytes text at marked same within long good = record {
   regular = rw (marked, and_false) refl;
@@ -164,7 +144,7 @@ tabled_final u k bytes text at marked same within long good = record {
 }
 
 tabled_final_bad : (u : Under) (k : ℕ) (bytes : List ℕ) (at : ℕ) → is_final bytes ≡ true → eqb (number_at 4 bytes) (k + 1) ≡ true → ltb u.frame (number_at 20 bytes) ≡ false
-    → number_at 20 bytes + 40 ≤ length bytes → final_content u k bytes ≡ None → Tabled u k bytes (Refused (UnitTag (k + 1)) at)
+    → number_at 20 bytes + 40 ≤ length bytes → final_content u k bytes ≡ None → IsTabled u k bytes (Refused (UnitTag (k + 1)) at)
 unfolding good_regular good_final framed_verdict
 tabled_final_bad u k bytes at marked same within long bad = record {
   regular = rw (marked, and_false) refl;
@@ -186,31 +166,31 @@ none_or_some None = inl refl
 none_or_some (Some x) = inr (x, refl)
 
 regular_tabled : (u : Under) (k at : ℕ) (bytes : List ℕ) → 16 ≤ length bytes → is_final bytes ≡ false → eqb (number_at 0 bytes) (k + 1) ≡ true
-    → ReadsHead (contents.Framed u.frame) (k + 1) None bytes (made_regular (k + 1) u.frame (part 4 12 bytes)) → Tabled u k bytes (frame u k (place at bytes))
+    → ReadsHead (contents.Framed u.frame) (k + 1) None bytes (made_regular (k + 1) u.frame (part 4 12 bytes)) → IsTabled u k bytes (frame u k (place at bytes))
 unfolding frame
 regular_tabled u k at bytes long plain same reads =
     let head : UnitHead = made_regular (k + 1) u.frame (part 4 12 bytes) in
     let opening = opened_is u.key u.id head bytes in
     elim (cases_lt (length bytes) (u.frame + 32)) [
-      | inl short ↦ subst (Tabled u k bytes) (sym (unit_wants (contents.Framed u.frame) None u.key u.id (k + 1) bytes head at reads (omega arith))) (tabled_cut u k bytes (omega arith) plain same short)
+      | inl short ↦ subst (IsTabled u k bytes) (sym (unit_wants (contents.Framed u.frame) None u.key u.id (k + 1) bytes head at reads (omega arith))) (tabled_cut u k bytes (omega arith) plain same short)
       | inr whole ↦ elim (none_or_some (opened_there u.key u.id head (drop head.size bytes))) [
-        | inl bad ↦ subst (Tabled u k bytes) (sym (unit_refuses (contents.Framed u.frame) None u.key u.id (k + 1) bytes head at reads (omega arith) bad)) (tabled_regular_bad u k bytes (at + unit_size head) plain same whole (sym opening ∙ bad))
-        | inr good ↦ subst (Tabled u k bytes) (sym (unit_reads (contents.Framed u.frame) None u.key u.id (k + 1) bytes good.0 head at reads (omega arith) good.1))
+        | inl bad ↦ subst (IsTabled u k bytes) (sym (unit_refuses (contents.Framed u.frame) None u.key u.id (k + 1) bytes head at reads (omega arith) bad)) (tabled_regular_bad u k bytes (at + unit_size head) plain same whole (sym opening ∙ bad))
+        | inr good ↦ subst (IsTabled u k bytes) (sym (unit_reads (contents.Framed u.frame) None u.key u.id (k + 1) bytes good.0 head at reads (omega arith) good.1))
             (tabled_regular u k bytes good.0 (place (at + unit_size head) (drop (unit_size head) bytes)) plain same whole (sym opening ∙ good.1))
       ]
     ]
 
 final_tabled : (u : Under) (k at : ℕ) (bytes : List ℕ) → 24 ≤ length bytes → is_final bytes ≡ true → eqb (number_at 4 bytes) (k + 1) ≡ true → ltb u.frame (number_at 20 bytes) ≡ false
-    → ReadsHead (contents.Framed u.frame) (k + 1) None bytes (made_final (k + 1) (part 8 12 bytes) (number_at 20 bytes)) → Tabled u k bytes (frame u k (place at bytes))
+    → ReadsHead (contents.Framed u.frame) (k + 1) None bytes (made_final (k + 1) (part 8 12 bytes) (number_at 20 bytes)) → IsTabled u k bytes (frame u k (place at bytes))
 unfolding frame
 final_tabled u k at bytes long marked same within reads =
     let head : UnitHead = made_final (k + 1) (part 8 12 bytes) (number_at 20 bytes) in
     let opening = opened_is u.key u.id head bytes in
     elim (cases_lt (length bytes) (number_at 20 bytes + 40)) [
-      | inl short ↦ subst (Tabled u k bytes) (sym (unit_wants (contents.Framed u.frame) None u.key u.id (k + 1) bytes head at reads (omega arith))) (tabled_final_cut u k bytes long marked same within short)
+      | inl short ↦ subst (IsTabled u k bytes) (sym (unit_wants (contents.Framed u.frame) None u.key u.id (k + 1) bytes head at reads (omega arith))) (tabled_final_cut u k bytes long marked same within short)
       | inr whole ↦ elim (none_or_some (opened_there u.key u.id head (drop head.size bytes))) [
-        | inl bad ↦ subst (Tabled u k bytes) (sym (unit_refuses (contents.Framed u.frame) None u.key u.id (k + 1) bytes head at reads (omega arith) bad)) (tabled_final_bad u k bytes (at + unit_size head) marked same within whole (sym opening ∙ bad))
-        | inr good ↦ subst (Tabled u k bytes) (sym (unit_reads (contents.Framed u.frame) None u.key u.id (k + 1) bytes good.0 head at reads (omega arith) good.1))
+        | inl bad ↦ subst (IsTabled u k bytes) (sym (unit_refuses (contents.Framed u.frame) None u.key u.id (k + 1) bytes head at reads (omega arith) bad)) (tabled_final_bad u k bytes (at + unit_size head) marked same within whole (sym opening ∙ bad))
+        | inr good ↦ subst (IsTabled u k bytes) (sym (unit_reads (contents.Framed u.frame) None u.key u.id (k + 1) bytes good.0 head at reads (omega arith) good.1))
             (tabled_final u k bytes good.0 (at + unit_size head) marked same within whole (sym opening ∙ good.1))
       ]
     ]
@@ -219,22 +199,22 @@ frame_by : (u : Under) (k at : ℕ) (bytes : List ℕ) (r : Reading UnitHead) �
 unfolding frame unit unit_head
 frame_by u k at bytes r e = ap (λ (r : Reading UnitHead). then_read r (after_head u.key u.id)) e
 
-pub frame_tabled : (u : Under) (k at : ℕ) (bytes : List ℕ) → Tabled u k bytes (frame u k (place at bytes))
+pub frame_tabled : (u : Under) (k at : ℕ) (bytes : List ℕ) → IsTabled u k bytes (frame u k (place at bytes))
 unfolding unit_head
 frame_tabled u k at bytes =
     elim (frame_way (k + 1) u.frame bytes) [
-      | Short short is ↦ subst (Tabled u k bytes) (sym (frame_by u k at bytes Wanting (is at))) (tabled_short u k bytes short)
-      | Other long unmarked other is ↦ subst (Tabled u k bytes) (sym (frame_by u k at bytes _ (is at)))
+      | Short short is ↦ subst (IsTabled u k bytes) (sym (frame_by u k at bytes Wanting (is at))) (tabled_short u k bytes short)
+      | Other long unmarked other is ↦ subst (IsTabled u k bytes) (sym (frame_by u k at bytes _ (is at)))
           (tabled_other u k bytes (at + 4) long (ne_eqb (number_at 0 bytes) final_mark unmarked) (ne_eqb (number_at 0 bytes) (k + 1) other))
-      | Numbered long short unmarked same is ↦ subst (Tabled u k bytes) (sym (frame_by u k at bytes Wanting (is at)))
+      | Numbered long short unmarked same is ↦ subst (IsTabled u k bytes) (sym (frame_by u k at bytes Wanting (is at)))
           (tabled_cut u k bytes long (ne_eqb (number_at 0 bytes) final_mark unmarked) (eq-eqb (number_at 0 bytes) (k + 1) same) (omega arith))
       | Regular long unmarked same is ↦ regular_tabled u k at bytes long (ne_eqb (number_at 0 bytes) final_mark unmarked) (eq-eqb (number_at 0 bytes) (k + 1) same) (record { inside = long; some = omega arith; is = is })
-      | Marked long short marked is ↦ subst (Tabled u k bytes) (sym (frame_by u k at bytes Wanting (is at))) (tabled_markless u k bytes long (eq-eqb (number_at 0 bytes) final_mark marked) short)
-      | FinalOther long marked other is ↦ subst (Tabled u k bytes) (sym (frame_by u k at bytes _ (is at)))
+      | Marked long short marked is ↦ subst (IsTabled u k bytes) (sym (frame_by u k at bytes Wanting (is at))) (tabled_markless u k bytes long (eq-eqb (number_at 0 bytes) final_mark marked) short)
+      | FinalOther long marked other is ↦ subst (IsTabled u k bytes) (sym (frame_by u k at bytes _ (is at)))
           (tabled_final_other u k bytes (at + 8) long (eq-eqb (number_at 0 bytes) final_mark marked) (ne_eqb (number_at 4 bytes) (k + 1) other))
-      | FinalNumbered long short marked same is ↦ subst (Tabled u k bytes) (sym (frame_by u k at bytes Wanting (is at)))
+      | FinalNumbered long short marked same is ↦ subst (IsTabled u k bytes) (sym (frame_by u k at bytes Wanting (is at)))
           (tabled_headless u k bytes long (eq-eqb (number_at 0 bytes) final_mark marked) (eq-eqb (number_at 4 bytes) (k + 1) same) short)
-      | FinalLong long marked same over is ↦ subst (Tabled u k bytes) (sym (frame_by u k at bytes _ (is at)))
+      | FinalLong long marked same over is ↦ subst (IsTabled u k bytes) (sym (frame_by u k at bytes _ (is at)))
           (tabled_over u k bytes (at + 24) long (eq-eqb (number_at 0 bytes) final_mark marked) (eq-eqb (number_at 4 bytes) (k + 1) same) (lt-ltb u.frame (number_at 20 bytes) over))
       | Final long marked same within is ↦ final_tabled u k at bytes long (eq-eqb (number_at 0 bytes) final_mark marked) (eq-eqb (number_at 4 bytes) (k + 1) same) (le-ltb u.frame (number_at 20 bytes) within)
           (record { inside = long; some = omega arith; is = is })

@@ -13,3 +13,4 @@ pub mod FrameTable
 pub mod TableLaws
 pub mod BlockTable
 pub mod Loop
+pub mod OneSlot

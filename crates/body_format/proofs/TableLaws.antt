@@ -10,7 +10,8 @@ use Rattle.body_format.specs.Body.{beside_content, judged_frames}
 use Rattle.body_format.specs.Table.{listed, slot_bytes, good_regular, good_final, framed_verdict, first_not_regular, tabled_frames}
 use Rattle.body_format.specs.Laws.{IsFirst}
 use Rattle.body_format.proofs.BodyRows.{frames_row}
-use Rattle.body_format.proofs.FrameTable.{more_in, last_in, Tabled, frame_tabled}
+use Rattle.body_format.specs.OneSlot.{more_in, last_in, IsTabled}
+use Rattle.body_format.proofs.FrameTable.{frame_tabled}
 use Rattle.body_format.proofs.Ranges.{flat_map_same}
 use Rattle.body_format.proofs.RowLaws.{same_judged, units_are, verdict_is}
 use Rattle.body_format.proofs.Slots.{good_before, other_at}
@@ -38,17 +39,17 @@ released_last Wanting h = refl
 -- ---- slots
 
 -- slot k of a body that begins anywhere
-at_slot : (u : Under) (p : Place) (k : ℕ) → Tabled u k (slot_bytes u p.left k) (slot (u.frame + beside_content) (frame u) p k)
+at_slot : (u : Under) (p : Place) (k : ℕ) → IsTabled u k (slot_bytes u p.left k) (slot (u.frame + beside_content) (frame u) p k)
 at_slot u p k = frame_tabled u k (p.at + k * (u.frame + beside_content)) (slot_bytes u p.left k)
 
-some_is : (u : Under) (p : Place) (k : ℕ) → is_more (slot (u.frame + beside_content) (frame u) p k) ≡ is_some (good_regular u k (slot_bytes u p.left k))
+pub some_is : (u : Under) (p : Place) (k : ℕ) → is_more (slot (u.frame + beside_content) (frame u) p k) ≡ is_some (good_regular u k (slot_bytes u p.left k))
 some_is u p k = sym (more_some (slot (u.frame + beside_content) (frame u) p k)) ∙ ap is_some (at_slot u p k).regular
 
 -- tests that agree have one front
 prefix_len_same : (f g : ℕ → Bool) (xs : List ℕ) → ((k : ℕ) → f k ≡ g k) → prefix_len f xs ≡ prefix_len g xs
 prefix_len_same f g xs same = λ i. prefix_len (λ k. same k i) xs
 
-first_same : (u : Under) (p : Place) → first_other (u.frame + beside_content) (frame u) p ≡ first_not_regular u p.left
+pub first_same : (u : Under) (p : Place) → first_other (u.frame + beside_content) (frame u) p ≡ first_not_regular u p.left
 unfolding first_other first_not_regular
 first_same u p =
     prefix_len_same (λ k. is_more (slot (u.frame + beside_content) (frame u) p k)) (λ k. is_some (good_regular u k (slot_bytes u p.left k))) (range_with_len 0 (length p.left)) (some_is u p)

@@ -8,7 +8,8 @@ use Rattle.std.proofs.lemmas.List.FromFn.{map-range_with_len_more}
 use Rattle.std.proofs.lemmas.List.Concat.{concat_is, flat_map-cons}
 use Rattle.esdk_fields.specs.Place.{Place}
 use Rattle.esdk_fields.specs.Reading.{Reading, Read}
-use Rattle.frame_codec.specs.UnitHead.{longest_block, is_over}
+use Rattle.esdk_fields.specs.Limits.{is_over}
+use Rattle.frame_codec.specs.UnitHead.{longest_block}
 use Rattle.frame_codec.specs.Unit.{Piece, Last, Under, frame, block}
 use Rattle.frame_codec.specs.Written.{final_frame, single_block}
 use Rattle.frame_codec.proofs.WrittenAgain.{final_frame_again, single_block_again, length-final_frame}

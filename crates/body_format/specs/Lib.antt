@@ -3,3 +3,4 @@ pub mod Body
 pub mod Table
 pub mod Written
 pub mod Laws
+pub mod OneSlot

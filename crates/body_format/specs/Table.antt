@@ -6,7 +6,8 @@ use Rattle.esdk_fields.specs.declared.faults.Fault.TheVariants.{WrongSequence, F
 use Rattle.cipher_spec.specs.Gcm.{opened}
 use Rattle.frame_codec.specs.declared.kinds.UnitKind.TheVariants as kinds
 use Rattle.frame_codec.specs.UnitAad.{unit_aad}
-use Rattle.frame_codec.specs.UnitHead.{is_final, is_over, longest_block}
+use Rattle.esdk_fields.specs.Limits.{is_over}
+use Rattle.frame_codec.specs.UnitHead.{is_final, longest_block}
 use Rattle.frame_codec.specs.Rows.{number_at, long_number_at}
 use Rattle.frame_codec.specs.Unit.{Under}
 use Rattle.body_format.specs.declared.verdicts.Verdict.{Verdict}
@@ -66,14 +67,16 @@ framed_verdict u k bytes =
 unfoldable pub first_not_regular : Under → List ℕ → ℕ
 first_not_regular u body = prefix_len (λ k. is_some (good_regular u k (slot_bytes u body k))) (range_with_len 0 (length body))
 
--- With that k: the contents of the slots before it, and that of slot k where it is a good final slot; and the table's verdict.
+-- what is said of the body where slot k decides: the contents of the slots before it, and that of slot k where it is a good final slot; and the table's verdict
+abbrev pub decided_at : Under → List ℕ → ℕ → JudgedBody
+decided_at u body k = record {
+  units = flat_map (λ i. listed (good_regular u i (slot_bytes u body i))) (range_with_len 0 k) ++ listed (good_final u k (slot_bytes u body k));
+  verdict = framed_verdict u k (slot_bytes u body k);
+}
+
+-- The first slot that isn't a good regular slot decides.
 unfoldable pub tabled_frames : Under → List ℕ → JudgedBody
-tabled_frames u body =
-    let k = first_not_regular u body in
-    record {
-      units = flat_map (λ i. listed (good_regular u i (slot_bytes u body i))) (range_with_len 0 k) ++ listed (good_final u k (slot_bytes u body k));
-      verdict = framed_verdict u k (slot_bytes u body k);
-    }
+tabled_frames u body = decided_at u body (first_not_regular u body)
 
 -- ---- the single block
 

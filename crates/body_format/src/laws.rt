@@ -1,6 +1,7 @@
 //! Laws about bodies. A law is a function that does nothing: its contract is what is proved.
 
 ghost use Rattle.body_format.specs.Laws.{JudgesFramesByTheTable, JudgesBlocksByTheTable, FindsTheFirst, FaultsStay, UnitsStay, RefusesTrailingBytes, FrontsAreGoing, FramedBodiesAreWhole, PiecesAreTheText, BlocksAreWhole, HasFramedSize, FrontsReleaseFrames, ReleasesFullFrames};
+ghost use Rattle.body_format.specs.OneSlot.{ReadsSlotsAlone, ReadsBlocksAlone, DecidesForAll, FillsRegularSlots, KeepsFinalSlotsShort};
 
 /// A body is judged as the table says, which has no reader in it: where a unit is good, the first
 /// slot that isn't a good regular frame, and the verdicts line by line. The offset where the body
@@ -9,6 +10,18 @@ pub fn bodies_are_judged_by_the_table()
     ensures frames { JudgesFramesByTheTable }
     ensures block { JudgesBlocksByTheTable }
     ensures first { FindsTheFirst }
+{}
+
+/// A slot is read alone, by its own bytes and those behind it, as the table says of it; and where
+/// the slots before it are good regular ones, and it isn't one, the judgement of the whole body
+/// says what it says. So who looks at some slots alone says of each what the judgement of the whole
+/// would say.
+pub fn slots_are_read_alone()
+    ensures frames { ReadsSlotsAlone }
+    ensures block { ReadsBlocksAlone }
+    ensures decides { DecidesForAll }
+    ensures full { FillsRegularSlots }
+    ensures short { KeepsFinalSlotsShort }
 {}
 
 /// A fault stays when bytes follow, and with it what was handed out before it.

@@ -19,7 +19,8 @@ use Rattle.frame_codec.proofs.Fields.{place}
 use Rattle.frame_codec.proofs.Steps.{after_head}
 use Rattle.frame_codec.proofs.Ways.{number_refused, final_number_refused, final_refused, Short, Other, Numbered, Regular, Marked, FinalOther, FinalNumbered, FinalLong, Final, frame_way, block_refused, block_limited, BlockShort, BlockLong, BlockOver, Block, block_way}
 use Rattle.frame_codec.proofs.Heads.{Wants, Refuses, Reads, head_way, ReadsHead, head_refuses, head_reads}
-use Rattle.frame_codec.proofs.Units.{unit_size, opened_there, unit_wants, unit_reads, unit_refuses}
+use Rattle.frame_codec.specs.InPlace.{unit_size}
+use Rattle.frame_codec.proofs.Units.{opened_there, unit_wants, unit_reads, unit_refuses}
 use Rattle.frame_codec.proofs.Answering.{refused_answer, unit_answer}
 
 -- ---- fields before the content

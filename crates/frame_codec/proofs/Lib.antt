@@ -12,3 +12,4 @@ pub mod Answering
 pub mod FaultyUnits
 pub mod AadLemmas
 pub mod SpelledUnits
+pub mod InPlace

@@ -2,7 +2,7 @@
 use Rattle.std.proofs.Common.{◌≡◌, ℕ, ◌<◌, ◌≤◌, true, false, Option, Some, None, refl}
 use Rattle.std.specs.Prelude.{IfSome, IsSomeAnd}
 use Rattle.std.proofs.lemmas.Bool.{ltb-true, ltb-false, le-ltb, lt-ltb}
-use Rattle.frame_codec.specs.UnitHead.{is_over}
+use Rattle.esdk_fields.specs.Limits.{is_over}
 
 pub within_limit : (max : Option ℕ) (n : ℕ) → is_over max n ≡ false → IfSome max (λ most. n ≤ most)
 within_limit None n e = tt

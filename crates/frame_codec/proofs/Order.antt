@@ -11,7 +11,8 @@ use Rattle.esdk_fields.specs.Reading.{◌>>=◌, ◌>>◌, done, bytes, number, 
 use Rattle.esdk_fields.specs.Sequential.{IsSequential}
 use Rattle.esdk_fields.proofs.Sequential.{IsSequential-bind, IsSequential-then, IsSequential-bytes, IsSequential-number, IsSequential-done, IsSequential-refuse_if, IsSequential-if}
 use Rattle.frame_codec.specs.declared.unit_heads.UnitHead.{UnitHead}
-use Rattle.frame_codec.specs.UnitHead.{final_mark, longest_block, is_over, regular_start, final_start, frame_start, block_start, unit_head}
+use Rattle.esdk_fields.specs.Limits.{is_over}
+use Rattle.frame_codec.specs.UnitHead.{final_mark, longest_block, regular_start, final_start, frame_start, block_start, unit_head}
 use Rattle.frame_codec.specs.Unit.{piece_of, opens, opened_unit, unit, Under, frame, block}
 use Rattle.frame_codec.proofs.Steps.{made_regular, made_final, made_block, after_length, after_iv, after_final_number, after_number, after_block_length, after_block_iv, after_tag, after_cipher, after_head}
 

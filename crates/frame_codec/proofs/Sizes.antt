@@ -14,7 +14,8 @@ use Rattle.frame_codec.proofs.Fields.{place, read_once}
 use Rattle.frame_codec.specs.UnitAad.{unit_aad}
 use Rattle.frame_codec.proofs.Ciphers.{length-sealed_cipher}
 use Rattle.frame_codec.proofs.Ways.{Short, Other, Numbered, Regular, Marked, FinalOther, FinalNumbered, FinalLong, Final, frame_way}
-use Rattle.frame_codec.proofs.Units.{unit_size, opened_there, unit_is_read}
+use Rattle.frame_codec.specs.InPlace.{unit_size}
+use Rattle.frame_codec.proofs.Units.{opened_there, unit_is_read}
 
 -- a regular frame has the frame length, and 16 bytes stand before it
 frame_head : (want size : ℕ) (left : List ℕ) (head : UnitHead) (next : Place) → frame_start want size (place 0 left) ≡ Read head next → head.kind ≡ kinds.Regular → (head.size ≡ 16) × (head.length ≡ size)

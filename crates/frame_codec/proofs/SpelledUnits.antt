@@ -16,7 +16,8 @@ use Rattle.cipher_spec.proofs.GcmLemmas.{sealed_from_opened}
 use Rattle.frame_codec.specs.declared.kinds.UnitKind.TheVariants as kinds
 use Rattle.frame_codec.specs.declared.unit_heads.UnitHead.{UnitHead}
 use Rattle.frame_codec.specs.UnitAad.{unit_aad}
-use Rattle.frame_codec.specs.UnitHead.{final_mark, longest_block, is_over, unit_head}
+use Rattle.esdk_fields.specs.Limits.{is_over}
+use Rattle.frame_codec.specs.UnitHead.{final_mark, longest_block, unit_head}
 use Rattle.frame_codec.specs.Unit.{Piece, More, Last, piece_of, opened_unit, unit, block}
 use Rattle.frame_codec.specs.Written.{sealed_unit, single_block}
 use Rattle.frame_codec.specs.Rows.{number_at, long_number_at}
@@ -27,7 +28,8 @@ use Rattle.frame_codec.proofs.Steps.{made_regular, made_final, made_block}
 use Rattle.frame_codec.proofs.Ways.{Short, Other, Numbered, Regular, Marked, FinalOther, FinalNumbered, FinalLong, Final, frame_way, BlockShort, BlockLong, BlockOver, Block, block_way}
 use Rattle.frame_codec.proofs.WrittenAgain.{regular_again, final_again, single_again}
 use Rattle.frame_codec.proofs.Sizes.{opened_length}
-use Rattle.frame_codec.proofs.Units.{unit_size, opened_there, UnitRead, unit_is_read}
+use Rattle.frame_codec.specs.InPlace.{unit_size}
+use Rattle.frame_codec.proofs.Units.{opened_there, UnitRead, unit_is_read}
 
 -- ---- fields, as they are spelled
 

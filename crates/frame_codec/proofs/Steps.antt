@@ -5,7 +5,8 @@ use Rattle.esdk_fields.specs.declared.faults.Fault.TheVariants.{WrongSequence, F
 use Rattle.esdk_fields.specs.Reading.{Reader, ◌>>=◌, ◌>>◌, done, bytes, number, refuse_if}
 use Rattle.frame_codec.specs.declared.kinds.UnitKind.TheVariants as kinds
 use Rattle.frame_codec.specs.declared.unit_heads.UnitHead.{UnitHead}
-use Rattle.frame_codec.specs.UnitHead.{final_mark, longest_block, is_over, regular_start, final_start}
+use Rattle.esdk_fields.specs.Limits.{is_over}
+use Rattle.frame_codec.specs.UnitHead.{final_mark, longest_block, regular_start, final_start}
 use Rattle.frame_codec.specs.Unit.{Piece, piece_of, opens, opened_unit}
 
 abbrev pub made_regular : ℕ → ℕ → List ℕ → UnitHead

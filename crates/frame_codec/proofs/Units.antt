@@ -12,6 +12,7 @@ use Rattle.frame_codec.specs.declared.kinds.UnitKind.{UnitKind}
 use Rattle.frame_codec.specs.declared.unit_heads.UnitHead.{UnitHead}
 use Rattle.frame_codec.specs.declared.unit_heads.Head.TheVariants as heads
 use Rattle.frame_codec.specs.UnitHead.{unit_head, head_of}
+use Rattle.frame_codec.specs.InPlace.{unit_size}
 use Rattle.frame_codec.specs.Unit.{Piece, piece_of, opens, opened_unit, unit, Under, frame}
 use Rattle.frame_codec.proofs.Steps.{after_head}
 use Rattle.frame_codec.proofs.Fields.{place, read_at, bytes_there, bytes_short, first_bytes_there, first_bytes_short, read_once}
@@ -56,10 +57,6 @@ content_refuses key id head left at h bad =
     (opened_refused (opened_there key id head left) head.number head.kind (place (at + (head.length + 16)) (drop (head.length + 16) left)) bad)
 
 -- ---- the unit
-
--- how many bytes the unit has
-abbrev pub unit_size : UnitHead → ℕ
-unit_size head = head.size + head.length + 16
 
 pub unit_wants_head : (content : Content) (max_unit : Option ℕ) (key id : List ℕ) (want : ℕ) (left : List ℕ) (n at : ℕ) → head_of content want max_unit left ≡ heads.NeedMore n
     → unit content max_unit key id want (place at left) ≡ Wanting

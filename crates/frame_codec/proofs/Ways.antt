@@ -3,7 +3,8 @@ use Rattle.std.proofs.Common.{◌≡◌, ◌≢◌, ℕ, ◌+◌, ◌<◌, ◌�
 use Rattle.std.proofs.lemmas.Bool.{cases_Bool, cases_lt, cases_eq, ne_eqb, eq-eqb, le-ltb, lt-ltb}
 use Rattle.esdk_fields.specs.declared.faults.Fault.TheVariants.{WrongSequence, FinalTooLong, BlockTooLong, UnitTooLong}
 use Rattle.esdk_fields.specs.Reading.{Read, Refused, Wanting}
-use Rattle.frame_codec.specs.UnitHead.{final_mark, longest_block, is_over, regular_start, final_start, frame_start, block_start}
+use Rattle.esdk_fields.specs.Limits.{is_over}
+use Rattle.frame_codec.specs.UnitHead.{final_mark, longest_block, regular_start, final_start, frame_start, block_start}
 use Rattle.frame_codec.specs.Rows.{number_at, long_number_at}
 use Rattle.frame_codec.proofs.Fields.{place, bytes_there, bytes_short, number32_there, number32_short, number64_there, number64_short, first_number_there, first_number_short, first_bytes_there, first_bytes_short}
 use Rattle.frame_codec.proofs.Steps.{made_regular, made_final, made_block}

@@ -12,7 +12,8 @@ use Rattle.frame_codec.specs.declared.kinds.UnitKind.{UnitKind}
 use Rattle.frame_codec.specs.declared.kinds.UnitKind.TheVariants as kinds
 use Rattle.frame_codec.specs.declared.unit_heads.UnitHead.{UnitHead}
 use Rattle.frame_codec.specs.UnitAad.{unit_aad, iv_of}
-use Rattle.frame_codec.specs.UnitHead.{final_mark, longest_block, is_over, regular_start, final_start, frame_start, block_start, unit_head}
+use Rattle.esdk_fields.specs.Limits.{is_over}
+use Rattle.frame_codec.specs.UnitHead.{final_mark, longest_block, regular_start, final_start, frame_start, block_start, unit_head}
 use Rattle.frame_codec.specs.Unit.{More, Last, piece_of, opened_unit, unit, Under, frame, block}
 use Rattle.frame_codec.specs.Written.{sealed_unit, regular_head, final_head, regular_frame, final_frame, single_block}
 use Rattle.frame_codec.proofs.Ciphers.{length-sealed_cipher, length-sealed_tag, opened-sealed}

@@ -5,3 +5,5 @@ pub mod Written
 pub mod Rows
 pub mod Spelled
 pub mod Laws
+pub mod UnitBuffer
+pub mod InPlace

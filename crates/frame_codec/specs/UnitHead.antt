@@ -1,11 +1,12 @@
 -- What stands before a unit's content, and what is judged at the last byte of each field.
 -- Standard: AWS Encryption SDK Specification, message body, "Regular Frame", "Final Frame", "Single Block"; the faults M9, M18, M19 and M21 are
 -- this library's.
-use Rattle.std.specs.Prelude.{ℕ, List, length, take, Bool, false, not, ◌==◌, nat_lt, if◌then◌else◌, Option, Some, None}
+use Rattle.std.specs.Prelude.{ℕ, List, length, take, Bool, not, ◌==◌, nat_lt, if◌then◌else◌, Option}
 use Rattle.std.specs.Int.{w32, w64}
 use Rattle.esdk_fields.specs.declared.faults.Fault.TheVariants.{WrongSequence, FinalTooLong, BlockTooLong, UnitTooLong}
 use Rattle.esdk_fields.specs.declared.contents.Content.{Content}
 use Rattle.esdk_fields.specs.declared.contents.Content.TheVariants as contents
+use Rattle.esdk_fields.specs.Limits.{is_over}
 use Rattle.esdk_fields.specs.Place.{start}
 use Rattle.esdk_fields.specs.Numbers.{from_big_endian}
 use Rattle.esdk_fields.specs.Reading.{Reading, Read, Refused, Wanting, Reader, ◌>>=◌, ◌>>◌, done, bytes, number, refuse_if}
@@ -22,11 +23,6 @@ final_mark = 4294967295
 -- the most bytes that AES-GCM takes under one initialization vector
 abbrev pub longest_block : ℕ
 longest_block = 68719476704
-
--- over a limit, where there is one
-abbrev pub is_over : Option ℕ → ℕ → Bool
-is_over None n = false
-is_over (Some most) n = nat_lt most n
 
 -- a regular frame, behind its number
 unfoldable pub regular_start : ℕ → ℕ → ℕ → Reader UnitHead

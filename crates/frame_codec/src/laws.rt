@@ -1,6 +1,7 @@
 //! Laws about units. A law is a function that does nothing: its contract is what is proved.
 
 ghost use Rattle.frame_codec.specs.Laws.{JudgesUnitsInOrder, ReadsSpelledUnits, RefusesFaultyUnits, AsksForMore, NamesFaults, DecidesWithNeededBytes, ReadsBackRegularFrames, ReadsBackFinalFrames, ReadsBackSingleBlocks, HaveOneSize, HasRegularSize, HasFinalSize, HasBlockSize, TellsUnitsApart};
+ghost use Rattle.frame_codec.specs.InPlace.{ReadsInPlace};
 
 /// A fault stays when bytes follow, and comes with the last byte of its field, no earlier and no
 /// later; so does a unit's content.
@@ -12,6 +13,12 @@ pub fn units_are_judged_in_order()
 /// initialization vector, and its content sealed with that.
 pub fn spelled_units_are_read()
     ensures { ReadsSpelledUnits }
+{}
+
+/// What a unit is read as, by what a caller sees who fills a buffer with its bytes and opens it
+/// there: what `judge_head` answers, how many bytes are there, and what opens of them.
+pub fn units_are_read_in_place()
+    ensures { ReadsInPlace }
 {}
 
 /// A unit is refused exactly where a field before its content has a fault by the format's rows, or

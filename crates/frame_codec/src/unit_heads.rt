@@ -2,10 +2,11 @@
 
 ghost use Rattle.std.specs.Prelude.{◌≡◌, ◌≢◌, ◌<◌, ◌≤◌, length, IfOk};
 ghost use Rattle.esdk_fields.specs.Gives.{Gives, TakesNoMemory};
-ghost use Rattle.frame_codec.specs.UnitHead.{final_mark, longest_block, IfRegular, IfUnit, regular_start, final_start, frame_start, block_start, is_over, unit_head, needed, head_of};
+ghost use Rattle.esdk_fields.specs.Limits.{is_over};
+ghost use Rattle.frame_codec.specs.UnitHead.{final_mark, longest_block, IfRegular, IfUnit, regular_start, final_start, frame_start, block_start, unit_head, needed, head_of};
 
 use crate::kinds::UnitKind;
-use esdk_fields::{Content, Cursor, Fault, Stop, bytes_of, refused, u32_of, u64_of};
+use esdk_fields::{Content, Cursor, Fault, Stop, bytes_of, is_over, refused, u32_of, u64_of};
 
 /// The mark that stands before a final frame's number.
 const FINAL_MARK: u32 = 0xffff_ffff;
@@ -109,16 +110,6 @@ fn frame_start_of(cursor: &mut Cursor<'_>, want: u32, frame: u32) -> Result<Unit
         final_start_of(cursor, want, frame)
     } else {
         regular_start_of(cursor, want, frame, got)
-    }
-}
-
-/// Whether the number is over the limit, where there is one.
-fn is_over(max_unit: Option<u64>, length: u64) -> bool
-    ensures { result ≡ is_over max_unit length }
-{
-    match max_unit {
-        None => false,
-        Some(most) => most < length,
     }
 }
 

@@ -8,3 +8,4 @@ pub mod WrittenMessages
 pub mod RoundTrip
 pub mod Lines
 pub mod LegacyMessages
+pub mod KeptLocks

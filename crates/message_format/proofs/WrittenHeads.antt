@@ -14,7 +14,8 @@ use Rattle.context_codec.specs.Context.{KeyValue, ctx_text}
 use Rattle.edk_codec.specs.Entry.{Entry}
 use Rattle.header_codec.specs.declared.settings.Settings.{Settings}
 use Rattle.header_codec.specs.Header.{HeaderValue, latest_end}
-use Rattle.header_codec.specs.Table.{is_over, made_of, BeginsWith}
+use Rattle.esdk_fields.specs.Limits.{is_over}
+use Rattle.header_codec.specs.Table.{made_of, BeginsWith}
 use Rattle.header_codec.specs.Written.{AreHeaderParts, committing, header_refusal, keys_end, written_value}
 use Rattle.header_codec.proofs.Contents.{limit_within}
 use Rattle.header_codec.proofs.CommittingHeaders.{committing_is_read}

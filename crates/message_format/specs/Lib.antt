@@ -3,3 +3,4 @@ pub mod Judgement
 pub mod Reading
 pub mod Laws
 pub mod Legacy
+pub mod Unlocking

@@ -7,11 +7,16 @@
 //! it a second time, line by line, and what follows: a written message is whole and has its text, a
 //! fault stays when bytes follow, and what was released is never taken back. The code is what
 //! writing and reading share: the message's key, the header's tag, and what unlocks a header.
+//!
+//! `unlock` asks a materials manager about a header, and tries what it finds on the header's lock;
+//! `specs/Unlocking.antt` says what that comes to. `unlocked_key` is the lock alone, for who has
+//! the data key by other ways.
 #![tactic(auto)]
 
-mod comparing;
 mod laws;
 mod locks;
+mod unlock_errors;
+mod unlocking;
 
 pub use laws::{
     faults_stay, fronts_go_on, judgement_goes_line_by_line, legacy_messages_are_judged,
@@ -19,3 +24,5 @@ pub use laws::{
     written_messages_are_read, written_messages_are_whole,
 };
 pub use locks::{header_tag, message_key, unlocked_key};
+pub use unlock_errors::UnlockError;
+pub use unlocking::{Asked, Unlocked, materials_for, unlock, unlocked_by};

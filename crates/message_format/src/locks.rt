@@ -9,22 +9,26 @@ ghost use Rattle.suite_table.specs.Suites.{id_length};
 ghost use Rattle.message_format.specs.Message.{tag_under};
 ghost use Rattle.message_format.specs.Judgement.{commits, UnlocksAs};
 
-use crate::comparing::same;
 use context_codec::Context;
 use esdk_fields::{Blob, Fault};
-use gcm_core::GcmKey;
+use gcm_core::{GcmKey, same};
 use header_codec::HeaderLock;
 use keyring_trait::DataKey;
 use std::alloc::{AllocError, Global};
 use suite_table::{Suite, committed_keys, derived};
 
 /// The key of a message's header tag and units, ready for use: what the suite derives from the data
-/// key and the message id, which is as long as the suite says.
-pub fn message_key(suite: Suite, key: &DataKey, message_id: &[u8]) -> GcmKey
+/// key and the message id, which is as long as the suite says. Fails only where memory runs out.
+pub fn message_key(
+    alloc: Global,
+    suite: Suite,
+    key: &DataKey,
+    message_id: &[u8],
+) -> Result<GcmKey, AllocError>
     requires id { length message_id.now ≡ id_length suite }
-    ensures { result ≡ derived suite key.now message_id.now }
+    ensures { IfOk result (λ made. made ≡ derived suite key.now message_id.now) }
 {
-    GcmKey::new(&derived(suite, key.bytes(), message_id))
+    GcmKey::new(alloc, &derived(suite, key.bytes(), message_id))
 }
 
 /// The authentication tag of a header under the message's key: of its body, and of the pairs that
@@ -103,7 +107,7 @@ pub fn unlocked_key(
     let Some(derived) = committed_key(header, key) else {
         return Ok(Err(Fault::Commitment));
     };
-    let mut key = GcmKey::new(&derived);
+    let mut key = GcmKey::new(alloc, &derived)?;
     let tag = header_tag(alloc, &mut key, header.iv(), header.raw(), only)?;
     if !same(header.tag(), &tag) {
         return Ok(Err(Fault::HeaderTag));
