@@ -6,32 +6,16 @@ use Rattle.header_codec.specs.declared.settings.Settings.{Settings}
 use Rattle.keyring_trait.specs.Unlocking.{Unlocks}
 use Rattle.body_format.specs.declared.verdicts.Verdict.TheVariants.{Whole}
 use Rattle.message_format.specs.Judgement.{content, judged}
-use Rattle.stream_open.specs.declared.session.Opener.{Opener}
-use Rattle.stream_open.specs.Feeding.{GoesOn}
-use Rattle.stream_open.specs.Session.{OpeningValue, judged_now}
-use Rattle.stream_open.specs.Stands.{Stands}
 
--- neither the number of data keys nor the length of a unit is bounded, and the message has to commit to its data key
+-- neither the number of data keys nor the length of a unit is bounded, and the message has to commit
+-- to its data key
 abbrev pub no_limits : Settings
 no_limits = record { max_keys = None; max_unit = None; uncommitted = false }
 
--- No error stopped the opener, and no fault stands in the bytes that it took.
-pub record IsGoing (opener : Opener) : Type 0 where
-  pub session : OpeningValue
-  pub stands : Stands opener session
-  pub goes : GoesOn session
-
--- The same, where it took these bytes under these limits, and the output, of which this was told before and is now, gained the content that they release.
-pub record IsTaken (limits : Settings) (bytes : List ℕ) (before now : Option (List ℕ)) (opener : Opener) : Type 0 where
-  pub session : OpeningValue
-  pub stands : Stands opener session
-  pub goes : GoesOn session
-  pub settings : session.settings ≡ limits
-  pub taken : session.taken ≡ bytes
-  pub gained : Appends before now (content (judged_now session))
-
--- The bytes are one whole message, which some data key unlocks with this whole context, and the output gained its text.
-pub record OpensWhole (settings : Settings) (bytes : List ℕ) (context : List KeyValue) (before now : Option (List ℕ)) : Type 0 where
+-- The bytes are one whole message, which some data key unlocks with this whole context, and the
+-- output gained its text.
+pub record OpensWhole (settings : Settings) (bytes : List ℕ) (context : List KeyValue)
+    (before now : Option (List ℕ)) : Type 0 where
   pub only : List KeyValue
   pub key : List ℕ
   pub whole : (judged bytes settings (Unlocks context only key)).verdict ≡ Whole

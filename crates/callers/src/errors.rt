@@ -1,5 +1,6 @@
 //! Why a caller here gives up.
 
+use esdk_base::{Failed, FeedError};
 use keyring_file::TreeError;
 use keyring_trait::ManagerError;
 use raw_aes_keyring::RawError;
@@ -56,9 +57,27 @@ impl From<TreeError> for CallError {
     }
 }
 
-impl From<esdk_base::Failed> for CallError {
-    fn from(_: esdk_base::Failed) -> CallError {
+impl From<Failed> for CallError {
+    fn from(_: Failed) -> CallError {
         CallError::Output
+    }
+}
+
+impl From<FeedError<SealError, Failed>> for CallError {
+    fn from(error: FeedError<SealError, Failed>) -> CallError {
+        match error {
+            FeedError::Machine(error) => CallError::Seal(error),
+            FeedError::Receiver(_) => CallError::Output,
+        }
+    }
+}
+
+impl From<FeedError<OpenError, Failed>> for CallError {
+    fn from(error: FeedError<OpenError, Failed>) -> CallError {
+        match error {
+            FeedError::Machine(error) => CallError::Open(error),
+            FeedError::Receiver(_) => CallError::Output,
+        }
     }
 }
 

@@ -1,9 +1,8 @@
 //! A message that comes in pieces, opened.
 
-ghost use Rattle.std.specs.Prelude.{◌++◌, List, ℕ, Option, map, IfOk, OnOk};
+ghost use Rattle.std.specs.Prelude.{map, IfOk};
 ghost use Rattle.std.specs.List.{concat};
-ghost use Rattle.header_codec.specs.declared.settings.Settings.{Settings};
-ghost use Rattle.callers.specs.Opening.{IsGoing, IsTaken, OpensWhole, no_limits};
+ghost use Rattle.callers.specs.Opening.{OpensWhole, no_limits};
 
 use crate::errors::CallError;
 use context_codec::Context;
@@ -35,7 +34,7 @@ pub(crate) fn open_pieces<M: Manager, O: Sink>(
 {
     let mut opener = Opener::new(alloc, Settings::none(), given);
     for piece in pieces {
-        open_piece(alloc, manager, now, &mut opener, piece, output)?;
+        opener.feed(alloc, manager, now, piece, output)?;
     }
     opener.finish()?;
     match opener.into_context() {
@@ -43,30 +42,4 @@ pub(crate) fn open_pieces<M: Manager, O: Sink>(
         // There is none only where the header wasn't unlocked; then more bytes were wanted.
         None => Err(CallError::Open(OpenError::Fault(Fault::Truncated))),
     }
-}
-
-/// Feeds one piece: each step takes bytes up to the end of the header, of a frame or of the piece.
-fn open_piece<M: Manager, O: Sink>(
-    alloc: Global,
-    manager: &mut M,
-    now: u64,
-    opener: &mut Opener,
-    piece: &[u8],
-    output: &mut O,
-) -> Result<(), CallError>
-    requires going { IsGoing opener.old }
-    ensures going { OnOk result (IsGoing opener.new) }
-    ensures taken { (settings : Settings) (bytes : List ℕ) (before : Option (List ℕ))
-        → IsTaken settings bytes before (O.state output.old).written opener.old
-        → OnOk result (IsTaken settings (bytes ++ piece.now) before
-        (O.state output.new).written opener.new) }
-{
-    let mut left = piece;
-    while !left.is_empty() {
-        let used = opener.step(alloc, manager, now, left)?;
-        output.put(opener.out())?;
-        let (_taken, rest) = left.split_at(used);
-        left = rest;
-    }
-    Ok(())
 }

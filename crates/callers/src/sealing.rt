@@ -3,11 +3,7 @@
 ghost use Rattle.std.specs.Prelude.{◌≡◌, ◌+◌, ◌*◌, ◌≤◌, None, length, map, take, IfOk, OnOk};
 ghost use Rattle.std.specs.Io.KnownBytes.{Appends};
 ghost use Rattle.std.specs.List.{concat};
-ghost use Rattle.stream_seal.specs.Feeding.{IsFed};
-ghost use Rattle.stream_seal.specs.Session.{SealingValue};
-ghost use Rattle.stream_seal.specs.Stands.{Stands};
 ghost use Rattle.stream_seal.specs.Start.{message_of};
-ghost use Rattle.callers.specs.Sealing.{TakesPiece};
 
 use crate::errors::CallError;
 use cmm_default::DefaultCmm;
@@ -55,25 +51,8 @@ pub(crate) fn seal_pieces<O: Sink>(
     let mut sealer = Sealer::begin(alloc, materials, None, frame_length, None, message_id)?;
     output.put(sealer.header())?;
     for piece in pieces {
-        seal_piece(&mut sealer, piece, output)?;
+        sealer.feed(piece, output)?;
     }
-    sealer.finish()?;
-    output.put(sealer.out())?;
-    Ok(())
-}
-
-/// Feeds one piece: each step takes some of it, or gives a frame that is full.
-fn seal_piece<O: Sink>(sealer: &mut Sealer, piece: &[u8], output: &mut O) -> Result<(), CallError>
-    ensures { (v : SealingValue) → Stands sealer.old v → IsFed v
-        → OnOk result (TakesPiece v piece.now (O.state output.old).written
-        (O.state output.new).written sealer.new) }
-{
-    let mut left = piece;
-    while !left.is_empty() {
-        let used = sealer.step(left)?;
-        output.put(sealer.out())?;
-        let (_taken, rest) = left.split_at(used);
-        left = rest;
-    }
+    sealer.finish_into(output)?;
     Ok(())
 }

@@ -41,7 +41,7 @@ fn put_unlocking(
     only: &Context,
     line: &mut Line,
 ) -> Result<(), AllocError> {
-    let mut message_key = message_key(header.algorithm(), key, header.message_id());
+    let mut message_key = message_key(alloc, header.algorithm(), key, header.message_id())?;
     let tag = header_tag(alloc, &mut message_key, header.iv(), header.raw(), only)?;
     line.bytes(&tag);
     match unlocked_key(alloc, header.lock(), only, key)? {

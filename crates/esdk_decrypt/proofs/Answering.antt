@@ -1,5 +1,5 @@
 -- The answer that a session keeps is the manager's to the header at the front of its bytes.
-use Rattle.std.proofs.Common.{◌≡◌, ◌∙◌, ℕ, ◌≤◌, List, [], ◌++◌, length, take, min, true, false, Option, Some, None, refl, sym, ap, subst, arith, append_assoc, length-append}
+use Rattle.std.proofs.Common.{◌≡◌, ◌∙◌, ℕ, ◌≤◌, List, [], ◌++◌, length, min, true, false, Option, Some, None, refl, sym, ap, subst, arith, append_assoc, length-append}
 use Rattle.std.proofs.lemmas.List.{take_min, take-append-le}
 use Rattle.std.specs.Io.KnownBytes.{Appends}
 use Rattle.std.specs.List.{concat}
@@ -16,11 +16,12 @@ use Rattle.header_codec.specs.Header.{HeaderValue}
 use Rattle.header_codec.specs.Table.{Head, head, header}
 use Rattle.header_codec.proofs.Order.{IsSequential-header}
 use Rattle.keyring_trait.specs.declared.manager_errors.ManagerError.TheVariants.{KeyringFault}
+use Rattle.keyring_trait.specs.Saying.{Saying}
 use Rattle.keyring_trait.specs.Unlocking.{Unlocking, Refuses, Unlocks}
 use Rattle.message_format.specs.Judgement.{Judged, content, header_of, judged}
 use Rattle.message_format.proofs.Following.{header_stays, judged_goes_on, units_stay}
 use Rattle.message_format.proofs.Judging.{judged_refused, judged_wanting}
-use Rattle.stream_open.specs.Asking.{Asking, request_of}
+use Rattle.stream_open.specs.Asking.{request_of}
 use Rattle.body_format.specs.declared.verdicts.Verdict.{Verdict}
 use Rattle.body_format.specs.declared.verdicts.Verdict.TheVariants.{Going, Whole, Faulty}
 use Rattle.stream_open.specs.Feeding.{GoesOn, KeepsAnswer, header_in}
@@ -28,8 +29,7 @@ use Rattle.stream_open.specs.Session.{OpeningValue, answer_kept, is_faulty, judg
 use Rattle.whole_input.specs.Pieces.{most_piece}
 use Rattle.whole_input.specs.Taken.{Came}
 use Rattle.whole_input.specs.Written.{WritesBeyond}
-use Rattle.esdk_decrypt.specs.Decrypt.{Answering, AnswersReading, AnswersRequest, AnswersTo, Asked, FailsReading, FailsTo, ReleasesBeyond, ReleasesFront, fault_of}
-use Rattle.esdk_decrypt.specs.Underway.{asking_in}
+use Rattle.esdk_decrypt.specs.Decrypt.{Answering, AnswersReading, AnswersRequest, AnswersTo, Asked, FailsReading, FailsTo, ReleasesBeyond, ReleasesFront, answers_at, fault_of}
 
 -- ---- what is kept
 
@@ -52,37 +52,27 @@ answered_read manager settings given b answer parts p e answers = record {
 none_kept : (a : Unlocking) (kept : Option Unlocking) → kept ≡ None → IfSome kept (λ k. a ≡ k)
 none_kept a kept none = subst (λ (o : Option Unlocking). IfSome o (λ k. a ≡ k)) (sym none) tt
 
-answered_by : (manager : Answering) (settings : Settings) (given : List KeyValue) (b : List ℕ) (kept : Option Unlocking) (r : Reading Head) → header settings (start b) ≡ r
-    → KeepsAnswer (asking_in manager) given (option_map (header_of b) (value_of r)) kept → Answered manager settings given b (judged b settings (answer_kept kept)) kept
-answered_by manager settings given b None (Read parts p) e keeps = absurd keeps
-answered_by manager settings given b (Some (Unlocks whole only key)) (Read parts p) e keeps = answered_read manager settings given b (Unlocks whole only key) parts p e keeps
-answered_by manager settings given b (Some (Refuses fault)) (Read parts p) e keeps = answered_read manager settings given b (Refuses fault) parts p e keeps
-answered_by manager settings given b kept (Refused fault at) e keeps = record {
+answered_by : (manager : Saying) (now : ℕ) (settings : Settings) (given : List KeyValue) (b : List ℕ) (kept : Option Unlocking) (r : Reading Head) → header settings (start b) ≡ r
+    → KeepsAnswer manager now given (option_map (header_of b) (value_of r)) kept → Answered (answers_at manager now) settings given b (judged b settings (answer_kept kept)) kept
+answered_by manager now settings given b None (Read parts p) e keeps = absurd keeps
+answered_by manager now settings given b (Some (Unlocks whole only key)) (Read parts p) e keeps = answered_read (answers_at manager now) settings given b (Unlocks whole only key) parts p e keeps
+answered_by manager now settings given b (Some (Refuses fault)) (Read parts p) e keeps = answered_read (answers_at manager now) settings given b (Refuses fault) parts p e keeps
+answered_by manager now settings given b kept (Refused fault at) e keeps = record {
   answer = Refuses fault;
-  answered = subst (λ (r : Reading Head). AnswersReading manager given b r (Refuses fault)) (sym e) refl;
+  answered = subst (λ (r : Reading Head). AnswersReading (answers_at manager now) given b r (Refuses fault)) (sym e) refl;
   same = judged_refused b settings (Refuses fault) fault at e ∙ sym (judged_refused b settings (answer_kept kept) fault at e);
   keeps = none_kept (Refuses fault) kept keeps;
 }
-answered_by manager settings given b kept Wanting e keeps = record {
+answered_by manager now settings given b kept Wanting e keeps = record {
   answer = Refuses Truncated;
-  answered = subst (λ (r : Reading Head). AnswersReading manager given b r (Refuses Truncated)) (sym e) refl;
+  answered = subst (λ (r : Reading Head). AnswersReading (answers_at manager now) given b r (Refuses Truncated)) (sym e) refl;
   same = judged_wanting b settings (Refuses Truncated) e ∙ sym (judged_wanting b settings (answer_kept kept) e);
   keeps = none_kept (Refuses Truncated) kept keeps;
 }
 
-pub answered_kept : (manager : Answering) (settings : Settings) (given : List KeyValue) (b : List ℕ) (kept : Option Unlocking) → KeepsAnswer (asking_in manager) given (header_in settings b) kept
-    → Answered manager settings given b (judged b settings (answer_kept kept)) kept
-answered_kept manager settings given b kept keeps = answered_by manager settings given b kept (header settings (start b)) refl keeps
-
--- while none is kept, it matters to no manager
-keeps_none : (one other : Asking) (given : List KeyValue) (h : Option HeaderValue) → KeepsAnswer one given h None → KeepsAnswer other given h None
-keeps_none one other given None keeps = keeps
-keeps_none one other given (Some h) keeps = absurd keeps
-
-pub keeps_any : (one other : Asking) (given : List KeyValue) (h : Option HeaderValue) (kept : Option Unlocking) → kept ≡ None → KeepsAnswer one given h kept → KeepsAnswer other given h kept
-keeps_any one other given h kept none keeps =
-    subst (λ (o : Option Unlocking). KeepsAnswer other given h o) (sym none)
-    (keeps_none one other given h (subst (λ (o : Option Unlocking). KeepsAnswer one given h o) none keeps))
+pub answered_kept : (manager : Saying) (now : ℕ) (settings : Settings) (given : List KeyValue) (b : List ℕ) (kept : Option Unlocking) → KeepsAnswer manager now given (header_in settings b) kept
+    → Answered (answers_at manager now) settings given b (judged b settings (answer_kept kept)) kept
+answered_kept manager now settings given b kept keeps = answered_by manager now settings given b kept (header settings (start b)) refl keeps
 
 -- ---- a failure
 

@@ -1,7 +1,6 @@
 -- How a decryption begins, and how it ends when all bytes that came were fed.
 use Rattle.std.proofs.Common.{◌≡◌, ◌∙◌, ℕ, List, [], Bool, true, false, Option, Some, None, Result, Ok, Err, IfOk, if◌then◌else◌, refl, sym, ap, subst, inr, arith, append-nil}
-use Rattle.std.specs.Prelude.{IfErr, IfSome, IsErrAnd}
-use Rattle.std.proofs.KnownBytes.{Appends-nil}
+use Rattle.std.specs.Prelude.{IfErr, IfSome, IsErrAnd, ◌++◌}
 use Rattle.std.specs.Io.KnownBytes.{Appends}
 use Rattle.esdk_fields.specs.Place.{start}
 use Rattle.esdk_fields.specs.Reading.{Reading, Read, Refused, Wanting}
@@ -11,54 +10,38 @@ use Rattle.esdk_base.specs.Streams.{SinkState, SourceState}
 use Rattle.context_codec.specs.Context.{KeyValue}
 use Rattle.header_codec.specs.declared.settings.Settings.{Settings}
 use Rattle.header_codec.specs.Table.{Head, header}
+use Rattle.keyring_trait.specs.Manager.{ManagerNow}
+use Rattle.keyring_trait.specs.Saying.{Saying, said_last}
 use Rattle.keyring_trait.specs.Unlocking.{Unlocking, Refuses, Unlocks}
 use Rattle.body_format.specs.declared.verdicts.Verdict.{Verdict}
 use Rattle.body_format.specs.declared.verdicts.Verdict.TheVariants.{Going, Whole, Faulty}
 use Rattle.message_format.specs.Judgement.{Judged, content, header_of, judged, judged_lock, judged_reading, lock_fault}
-use Rattle.message_format.proofs.Judging.{judged_is}
+use Rattle.message_format.proofs.Judging.{judged_is, judged_wanting}
 use Rattle.stream_open.specs.declared.errors.OpenError.{OpenError}
 use Rattle.stream_open.specs.declared.errors.OpenError.TheVariants as opens
 use Rattle.stream_open.specs.declared.session.Opener.{Opener}
 use Rattle.stream_open.specs.Feeding.{GoesOn}
-use Rattle.stream_open.specs.Session.{OpeningValue, answer_kept, end_of, finish_answer, finished, is_framed, judged_now, opened, whole_context, whole_in}
-use Rattle.stream_open.specs.Stands.{Stands}
+use Rattle.stream_open.specs.Receiving.{FedWhole}
+use Rattle.stream_open.specs.Session.{OpeningValue, answer_kept, end_of, finish_answer, finished, is_framed, judged_now, new_session, whole_context, whole_in}
+use Rattle.stream_open.proofs.FedPieces.{keeps_fed}
 use Rattle.stream_open.proofs.Feeding.{ends_so, opened_goes}
 use Rattle.stream_open.proofs.Keeping.{opened_keeps}
 use Rattle.whole_input.specs.declared.pieces.End.{End}
 use Rattle.whole_input.specs.declared.pieces.End.TheVariants as ends
 use Rattle.whole_input.specs.Taken.{Came}
 use Rattle.whole_input.proofs.Coming.{came_none}
-use Rattle.esdk_decrypt.specs.Decrypt.{Answering, Asked, Decrypts, EndsSo, HasContext, HasNoMemory, Releases, fault_at_end, fault_of}
-use Rattle.esdk_decrypt.specs.Underway.{Concludes, ConcludesWhole, IsCalled, IsFedWhole, IsUnderway, asking_in}
+use Rattle.esdk_decrypt.specs.Decrypt.{Asked, Decrypts, DecryptEnds, HasContext, HasNoMemory, Releases, answering_of, answers_at, asked_from, fault_at_end, fault_of}
+use Rattle.esdk_decrypt.specs.Underway.{Concludes, ConcludesWhole, IsCalled, IsFedWhole, PutsAll}
 use Rattle.esdk_decrypt.specs.declared.errors.DecryptError.{DecryptError}
 use Rattle.esdk_decrypt.specs.declared.errors.DecryptError.TheVariants as errors
-use Rattle.esdk_decrypt.proofs.Answering.{Answered, answered_kept, nothing_unread, sound_none}
+use Rattle.esdk_decrypt.proofs.Answering.{Answered, answered_kept, nothing_unread, sound_none, still_wanting}
 
 -- ---- the beginning
 
--- nothing was fed yet
-pub underway_first : (manager : Answering) (settings : Settings) (given : List KeyValue) (unasked : Type 0) (output : SinkState) (unwritten : Type 0) (opener : Opener) → Stands opener (opened settings given)
-    → unasked → unwritten → IsUnderway (record { manager = manager; settings = settings; given = given }) unasked output output unwritten [] opener
-underway_first manager settings given unasked output unwritten opener stands first same =
-    let goes : GoesOn (opened settings given) = opened_goes settings given in
-    record {
-      session = opened settings given;
-      stands = stands;
-      goes = goes;
-      settings = refl;
-      given = refl;
-      taken = refl;
-      keeps = opened_keeps (asking_in manager) settings given;
-      first = λ none. first;
-      gained = subst (λ (c : List ℕ). Appends output.written output.written c) (sym (nothing_unread settings [] (answer_kept None) (goes.unheard refl))) (Appends-nil output.written);
-      faults = refl;
-      nothing = λ none. same;
-    }
-
 -- memory may run out before anything is read
-pub memory_first : (manager : Answering) (settings : Settings) (given : List KeyValue) (input : SourceState) → HasNoMemory (record { manager = manager; settings = settings; given = given }) input input
-memory_first manager settings given input =
-    let a = answered_kept manager settings given [] None (opened_keeps (asking_in manager) settings given) in
+pub memory_first : (manager : Saying) (now : ℕ) (settings : Settings) (given : List KeyValue) (input : SourceState) → HasNoMemory (record { manager = answers_at manager now; settings = settings; given = given }) input input
+memory_first manager now settings given input =
+    let a = answered_kept manager now settings given [] None (opened_keeps manager now settings given) in
     record {
       before = [];
       last = [];
@@ -67,6 +50,7 @@ memory_first manager settings given input =
       lacks = record {
         answer = a.answer;
         answered = a.answered;
+        going = ap (λ (j : Judged). j.verdict) (judged_wanting [] settings a.answer (still_wanting (new_session settings given) (opened_goes settings given) refl));
         unreserved = λ unlocked. ap is_framed ((opened_goes settings given).unheard refl);
       };
     }
@@ -156,14 +140,14 @@ unstopped_finish v goes e = unstopped_end (judged_now v).verdict (sym (ends_so v
 -- ---- the end of the decryption
 
 -- the manager's answer to the bytes that were fed
-come_to : (asked : Asked) (unasked : Type 0) (output put : SinkState) (unwritten : Type 0) (bytes : List ℕ) (opener : Opener) → (u : IsUnderway asked unasked output put unwritten bytes opener)
-    → Answered asked.manager asked.settings asked.given bytes (judged_now u.session) u.session.answer
-come_to asked unasked output put unwritten bytes opener u =
-    let v : OpeningValue = u.session in
-    let a : Answered asked.manager v.settings v.given v.taken (judged_now v) v.answer = answered_kept asked.manager v.settings v.given v.taken v.answer u.keeps in
-    subst (λ (x : Settings). Answered asked.manager x asked.given bytes (judged_now v) v.answer) u.settings
-    (subst (λ (x : List KeyValue). Answered asked.manager v.settings x bytes (judged_now v) v.answer) u.given
-    (subst (λ (x : List ℕ). Answered asked.manager v.settings v.given x (judged_now v) v.answer) u.taken a))
+come_to : {M O : Type 0} (state : M → ManagerNow) (sink : O → SinkState) (now : ℕ) (settings : Settings) (given : List KeyValue) (bytes : List ℕ) (old new : M) (output put : O) (opener : Opener)
+    → (u : FedWhole state (PutsAll sink) now (new_session settings given) bytes old new output put opener)
+    → Answered (answering_of (state old) (state new) now) settings given bytes (judged_now u.fed.session) u.fed.session.answer
+come_to state sink now settings given bytes old new output put opener u =
+    let v : OpeningValue = u.fed.session in
+    let a = answered_kept (said_last (state old) (state new)) now settings given bytes v.answer (keeps_fed state now (new_session settings given) bytes u.given old new opener u.fed refl) in
+    subst (λ (j : Judged). Answered (answering_of (state old) (state new) now) settings given bytes j v.answer)
+    (ap (λ (b : List ℕ). judged b settings (answer_kept v.answer)) (sym u.fed.feeds.taken) ∙ ap (λ (s : Settings). judged v.taken s (answer_kept v.answer)) (sym u.fed.feeds.settings)) a
 
 releases_by : (asked : Asked) (input taken : SourceState) (output put : SinkState) (bytes : List ℕ) (j : Judged) (kept : Option Unlocking) → (a : Answered asked.manager asked.settings asked.given bytes j kept)
     → Came input taken bytes → Appends output.written put.written (content j) → Releases asked input taken output put bytes a.answer
@@ -177,77 +161,87 @@ kept_is : (kept : Option Unlocking) (answer : Unlocking) (context only : List Ke
 kept_is None answer context only key kept is = absurd cc
 kept_is (Some k) answer context only key kept is = kept ∙ is
 
-concluded_ok : (asked : Asked) (unasked : Type 0) (input taken : SourceState) (output put : SinkState) (unwritten : Type 0) (end : End) (opener : Opener) (context : List KeyValue)
-    → (w : IsFedWhole asked unasked input taken output put unwritten end opener) → Concludes w.underway.session end (Ok context) → Decrypts asked input taken output put context
-concluded_ok asked unasked input taken output put unwritten ends.Seen opener context w (whole, context_is) =
-    let (only, key, is) = context_is in
-    let a = come_to asked unasked output put unwritten w.bytes opener w.underway in
-    let answer : a.answer ≡ Unlocks context only key = kept_is w.underway.session.answer a.answer context only key a.keeps is in
-    record {
-      bytes = w.bytes;
-      only = only;
-      key = key;
-      releases = subst (λ (x : Unlocking). Releases asked input taken output put w.bytes x) answer
-          (releases_by asked input taken output put w.bytes (judged_now w.underway.session) w.underway.session.answer a w.came w.underway.gained);
-      end = w.ends;
-      whole = ap (λ (x : Unlocking). (judged w.bytes asked.settings x).verdict) (sym answer) ∙ ap (λ (j : Judged). j.verdict) a.same ∙ whole;
-    }
-concluded_ok asked unasked input taken output put unwritten ends.Failed opener context w none = absurd none
-concluded_ok asked unasked input taken output put unwritten ends.TooLong opener context w none = absurd none
+module _ {M O : Type 0} (state : M → ManagerNow) (sink : O → SinkState) (now : ℕ) (settings : Settings) (given : List KeyValue) (old new : M) (output put : O) (input taken : SourceState) (opener : Opener) where
+  abbrev asked : Asked
+  asked = asked_from (state old) (state new) now settings given
 
-concluded_err : (asked : Asked) (unasked : Type 0) (input taken : SourceState) (output put : SinkState) (unwritten : Type 0) (end : End) (opener : Opener) (error : DecryptError)
-    → (w : IsFedWhole asked unasked input taken output put unwritten end opener) → Concludes w.underway.session end (Err error) → EndsSo asked input taken output put unwritten error
-concluded_err asked unasked input taken output put unwritten ends.Seen opener (errors.Fault fault) w is =
-    let a = come_to asked unasked output put unwritten w.bytes opener w.underway in
-    record {
-      bytes = w.bytes;
-      answer = a.answer;
-      releases = releases_by asked input taken output put w.bytes (judged_now w.underway.session) w.underway.session.answer a w.came w.underway.gained;
-      cause = inr (w.ends, ap (λ (j : Judged). fault_at_end j.verdict) a.same ∙ is);
-      last = record {
-        before = w.bytes;
-        piece = [];
-        all = sym (append-nil w.bytes);
-        few = omega arith;
-        was = ap (λ (j : Judged). fault_of j.verdict) a.same ∙ sound_none (judged_now w.underway.session).verdict w.underway.goes.sound;
-      };
-    }
-concluded_err asked unasked input taken output put unwritten ends.Seen opener (errors.Outside outside) w none = absurd none
-concluded_err asked unasked input taken output put unwritten ends.Seen opener errors.Memory w none = absurd none
-concluded_err asked unasked input taken output put unwritten ends.Failed opener (errors.Outside outsides.SourceFault) w is =
-    let a = come_to asked unasked output put unwritten w.bytes opener w.underway in
-    record {
-      bytes = w.bytes;
-      answer = a.answer;
-      releases = releases_by asked input taken output put w.bytes (judged_now w.underway.session) w.underway.session.answer a w.came w.underway.gained;
-      sound = ap (λ (j : Judged). fault_of j.verdict) a.same ∙ sound_none (judged_now w.underway.session).verdict w.underway.goes.sound;
-      rose = w.ends;
-    }
-concluded_err asked unasked input taken output put unwritten ends.Failed opener (errors.Outside other) w none = absurd none
-concluded_err asked unasked input taken output put unwritten ends.Failed opener (errors.Fault fault) w none = absurd none
-concluded_err asked unasked input taken output put unwritten ends.Failed opener errors.Memory w none = absurd none
-concluded_err asked unasked input taken output put unwritten ends.TooLong opener (errors.Outside outsides.InputTooLong) w is =
-    let a = come_to asked unasked output put unwritten w.bytes opener w.underway in
-    record {
-      bytes = w.bytes;
-      answer = a.answer;
-      releases = releases_by asked input taken output put w.bytes (judged_now w.underway.session) w.underway.session.answer a w.came w.underway.gained;
-      sound = ap (λ (j : Judged). fault_of j.verdict) a.same ∙ sound_none (judged_now w.underway.session).verdict w.underway.goes.sound;
-      most = w.ends;
-    }
-concluded_err asked unasked input taken output put unwritten ends.TooLong opener (errors.Outside other) w none = absurd none
-concluded_err asked unasked input taken output put unwritten ends.TooLong opener (errors.Fault fault) w none = absurd none
-concluded_err asked unasked input taken output put unwritten ends.TooLong opener errors.Memory w none = absurd none
+  gained_in : (bytes : List ℕ) (u : FedWhole state (PutsAll sink) now (new_session settings given) bytes old new output put opener)
+      → Appends (sink output).written (sink put).written (content (judged_now u.fed.session))
+  gained_in bytes u =
+      subst (λ (c : List ℕ). Appends (sink output).written (sink put).written c)
+      (sym (u.fed.feeds.content ∙ ap (λ (c : List ℕ). c ++ u.given) (nothing_unread settings [] (answer_kept None) ((opened_goes settings given).unheard refl)))) u.taken.gained
 
-pub concludes_done : (asked : Asked) (unasked : Type 0) (input taken : SourceState) (output put : SinkState) (unwritten : Type 0) (end : End) (opener : Opener) (r : Result (List KeyValue) DecryptError)
-    → (w : IsFedWhole asked unasked input taken output put unwritten end opener) → Concludes w.underway.session end r → IfOk r (Decrypts asked input taken output put)
-concludes_done asked unasked input taken output put unwritten end opener (Ok context) w concludes = concluded_ok asked unasked input taken output put unwritten end opener context w concludes
-concludes_done asked unasked input taken output put unwritten end opener (Err error) w concludes = tt
+  concluded_ok : (end : End) (context : List KeyValue)
+      → (w : IsFedWhole state sink now (new_session settings given) input taken old new output put end opener) → Concludes w.fed.fed.session end (Ok context) → Decrypts asked input taken (sink output) (sink put) context
+  concluded_ok ends.Seen context w (whole, context_is) =
+      let (only, key, is) = context_is in
+      let a = come_to state sink now settings given w.bytes old new output put opener w.fed in
+      let answer : a.answer ≡ Unlocks context only key = kept_is w.fed.fed.session.answer a.answer context only key a.keeps is in
+      record {
+        bytes = w.bytes;
+        only = only;
+        key = key;
+        releases = subst (λ (x : Unlocking). Releases asked input taken (sink output) (sink put) w.bytes x) answer
+            (releases_by asked input taken (sink output) (sink put) w.bytes (judged_now w.fed.fed.session) w.fed.fed.session.answer a w.came (gained_in w.bytes w.fed));
+        end = w.ends;
+        whole = ap (λ (x : Unlocking). (judged w.bytes asked.settings x).verdict) (sym answer) ∙ ap (λ (j : Judged). j.verdict) a.same ∙ whole;
+      }
+  concluded_ok ends.Failed context w none = absurd none
+  concluded_ok ends.TooLong context w none = absurd none
 
-pub concludes_ends : (asked : Asked) (unasked : Type 0) (input taken : SourceState) (output put : SinkState) (unwritten : Type 0) (end : End) (opener : Opener) (r : Result (List KeyValue) DecryptError)
-    → (w : IsFedWhole asked unasked input taken output put unwritten end opener) → Concludes w.underway.session end r → IfErr r (EndsSo asked input taken output put unwritten)
-concludes_ends asked unasked input taken output put unwritten end opener (Ok context) w concludes = tt
-concludes_ends asked unasked input taken output put unwritten end opener (Err error) w concludes = concluded_err asked unasked input taken output put unwritten end opener error w concludes
+  concluded_err : (end : End) (error : DecryptError)
+      → (w : IsFedWhole state sink now (new_session settings given) input taken old new output put end opener) → Concludes w.fed.fed.session end (Err error) → DecryptEnds asked input taken (sink output) (sink put) (put ≡ output) error
+  concluded_err ends.Seen (errors.Fault fault) w is =
+      let a = come_to state sink now settings given w.bytes old new output put opener w.fed in
+      record {
+        bytes = w.bytes;
+        answer = a.answer;
+        releases = releases_by asked input taken (sink output) (sink put) w.bytes (judged_now w.fed.fed.session) w.fed.fed.session.answer a w.came (gained_in w.bytes w.fed);
+        cause = inr (w.ends, ap (λ (j : Judged). fault_at_end j.verdict) a.same ∙ is);
+        last = record {
+          before = w.bytes;
+          piece = [];
+          all = sym (append-nil w.bytes);
+          few = omega arith;
+          was = ap (λ (j : Judged). fault_of j.verdict) a.same ∙ sound_none (judged_now w.fed.fed.session).verdict w.fed.fed.feeds.goes.sound;
+        };
+      }
+  concluded_err ends.Seen (errors.Outside outside) w none = absurd none
+  concluded_err ends.Seen errors.Memory w none = absurd none
+  concluded_err ends.Failed (errors.Outside outsides.SourceFault) w is =
+      let a = come_to state sink now settings given w.bytes old new output put opener w.fed in
+      record {
+        bytes = w.bytes;
+        answer = a.answer;
+        releases = releases_by asked input taken (sink output) (sink put) w.bytes (judged_now w.fed.fed.session) w.fed.fed.session.answer a w.came (gained_in w.bytes w.fed);
+        sound = ap (λ (j : Judged). fault_of j.verdict) a.same ∙ sound_none (judged_now w.fed.fed.session).verdict w.fed.fed.feeds.goes.sound;
+        rose = w.ends;
+      }
+  concluded_err ends.Failed (errors.Outside other) w none = absurd none
+  concluded_err ends.Failed (errors.Fault fault) w none = absurd none
+  concluded_err ends.Failed errors.Memory w none = absurd none
+  concluded_err ends.TooLong (errors.Outside outsides.InputTooLong) w is =
+      let a = come_to state sink now settings given w.bytes old new output put opener w.fed in
+      record {
+        bytes = w.bytes;
+        answer = a.answer;
+        releases = releases_by asked input taken (sink output) (sink put) w.bytes (judged_now w.fed.fed.session) w.fed.fed.session.answer a w.came (gained_in w.bytes w.fed);
+        sound = ap (λ (j : Judged). fault_of j.verdict) a.same ∙ sound_none (judged_now w.fed.fed.session).verdict w.fed.fed.feeds.goes.sound;
+        most = w.ends;
+      }
+  concluded_err ends.TooLong (errors.Outside other) w none = absurd none
+  concluded_err ends.TooLong (errors.Fault fault) w none = absurd none
+  concluded_err ends.TooLong errors.Memory w none = absurd none
+
+  pub concludes_done : (end : End) (r : Result (List KeyValue) DecryptError)
+      → (w : IsFedWhole state sink now (new_session settings given) input taken old new output put end opener) → Concludes w.fed.fed.session end r → IfOk r (Decrypts asked input taken (sink output) (sink put))
+  concludes_done end (Ok context) w concludes = concluded_ok end context w concludes
+  concludes_done end (Err error) w concludes = tt
+
+  pub concludes_ends : (end : End) (r : Result (List KeyValue) DecryptError)
+      → (w : IsFedWhole state sink now (new_session settings given) input taken old new output put end opener) → Concludes w.fed.fed.session end r → IfErr r (DecryptEnds asked input taken (sink output) (sink put) (put ≡ output))
+  concludes_ends end (Ok context) w concludes = tt
+  concludes_ends end (Err error) w concludes = concluded_err end error w concludes
 
 -- an error that was passed on
 pub passed_on : {T E : Type 0} (P : E → Type 0) (r : Result T E) (error : E) → IsErrAnd r (λ other. other ≡ error) → P error → IfErr r P

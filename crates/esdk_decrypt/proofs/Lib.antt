@@ -1,8 +1,5 @@
-mod Keeping
 mod Answering
-mod Asking
-mod Stepping
-mod Running
+mod Breaking
 mod Pieces
 mod Concluding
 pub mod Told

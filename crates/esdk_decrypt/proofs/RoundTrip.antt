@@ -13,25 +13,25 @@ use Rattle.message_format.proofs.RoundTrip.{reads_written, unlocks_written}
 use Rattle.message_format.proofs.WrittenMessages.{text_released}
 use Rattle.esdk_decrypt.specs.Decrypt.{Decrypts}
 use Rattle.esdk_decrypt.specs.Told.{Reader, asked_by, judged_by}
-use Rattle.esdk_decrypt.specs.Laws.{IsWholeInput, IsWrittenFor, Written, message_of}
+use Rattle.esdk_decrypt.specs.Laws.{IsWholeInput, IsWrittenFor, Written, written_message}
 use Rattle.esdk_decrypt.proofs.WholeInputs.{all_decrypted}
 
 -- it is unlocked with its whole context
 pub written_unlocked : (reader : Reader) (writers : List WrapKeyValue) (m : Written) → IsWrittenFor reader writers m
-    → unlocking (message_of m) reader.settings reader.given reader.required reader.keys ≡ Unlocks m.context (only_of m.required m.context) m.key
+    → unlocking (written_message m) reader.settings reader.given reader.required reader.keys ≡ Unlocks m.context (only_of m.required m.context) m.key
 written_unlocked reader writers m for =
     unlocks_written m.text m.context m.required m.size m.key m.entries m.id reader.settings writers reader.keys reader.given reader.required
     for.writable for.limits for.wrapped for.unreserved for.enough for.given
 
 -- and judged whole
-pub written_judged : (reader : Reader) (writers : List WrapKeyValue) (m : Written) → IsWrittenFor reader writers m → judged_by reader (message_of m) ≡ whole_of_text m.text m.size
+pub written_judged : (reader : Reader) (writers : List WrapKeyValue) (m : Written) → IsWrittenFor reader writers m → judged_by reader (written_message m) ≡ whole_of_text m.text m.size
 written_judged reader writers m for =
     reads_written m.text m.context m.required m.size m.key m.entries m.id reader.settings writers reader.keys reader.given reader.required
     for.writable for.limits for.wrapped for.unreserved for.enough for.given
 
 -- an input of it is whole
-pub written_whole : (reader : Reader) (writers : List WrapKeyValue) (m : Written) (input : SourceState) → IsWrittenFor reader writers m → input.left ≡ Some (message_of m)
-    → length (message_of m) < 2 ^ 62 → IsWholeInput reader input (message_of m)
+pub written_whole : (reader : Reader) (writers : List WrapKeyValue) (m : Written) (input : SourceState) → IsWrittenFor reader writers m → input.left ≡ Some (written_message m)
+    → length (written_message m) < 2 ^ 62 → IsWholeInput reader input (written_message m)
 written_whole reader writers m input for told few = record {
   told = told;
   few = few;
@@ -43,10 +43,10 @@ same_context a b c d k l e = cc
 
 -- what is decrypted of it is the text, with its whole context
 pub text_decrypted : (reader : Reader) (writers : List WrapKeyValue) (m : Written) (input taken : SourceState) (output put : SinkState) (context : List KeyValue)
-    → IsWrittenFor reader writers m → input.left ≡ Some (message_of m) → Decrypts (asked_by reader) input taken output put context
+    → IsWrittenFor reader writers m → input.left ≡ Some (written_message m) → Decrypts (asked_by reader) input taken output put context
     → Appends output.written put.written m.text × (context ≡ m.context)
 text_decrypted reader writers m input taken output put context for told done =
-    let all = all_decrypted reader input taken output put context (message_of m) told done in (
+    let all = all_decrypted reader input taken output put context (written_message m) told done in (
       subst (λ b. Appends output.written put.written b) (ap content (written_judged reader writers m for) ∙ text_released m.text m.size for.writable.some) all.gained,
       same_context context m.context all.only (only_of m.required m.context) all.key m.key (sym all.unlocked ∙ written_unlocked reader writers m for),
     )

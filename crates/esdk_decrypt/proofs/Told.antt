@@ -15,12 +15,12 @@ use Rattle.edk_codec.specs.Entry.{Entry}
 use Rattle.context_codec.specs.Parts.{only_given, whole_of}
 use Rattle.keyring_trait.specs.declared.manager_errors.ManagerError.{ManagerError}
 use Rattle.keyring_trait.specs.declared.manager_errors.ManagerError.TheVariants as managers
-use Rattle.keyring_trait.specs.Manager.{ManagerMeaning, FindsMaterials, FindsNone}
+use Rattle.keyring_trait.specs.Manager.{ManagerNow, FindsMaterials, FindsNone}
 use Rattle.keyring_trait.specs.Materials.{DecMaterialsValue}
 use Rattle.keyring_trait.specs.Requests.{DecRequestValue}
 use Rattle.keyring_trait.specs.Unlocking.{Unlocking, Refuses, Unlocks, opens_with, pair_offence, unless, unlock}
 use Rattle.keyring_trait.specs.Wrapping.{WrapKeyValue, unwrapped}
-use Rattle.esdk_decrypt.specs.Decrypt.{Answering, AnswersReading, AnswersRequest, AnswersTo, Asked, FailsReading, Decrypts, EndsSo, Releases, ReleasesFront, answering_of}
+use Rattle.esdk_decrypt.specs.Decrypt.{Answering, AnswersReading, AnswersRequest, AnswersTo, Asked, FailsReading, Decrypts, DecryptEnds, Releases, ReleasesFront, answering_of}
 use Rattle.esdk_decrypt.specs.Told.{NoneFor, answering_by, asked_by}
 use Rattle.esdk_decrypt.specs.declared.errors.DecryptError.{DecryptError}
 use Rattle.esdk_decrypt.specs.declared.errors.DecryptError.TheVariants as errors
@@ -43,34 +43,34 @@ sound_unlocks stored given entries required keys found e is =
     ap (λ (o : Option Fault). unless o (opens_with (whole_of stored given) (only_given stored given) (unwrapped keys entries (whole_of stored given)))) e
     ∙ ap (opens_with (whole_of stored given) (only_given stored given)) is
 
-materials_unlock : (old new : ManagerMeaning) (tells : List WrapKeyValue → Type 0) (exact : Type 0) (keys : List WrapKeyValue) (request : DecRequestValue) (m : DecMaterialsValue)
-    → tells keys → exact → Stayed old.faults new.faults → FindsMaterials old new tells exact request m
-    → unlock request.stored request.entries request.given old.demands keys ≡ Unlocks m.context m.only m.key
-materials_unlock old new tells exact keys request m told is stayed finds =
+materials_unlock : (old new : ManagerNow) (keys : List WrapKeyValue) (request : DecRequestValue) (m : DecMaterialsValue)
+    → old.tells keys → old.exact → Stayed old.meaning.faults new.meaning.faults → FindsMaterials old new request m
+    → unlock request.stored request.entries request.given old.meaning.demands keys ≡ Unlocks m.context m.only m.key
+materials_unlock old new keys request m told is stayed finds =
     let first = rw finds.context at finds.first keys told stayed in
-    rw (finds.context, finds.only) (sound_unlocks request.stored request.given request.entries old.demands keys (Some m.key) (finds.unfaulted is) first)
+    rw (finds.context, finds.only) (sound_unlocks request.stored request.given request.entries old.meaning.demands keys (Some m.key) (finds.unfaulted is) first)
 
-fault_unlocks : (old new : ManagerMeaning) (tells : List WrapKeyValue → Type 0) (exact : Type 0) (keys : List WrapKeyValue) (request : DecRequestValue) (fault : Fault)
-    → tells keys → exact → FindsNone old new tells exact request (managers.Fault fault)
-    → unlock request.stored request.entries request.given old.demands keys ≡ Refuses fault
-fault_unlocks old new tells exact keys request faults.ReservedKey told is finds = offence_unlocks request.stored request.given request.entries old.demands keys faults.ReservedKey (finds.1 is)
-fault_unlocks old new tells exact keys request (faults.ContextMismatch key) told is finds =
-    offence_unlocks request.stored request.given request.entries old.demands keys (faults.ContextMismatch key) (finds.1 is)
-fault_unlocks old new tells exact keys request (faults.MissingRequired key) told is finds =
-    offence_unlocks request.stored request.given request.entries old.demands keys (faults.MissingRequired key) (finds.1 is)
-fault_unlocks old new tells exact keys request (faults.ContextTooLong n) told is finds =
-    offence_unlocks request.stored request.given request.entries old.demands keys (faults.ContextTooLong n) (finds.1 is)
-fault_unlocks old new tells exact keys request faults.NoKeyOpens told is finds =
-    sound_unlocks request.stored request.given request.entries old.demands keys None (finds.1 is) (finds.0 keys told)
-fault_unlocks old new tells exact keys request fault told is finds = absurd finds.0
+fault_unlocks : (old new : ManagerNow) (keys : List WrapKeyValue) (request : DecRequestValue) (fault : Fault)
+    → old.tells keys → old.exact → FindsNone old new request (managers.Fault fault)
+    → unlock request.stored request.entries request.given old.meaning.demands keys ≡ Refuses fault
+fault_unlocks old new keys request faults.ReservedKey told is finds = offence_unlocks request.stored request.given request.entries old.meaning.demands keys faults.ReservedKey (finds.1 is)
+fault_unlocks old new keys request (faults.ContextMismatch key) told is finds =
+    offence_unlocks request.stored request.given request.entries old.meaning.demands keys (faults.ContextMismatch key) (finds.1 is)
+fault_unlocks old new keys request (faults.MissingRequired key) told is finds =
+    offence_unlocks request.stored request.given request.entries old.meaning.demands keys (faults.MissingRequired key) (finds.1 is)
+fault_unlocks old new keys request (faults.ContextTooLong n) told is finds =
+    offence_unlocks request.stored request.given request.entries old.meaning.demands keys (faults.ContextTooLong n) (finds.1 is)
+fault_unlocks old new keys request faults.NoKeyOpens told is finds =
+    sound_unlocks request.stored request.given request.entries old.meaning.demands keys None (finds.1 is) (finds.0 keys told)
+fault_unlocks old new keys request fault told is finds = absurd finds.0
 
-none_unlocks : (old new : ManagerMeaning) (tells : List WrapKeyValue → Type 0) (exact : Type 0) (keys : List WrapKeyValue) (request : DecRequestValue) (error : ManagerError)
-    → tells keys → exact → Stayed old.faults new.faults → FindsNone old new tells exact request error
-    → NoneFor (unlock request.stored request.entries request.given old.demands keys) error
-none_unlocks old new tells exact keys request (managers.Fault fault) told is stayed finds = fault_unlocks old new tells exact keys request fault told is finds
-none_unlocks old new tells exact keys request (managers.Refusal refusal) told is stayed none = none
-none_unlocks old new tells exact keys request managers.KeyringFault told is stayed failed = absurd (omega (arith, stayed, failed.0))
-none_unlocks old new tells exact keys request managers.Memory told is stayed free = tt
+none_unlocks : (old new : ManagerNow) (keys : List WrapKeyValue) (request : DecRequestValue) (error : ManagerError)
+    → old.tells keys → old.exact → Stayed old.meaning.faults new.meaning.faults → FindsNone old new request error
+    → NoneFor (unlock request.stored request.entries request.given old.meaning.demands keys) error
+none_unlocks old new keys request (managers.Fault fault) told is stayed finds = fault_unlocks old new keys request fault told is finds
+none_unlocks old new keys request (managers.Refusal refusal) told is stayed none = none
+none_unlocks old new keys request managers.KeyringFault told is stayed failed = absurd (omega (arith, stayed, failed.0))
+none_unlocks old new keys request managers.Memory told is stayed free = tt
 
 -- ---- what is so of fewer answers is so of more
 
@@ -79,12 +79,12 @@ pub record Allows (from to : Answering) : Type 0 where
   pub finds : (request : DecRequestValue) (m : DecMaterialsValue) → from.finds request m → to.finds request m
   pub finds_none : (request : DecRequestValue) (error : ManagerError) → from.finds_none request error → to.finds_none request error
 
-pub reader_allows : (old new : ManagerMeaning) (tells : List WrapKeyValue → Type 0) (exact : Type 0) (found : DecRequestValue → ℕ → DecMaterialsValue → Type 0) (now : ℕ) (keys : List WrapKeyValue) (settings : Settings) (given : List KeyValue)
-    → tells keys → exact → Stayed old.faults new.faults
-    → Allows (answering_of old new tells exact found now) (answering_by (record { keys = keys; settings = settings; given = given; required = old.demands }))
-reader_allows old new tells exact found now keys settings given told is stayed = record {
-  finds = λ request m finds. materials_unlock old new tells exact keys request m told is stayed finds.0;
-  finds_none = λ request error finds. none_unlocks old new tells exact keys request error told is stayed finds;
+pub reader_allows : (old new : ManagerNow) (now : ℕ) (keys : List WrapKeyValue) (settings : Settings) (given : List KeyValue)
+    → old.tells keys → old.exact → Stayed old.meaning.faults new.meaning.faults
+    → Allows (answering_of old new now) (answering_by (record { keys = keys; settings = settings; given = given; required = old.meaning.demands }))
+reader_allows old new now keys settings given told is stayed = record {
+  finds = λ request m finds. materials_unlock old new keys request m told is stayed finds.0;
+  finds_none = λ request error finds. none_unlocks old new keys request error told is stayed finds;
 }
 
 request_allowed : (from to : Answering) (request : DecRequestValue) (answer : Unlocking) → Allows from to → AnswersRequest from request answer → AnswersRequest to request answer
@@ -141,7 +141,7 @@ decrypts_allowed allows done = record {
 }
 
 pub ends_allowed : (from to : Answering) (settings : Settings) (given : List KeyValue) (input taken : SourceState) (output put : SinkState) (unwritten : Type 0) (error : DecryptError) → Allows from to
-    → EndsSo (asked_of from settings given) input taken output put unwritten error → EndsSo (asked_of to settings given) input taken output put unwritten error
+    → DecryptEnds (asked_of from settings given) input taken output put unwritten error → DecryptEnds (asked_of to settings given) input taken output put unwritten error
 ends_allowed from to settings given input taken output put unwritten (errors.Fault fault) allows has =
     record { bytes = has.bytes; answer = has.answer; releases = releases_allowed allows has.releases; cause = has.cause; last = has.last }
 ends_allowed from to settings given input taken output put unwritten (errors.Outside outsides.SourceFault) allows fails =
@@ -168,6 +168,7 @@ ends_allowed from to settings given input taken output put unwritten errors.Memo
     lacks = record {
       answer = none.lacks.answer;
       answered = answered_allowed from to settings given none.before none.lacks.answer allows none.lacks.answered;
+      going = none.lacks.going;
       unreserved = none.lacks.unreserved;
     };
   },
@@ -177,19 +178,19 @@ ends_allowed from to settings given input taken output put unwritten errors.Memo
 -- ---- results
 
 -- what is decrypted with the answers of such a manager is decrypted by the reader
-pub decrypts_read : {E : Type 0} (old new : ManagerMeaning) (tells : List WrapKeyValue → Type 0) (exact : Type 0) (found : DecRequestValue → ℕ → DecMaterialsValue → Type 0) (now : ℕ) (keys : List WrapKeyValue) (settings : Settings) (given : List KeyValue)
-    (input taken : SourceState) (output put : SinkState) → tells keys → exact → Stayed old.faults new.faults
-    → (r : Result (List KeyValue) E) → IfOk r (λ context. Decrypts (asked_of (answering_of old new tells exact found now) settings given) input taken output put context)
-    → IfOk r (λ context. Decrypts (asked_by (record { keys = keys; settings = settings; given = given; required = old.demands })) input taken output put context)
-decrypts_read old new tells exact found now keys settings given input taken output put told is stayed (Err error) done = tt
-decrypts_read old new tells exact found now keys settings given input taken output put told is stayed (Ok context) done =
-    decrypts_allowed (reader_allows old new tells exact found now keys settings given told is stayed) done
+pub decrypts_read : {E : Type 0} (old new : ManagerNow) (now : ℕ) (keys : List WrapKeyValue) (settings : Settings) (given : List KeyValue)
+    (input taken : SourceState) (output put : SinkState) → old.tells keys → old.exact → Stayed old.meaning.faults new.meaning.faults
+    → (r : Result (List KeyValue) E) → IfOk r (λ context. Decrypts (asked_of (answering_of old new now) settings given) input taken output put context)
+    → IfOk r (λ context. Decrypts (asked_by (record { keys = keys; settings = settings; given = given; required = old.meaning.demands })) input taken output put context)
+decrypts_read old new now keys settings given input taken output put told is stayed (Err error) done = tt
+decrypts_read old new now keys settings given input taken output put told is stayed (Ok context) done =
+    decrypts_allowed (reader_allows old new now keys settings given told is stayed) done
 
 -- and what ends such a run ends the reader's
-pub ends_read : {T : Type 0} (old new : ManagerMeaning) (tells : List WrapKeyValue → Type 0) (exact : Type 0) (found : DecRequestValue → ℕ → DecMaterialsValue → Type 0) (now : ℕ) (keys : List WrapKeyValue) (settings : Settings) (given : List KeyValue)
-    (input taken : SourceState) (output put : SinkState) (unwritten : Type 0) → tells keys → exact → Stayed old.faults new.faults
-    → (r : Result T DecryptError) → IfErr r (λ error. EndsSo (asked_of (answering_of old new tells exact found now) settings given) input taken output put unwritten error)
-    → IfErr r (EndsSo (asked_by (record { keys = keys; settings = settings; given = given; required = old.demands })) input taken output put unwritten)
-ends_read old new tells exact found now keys settings given input taken output put unwritten told is stayed (Ok done) ends = tt
-ends_read old new tells exact found now keys settings given input taken output put unwritten told is stayed (Err error) ends =
-    ends_allowed _ _ settings given input taken output put unwritten error (reader_allows old new tells exact found now keys settings given told is stayed) ends
+pub ends_read : {T : Type 0} (old new : ManagerNow) (now : ℕ) (keys : List WrapKeyValue) (settings : Settings) (given : List KeyValue)
+    (input taken : SourceState) (output put : SinkState) (unwritten : Type 0) → old.tells keys → old.exact → Stayed old.meaning.faults new.meaning.faults
+    → (r : Result T DecryptError) → IfErr r (λ error. DecryptEnds (asked_of (answering_of old new now) settings given) input taken output put unwritten error)
+    → IfErr r (DecryptEnds (asked_by (record { keys = keys; settings = settings; given = given; required = old.meaning.demands })) input taken output put unwritten)
+ends_read old new now keys settings given input taken output put unwritten told is stayed (Ok done) ends = tt
+ends_read old new now keys settings given input taken output put unwritten told is stayed (Err error) ends =
+    ends_allowed _ _ settings given input taken output put unwritten error (reader_allows old new now keys settings given told is stayed) ends

@@ -14,7 +14,7 @@ use Rattle.message_format.specs.Reading.{unlocking}
 use Rattle.message_format.proofs.Following.{faults_stay}
 use Rattle.message_format.proofs.ReadingOn.{read_goes_on}
 use Rattle.whole_input.specs.Taken.{Came, EndSeen}
-use Rattle.esdk_decrypt.specs.Decrypt.{fault_of, fault_at_end, Decrypts, HasFault, EndsSo}
+use Rattle.esdk_decrypt.specs.Decrypt.{fault_of, fault_at_end, Decrypts, HasFault, DecryptEnds}
 use Rattle.esdk_decrypt.specs.Told.{Reader, asked_by, judged_by}
 use Rattle.esdk_decrypt.specs.Laws.{IsWholeInput, IsWholeMessage}
 use Rattle.esdk_decrypt.specs.declared.errors.DecryptError.{DecryptError}
@@ -109,7 +109,7 @@ all_decrypted reader input taken output put context told is done =
 -- of a whole input only memory can be wanting
 pub memory_alone : (reader : Reader) (input taken : SourceState) (output put : SinkState) (unwritten : Type 0) (told : List ℕ) (error : DecryptError)
     → IsWholeInput reader input told → Stayed input.faults taken.faults → Stayed output.faults put.faults
-    → EndsSo (asked_by reader) input taken output put unwritten error → error ≡ errors.Memory
+    → DecryptEnds (asked_by reader) input taken output put unwritten error → error ≡ errors.Memory
 memory_alone reader input taken output put unwritten told (errors.Fault fault) whole source sink has =
     let named = first_fault reader input taken output put told fault whole.told has in
     let none : None ≡ Some fault = sym (ap fault_at_end whole.whole) ∙ named.0 in

@@ -15,11 +15,11 @@ use Rattle.context_codec.specs.Context.{KeyValue}
 use Rattle.keyring_trait.specs.declared.manager_errors.ManagerError.{ManagerError}
 use Rattle.keyring_trait.specs.declared.manager_errors.ManagerError.TheVariants as managers
 use Rattle.keyring_trait.specs.declared.served.Served.{Served}
-use Rattle.keyring_trait.specs.Manager.{ManagerMeaning, FindsMaterials, FindsNone}
+use Rattle.keyring_trait.specs.Manager.{ManagerNow}
 use Rattle.keyring_trait.specs.Materials.{DecMaterialsValue}
 use Rattle.keyring_trait.specs.Requests.{DecRequestValue}
+use Rattle.keyring_trait.specs.Saying.{Saying, said_last}
 use Rattle.keyring_trait.specs.Unlocking.{Unlocking, Refuses, Unlocks}
-use Rattle.keyring_trait.specs.Wrapping.{WrapKeyValue}
 use Rattle.body_format.specs.declared.verdicts.Verdict.{Verdict}
 use Rattle.body_format.specs.declared.verdicts.Verdict.TheVariants as verdicts
 use Rattle.message_format.specs.Judgement.{content, header_of, judged}
@@ -33,17 +33,21 @@ use Rattle.esdk_decrypt.specs.declared.errors.DecryptError.TheVariants as errors
 
 -- ---- what a manager answers to a header
 
--- What a manager may answer: the materials that it finds, or why it finds none.
+-- What may be answered at one moment: the materials that are found, or why none are.
 pub record Answering : Type 1 where
   pub finds : DecRequestValue → DecMaterialsValue → Type 0
   pub finds_none : DecRequestValue → ManagerError → Type 0
 
--- what a manager that was so and is so now may answer at a moment; `found` says what it found last
-abbrev pub answering_of : ManagerMeaning → ManagerMeaning → (List WrapKeyValue → Type 0) → Type 0 → (DecRequestValue → ℕ → DecMaterialsValue → Type 0) → ℕ → Answering
-answering_of old new tells exact found now = record {
-  finds = λ request materials. FindsMaterials old new tells exact request materials × found request now materials;
-  finds_none = FindsNone old new tells exact;
+-- what is so of what a manager may say
+abbrev pub answers_at : Saying → ℕ → Answering
+answers_at manager now = record {
+  finds = λ request materials. manager.finds request now materials;
+  finds_none = manager.finds_none;
 }
+
+-- what a manager that was so and is so now may have answered last
+abbrev pub answering_of : ManagerNow → ManagerNow → ℕ → Answering
+answering_of old new now = answers_at (said_last old new) now
 
 -- the answer is that of materials that the manager finds, or of the fault that it names
 abbrev pub AnswersRequest : Answering → DecRequestValue → Unlocking → Type 0
@@ -92,8 +96,9 @@ pub record Asked : Type 1 where
   pub given : List KeyValue
 
 -- the run that began when the manager was so, and has come to where it is so now
-abbrev pub asked_from : ManagerMeaning → ManagerMeaning → (List WrapKeyValue → Type 0) → Type 0 → (DecRequestValue → ℕ → DecMaterialsValue → Type 0) → ℕ → Settings → List KeyValue → Asked
-asked_from old new tells exact found now settings given = record { manager = answering_of old new tells exact found now; settings = settings; given = given }
+abbrev pub asked_from : ManagerNow → ManagerNow → ℕ → Settings → List KeyValue → Asked
+asked_from old new now settings given =
+    record { manager = answering_of old new now; settings = settings; given = given }
 
 -- These bytes were taken, the manager answered so to their header, and the output gained what their judgement releases then.
 pub record Releases (asked : Asked) (input taken : SourceState) (output put : SinkState) (bytes : List ℕ) (answer : Unlocking) : Type 0 where
@@ -155,13 +160,16 @@ pub record ManagerFails (asked : Asked) (input taken : SourceState) : Type 0 whe
   pub failed : FailsTo asked.manager asked.settings asked.given bytes
   pub last : APieceBehind (λ before. header asked.settings (start before) ≡ Wanting) bytes
 
--- The manager answered so to the header of these bytes, and they don't reach behind the unlocked header of a framed message, from where on no memory is taken.
+-- The manager answered so to the header of these bytes. They have no fault, more are wanted, and they
+-- don't reach behind the unlocked header of a framed message, from where on memory isn't wanting.
 pub record MayLackMemory (asked : Asked) (bytes : List ℕ) : Type 0 where
   pub answer : Unlocking
   pub answered : AnswersTo asked.manager asked.settings asked.given bytes answer
+  pub going : (judged bytes asked.settings answer).verdict ≡ verdicts.Going
   pub unreserved : (judged bytes asked.settings answer).unlocked ≡ true → is_framed (head asked.settings bytes) ≡ false
 
--- These bytes were taken, the last of them by the last read, and memory may run out behind those before.
+-- These bytes were taken, and memory ran out at the last of them, at most one piece; it may behind
+-- those before.
 pub record HasNoMemory (asked : Asked) (input taken : SourceState) : Type 0 where
   pub before : List ℕ
   pub last : List ℕ
@@ -178,10 +186,10 @@ FailsOutside asked input taken output put unwritten outsides.InputTooLong = IsTo
 FailsOutside asked input taken output put unwritten outside = ⊥
 
 -- Why an input wasn't decrypted, and what that left. Where memory ran out nothing was written.
-abbrev pub EndsSo : Asked → SourceState → SourceState → SinkState → SinkState → Type 0 → DecryptError → Type 0
-EndsSo asked input taken output put unwritten (errors.Fault fault) = HasFault asked input taken output put fault
-EndsSo asked input taken output put unwritten (errors.Outside outside) = FailsOutside asked input taken output put unwritten outside
-EndsSo asked input taken output put unwritten errors.Memory = HasNoMemory asked input taken × unwritten
+abbrev pub DecryptEnds : Asked → SourceState → SourceState → SinkState → SinkState → Type 0 → DecryptError → Type 0
+DecryptEnds asked input taken output put unwritten (errors.Fault fault) = HasFault asked input taken output put fault
+DecryptEnds asked input taken output put unwritten (errors.Outside outside) = FailsOutside asked input taken output put unwritten outside
+DecryptEnds asked input taken output put unwritten errors.Memory = HasNoMemory asked input taken × unwritten
 
 -- the answer has this whole context
 abbrev pub HasContext : Unlocking → List KeyValue → Type 0

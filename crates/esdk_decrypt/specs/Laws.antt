@@ -15,7 +15,7 @@ use Rattle.message_format.specs.Message.{message, IsWritable}
 use Rattle.message_format.specs.Judgement.{content}
 use Rattle.message_format.specs.Reading.{unlocking}
 use Rattle.message_format.specs.Laws.{IsWithinLimits, whole_of_text}
-use Rattle.esdk_decrypt.specs.Decrypt.{fault_at_end, Decrypts, HasFault, EndsSo}
+use Rattle.esdk_decrypt.specs.Decrypt.{fault_at_end, Decrypts, HasFault, DecryptEnds}
 use Rattle.esdk_decrypt.specs.Told.{Reader, asked_by, judged_by}
 use Rattle.esdk_decrypt.specs.declared.errors.DecryptError.{DecryptError}
 use Rattle.esdk_decrypt.specs.declared.errors.DecryptError.TheVariants.{Memory}
@@ -32,7 +32,7 @@ pub record IsWholeInput (reader : Reader) (input : SourceState) (bytes : List �
 abbrev pub DecryptsWholeInputs : Type 0
 DecryptsWholeInputs = (reader : Reader) (input taken : SourceState) (output put : SinkState) (bytes : List ℕ) (error : DecryptError)
     → IsWholeInput reader input bytes → Stayed input.faults taken.faults → Stayed output.faults put.faults
-    → EndsSo (asked_by reader) input taken output put ⊤ error → error ≡ Memory
+    → DecryptEnds (asked_by reader) input taken output put ⊤ error → error ≡ Memory
 
 -- All of the input is a whole message, the output gained its content, and this is the whole context that it is unlocked with.
 pub record IsWholeMessage (reader : Reader) (bytes : List ℕ) (output put : SinkState) (context : List KeyValue) : Type 0 where
@@ -65,8 +65,8 @@ pub record Written : Type 0 where
   pub entries : List Entry
   pub id : List ℕ
 
-abbrev pub message_of : Written → List ℕ
-message_of m = message m.text m.context m.required m.size m.key m.entries m.id
+abbrev pub written_message : Written → List ℕ
+written_message m = message m.text m.context m.required m.size m.key m.entries m.id
 
 -- The message can be written, and doesn't hold the format's own key. It passes no limit of the reader's; its data key is wrapped under the writers' keys, of which the
 -- reader has one; the reader is given the required pairs and beside them only pairs of the context, and every key that it requires.
@@ -81,18 +81,18 @@ pub record IsWrittenFor (reader : Reader) (writers : List WrapKeyValue) (m : Wri
 -- It is unlocked with its whole context, is whole, and one unit is released for each frame.
 abbrev pub JudgesWhatIsWritten : Type 0
 JudgesWhatIsWritten = (reader : Reader) (writers : List WrapKeyValue) (m : Written) → IsWrittenFor reader writers m
-    → (unlocking (message_of m) reader.settings reader.given reader.required reader.keys ≡ Unlocks m.context (only_of m.required m.context) m.key)
-    × (judged_by reader (message_of m) ≡ whole_of_text m.text m.size)
+    → (unlocking (written_message m) reader.settings reader.given reader.required reader.keys ≡ Unlocks m.context (only_of m.required m.context) m.key)
+    × (judged_by reader (written_message m) ≡ whole_of_text m.text m.size)
 
 -- What is decrypted of it is its text, with its whole context.
 abbrev pub DecryptsToTheText : Type 0
 DecryptsToTheText = (reader : Reader) (writers : List WrapKeyValue) (m : Written) (input taken : SourceState) (output put : SinkState) (context : List KeyValue)
-    → IsWrittenFor reader writers m → input.left ≡ Some (message_of m)
+    → IsWrittenFor reader writers m → input.left ≡ Some (written_message m)
     → Decrypts (asked_by reader) input taken output put context → Appends output.written put.written m.text × (context ≡ m.context)
 
 -- Where neither the input nor the output fails, nothing but want of memory keeps it from being decrypted.
 abbrev pub DecryptsWhatIsWritten : Type 0
 DecryptsWhatIsWritten = (reader : Reader) (writers : List WrapKeyValue) (m : Written) (input taken : SourceState) (output put : SinkState) (error : DecryptError)
-    → IsWrittenFor reader writers m → input.left ≡ Some (message_of m)
-    → length (message_of m) < 2 ^ 62 → Stayed input.faults taken.faults → Stayed output.faults put.faults
-    → EndsSo (asked_by reader) input taken output put ⊤ error → error ≡ Memory
+    → IsWrittenFor reader writers m → input.left ≡ Some (written_message m)
+    → length (written_message m) < 2 ^ 62 → Stayed input.faults taken.faults → Stayed output.faults put.faults
+    → DecryptEnds (asked_by reader) input taken output put ⊤ error → error ≡ Memory

@@ -1,27 +1,29 @@
 //! The decryption of an input.
 
-ghost use Rattle.std.specs.Prelude.{◌≡◌, ◌+◌, ◌≤◌, ◌^◌, ℕ, true, List, IfOk, IfErr};
+ghost use Rattle.std.specs.Prelude.{◌≡◌, ◌≢◌, ◌+◌, ◌≤◌, ◌^◌, ℕ, List, IfOk, IfErr};
 ghost use Rattle.esdk_fields.specs.Counts.{Stayed};
 ghost use Rattle.context_codec.specs.Context.{KeyValue};
 ghost use Rattle.header_codec.specs.declared.settings.Settings.{Settings};
-ghost use Rattle.keyring_trait.specs.Manager.{ManagerGoes, TellsOn};
+ghost use Rattle.keyring_trait.specs.Manager.{Went};
 ghost use Rattle.keyring_trait.specs.Wrapping.{WrapKeyValue};
+ghost use Rattle.esdk_base.specs.declared.receiver.FeedError.TheVariants.{Machine};
+ghost use Rattle.stream_open.specs.declared.errors.OpenError.TheVariants.{Stopped};
 ghost use Rattle.stream_open.specs.Feeding.{GoesOn};
-ghost use Rattle.stream_open.specs.Session.{OpeningValue, opened};
+ghost use Rattle.stream_open.specs.Receiving.{HasSession};
+ghost use Rattle.stream_open.specs.Session.{OpeningValue, new_session};
 ghost use Rattle.stream_open.specs.Stands.{Stands};
-ghost use Rattle.esdk_decrypt.specs.Decrypt.{Decrypts, EndsSo, asked_from};
+ghost use Rattle.esdk_decrypt.specs.Decrypt.{Decrypts, DecryptEnds, asked_from};
 ghost use Rattle.esdk_decrypt.specs.Told.{asked_by};
-ghost use Rattle.esdk_decrypt.specs.Underway.{Concludes, ConcludesWhole, IsFedWhole, IsGoing, KeepsManager};
+ghost use Rattle.esdk_decrypt.specs.Underway.{BearsOnce, Concludes, ConcludesWhole, IsCalled, IsFeedCalled, IsFedWhole, IsGoing};
 
 use crate::errors::DecryptError;
-use crate::feeding::{feed, named};
 use context_codec::Context;
-use esdk_base::{Sink, Source};
+use esdk_base::{FeedError, Sink, Source};
 use esdk_fields::Outside;
 use header_codec::Settings;
 use keyring_trait::Manager;
 use std::alloc::Global;
-use stream_open::Opener;
+use stream_open::{OpenError, Opener};
 use whole_input::{End, Pieces};
 
 /// Reads the input piece by piece, and writes the contents of its frames, or of its one block, that
@@ -57,45 +59,42 @@ pub fn decrypt<M: Manager, S: Source, O: Sink>(
     output: &mut O,
 ) -> Result<Context, DecryptError>
     ensures done { IfOk result (Decrypts
-        (asked_from (M.meaning manager.old) (M.meaning manager.new) (M.tells manager.old)
-        (M.exact manager.old) (M.found manager.new) now settings given.now)
+        (asked_from (M.state manager.old) (M.state manager.new) now settings given.now)
         (S.state input.old) (S.state input.new) (O.state output.old) (O.state output.new)) }
-    ensures ends { IfErr result (EndsSo
-        (asked_from (M.meaning manager.old) (M.meaning manager.new) (M.tells manager.old)
-        (M.exact manager.old) (M.found manager.new) now settings given.now)
+    ensures ends { IfErr result (DecryptEnds
+        (asked_from (M.state manager.old) (M.state manager.new) now settings given.now)
         (S.state input.old) (S.state input.new) (O.state output.old) (O.state output.new)
         (output.new ≡ output.old)) }
-    ensures reads { (keys : List WrapKeyValue) → M.tells manager.old keys → M.exact manager.old
-        → Stayed (M.meaning manager.old).faults (M.meaning manager.new).faults
+    ensures reads { (keys : List WrapKeyValue) → (M.state manager.old).tells keys
+        → (M.state manager.old).exact
+        → Stayed (M.state manager.old).meaning.faults (M.state manager.new).meaning.faults
         → IfOk result (Decrypts
         (asked_by (record {
           keys = keys;
           settings = settings;
           given = given.now;
           required =
-              (M.meaning manager.old).demands;
+              (M.state manager.old).meaning.demands;
         }))
         (S.state input.old) (S.state input.new) (O.state output.old) (O.state output.new)) }
-    ensures stops { (keys : List WrapKeyValue) → M.tells manager.old keys → M.exact manager.old
-        → Stayed (M.meaning manager.old).faults (M.meaning manager.new).faults
-        → IfErr result (EndsSo
+    ensures stops { (keys : List WrapKeyValue) → (M.state manager.old).tells keys
+        → (M.state manager.old).exact
+        → Stayed (M.state manager.old).meaning.faults (M.state manager.new).meaning.faults
+        → IfErr result (DecryptEnds
         (asked_by (record {
           keys = keys;
           settings = settings;
           given = given.now;
           required =
-              (M.meaning manager.old).demands;
+              (M.state manager.old).meaning.demands;
         }))
         (S.state input.old) (S.state input.new) (O.state output.old) (O.state output.new)
         (output.new ≡ output.old)) }
-    ensures goes { ManagerGoes (M.meaning manager.old) (M.meaning manager.new) }
-    ensures tells { TellsOn (M.tells manager.old) (M.tells manager.new) }
-    ensures same { (M.meaning manager.old).plain ≡ true
-        → TellsOn (M.tells manager.new) (M.tells manager.old) }
-    ensures exact { M.exact manager.old → M.exact manager.new }
+    ensures went { Went (M.state manager.old) (M.state manager.new) }
+    ensures bears { BearsOnce (M.state manager.old) (M.state manager.new) now }
     ensures taken { (S.state input.new).given ≤ (S.state input.old).given + 2 ^ 62 }
 {
-    // Where the manager isn't asked, it stays as it is: `wraps` says so of a steady one's count.
+    // Where the manager isn't asked, it stays as it is: `wraps` says what that keeps.
     let _wraps = manager.wraps();
     let mut opener = Opener::new(alloc, settings, given.copy(alloc)?);
     let end = feed_input(alloc, manager, now, input, &mut opener, output)?;
@@ -112,34 +111,57 @@ fn feed_input<M: Manager, S: Source, O: Sink>(
     opener: &mut Opener,
     output: &mut O,
 ) -> Result<End, DecryptError>
-    requires manager { ManagerGoes (M.meaning manager.old) (M.meaning manager.old) }
+    requires manager { Went (M.state manager.old) (M.state manager.old) }
     requires going { IsGoing opener.old }
     ensures fed { (settings : Settings) (given : List KeyValue)
-        → Stands opener.old (opened settings given) → IfOk result (λ end. IsFedWhole
-        (asked_from (M.meaning manager.old) (M.meaning manager.new) (M.tells manager.old)
-        (M.exact manager.old) (M.found manager.new) now settings given)
-        (manager.new ≡ manager.old) (S.state input.old) (S.state input.new) (O.state output.old)
-        (O.state output.new) (output.new ≡ output.old) end opener.new) }
+        → Stands opener.old (new_session settings given) → IfOk result (λ end. IsFedWhole M.state O.state
+        now (new_session settings given) (S.state input.old) (S.state input.new) manager.old manager.new
+        output.old output.new end opener.new) }
     ensures ends { (settings : Settings) (given : List KeyValue)
-        → Stands opener.old (opened settings given) → IfErr result (EndsSo
-        (asked_from (M.meaning manager.old) (M.meaning manager.new) (M.tells manager.old)
-        (M.exact manager.old) (M.found manager.new) now settings given)
+        → Stands opener.old (new_session settings given) → IfErr result (DecryptEnds
+        (asked_from (M.state manager.old) (M.state manager.new) now settings given)
         (S.state input.old) (S.state input.new) (O.state output.old) (O.state output.new)
         (output.new ≡ output.old)) }
+    ensures bears { (settings : Settings) (given : List KeyValue)
+        → Stands opener.old (new_session settings given)
+        → BearsOnce (M.state manager.old) (M.state manager.new) now }
     ensures going { IfOk result (λ _. IsGoing opener.new) }
-    ensures manager { KeepsManager (M.meaning manager.old) (M.meaning manager.new)
-        (M.tells manager.old) (M.tells manager.new) (M.exact manager.old) (M.exact manager.new) }
+    ensures went { Went (M.state manager.old) (M.state manager.new) }
     ensures taken { (S.state input.new).given ≤ (S.state input.old).given + 2 ^ 62 }
 {
     let mut pieces = Pieces::new(alloc)?;
     'reads: loop {
         match pieces.next(input) {
-            Ok(()) => match feed(alloc, manager, now, opener, pieces.piece(), output) {
+            Ok(()) => match opener.feed(alloc, manager, now, pieces.piece(), output) {
                 Ok(()) => {}
-                Err(error) => return Err(error),
+                Err(error) => return Err(failure_of(error)),
             },
             Err(end) => return Ok(end),
         }
+    }
+}
+
+/// What an error of feeding is called here.
+fn failure_of<E: Drop>(error: FeedError<OpenError, E>) -> DecryptError
+    requires { error ≢ Machine Stopped }
+    ensures { IsFeedCalled error result }
+{
+    match error {
+        FeedError::Machine(error) => named(error),
+        FeedError::Receiver(_) => DecryptError::Outside(Outside::SinkFault),
+    }
+}
+
+/// What an opener's error is called here.
+fn named(error: OpenError) -> DecryptError
+    requires { error ≢ Stopped }
+    ensures { IsCalled error result }
+{
+    match error {
+        OpenError::Fault(fault) => DecryptError::Fault(fault),
+        OpenError::KeyringFault => DecryptError::Outside(Outside::KeyringFault),
+        OpenError::Memory => DecryptError::Memory,
+        OpenError::Stopped => unreachable!(),
     }
 }
 

@@ -12,7 +12,6 @@
 
 mod decryption;
 mod errors;
-mod feeding;
 mod laws;
 
 pub use decryption::decrypt;

@@ -15,9 +15,9 @@ use Rattle.whole_input.proofs.Fronts.{front_beyond, front_longer}
 use Rattle.esdk_encrypt.specs.declared.errors.EncryptError.{EncryptError}
 use Rattle.esdk_encrypt.specs.declared.errors.EncryptError.TheVariants as errors
 use Rattle.esdk_encrypt.specs.Encrypt.{HeaderFails, StopsSo, header_and_frames, written_so_far}
-use Rattle.esdk_encrypt.specs.Feeding.{session_of}
+use Rattle.esdk_encrypt.specs.Writing.{session_of}
 use Rattle.esdk_encrypt.specs.Laws.{GainsFront}
-use Rattle.esdk_encrypt.proofs.Messages.{written_none}
+use Rattle.esdk_encrypt.proofs.Sessions.{written_none}
 
 -- all of some bytes is a front of them
 front_all : (a b : Option (List ℕ)) (xs : List ℕ) → Appends a b xs → AppendsFront a b xs

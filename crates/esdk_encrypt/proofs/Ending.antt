@@ -9,13 +9,13 @@ use Rattle.esdk_fields.specs.declared.refusals.Refusal.TheVariants as refusals
 use Rattle.context_codec.specs.Parts.{stored_of}
 use Rattle.edk_codec.specs.Entry.{IsEntry}
 use Rattle.header_codec.specs.Header.{latest_end}
-use Rattle.header_codec.specs.Table.{is_over}
+use Rattle.esdk_fields.specs.Limits.{is_over}
 use Rattle.header_codec.specs.Written.{committing, keys_end}
 use Rattle.keyring_trait.specs.Materials.{EncMaterialsValue}
 use Rattle.stream_seal.specs.Start.{start_refusal}
 use Rattle.esdk_encrypt.specs.declared.errors.EncryptError.{EncryptError}
 use Rattle.esdk_encrypt.specs.declared.errors.EncryptError.TheVariants as errors
-use Rattle.esdk_encrypt.specs.Encrypt.{Asked, Begins, Drew, Encrypts, EndsSo, StartsNot, StopsSo, Writes, drawn_id, drawn_rest}
+use Rattle.esdk_encrypt.specs.Encrypt.{Asked, Begins, Drew, Encrypts, EncryptEnds, BeginsNoMessage, StopsSo, Writes, drawn_id, drawn_rest}
 
 -- ---- the message was begun
 
@@ -29,7 +29,7 @@ ends_done asked input taken output put entropy spent drawn m id r started is wri
 -- it was not, or not whole
 ends_after : (asked : Asked) (input taken : SourceState) (output put : SinkState) (entropy spent : EntropyState) (drawn : List ℕ) (m : EncMaterialsValue) (untouched unasked : Type 0)
     (error : EncryptError) → Begins asked entropy spent drawn m → StopsSo m asked.size (drawn_id drawn) input taken output put error
-    → EndsSo asked input taken output put entropy spent untouched unasked error
+    → EncryptEnds asked input taken output put entropy spent untouched unasked error
 ends_after asked input taken output put entropy spent drawn m untouched unasked (errors.Outside outsides.EntropyFault) started stops = absurd stops
 ends_after asked input taken output put entropy spent drawn m untouched unasked (errors.Outside outsides.KeyringFault) started stops = absurd stops
 ends_after asked input taken output put entropy spent drawn m untouched unasked (errors.Outside outside) started stops =
@@ -41,9 +41,9 @@ ends_after asked input taken output put entropy spent drawn m untouched unasked 
 
 pub ends_stopped : (asked : Asked) (input taken : SourceState) (output put : SinkState) (entropy spent : EntropyState) (drawn : List ℕ) (m : EncMaterialsValue) (id : List ℕ)
     (untouched unasked : Type 0) (r : Result (Unit {0}) EncryptError) → Begins asked entropy spent drawn m → id ≡ drawn_id drawn → IfErr r (StopsSo m asked.size id input taken output put)
-    → IfErr r (EndsSo asked input taken output put entropy spent untouched unasked)
+    → IfErr r (EncryptEnds asked input taken output put entropy spent untouched unasked)
 ends_stopped asked input taken output put entropy spent drawn m id untouched unasked r started is stops =
-    IfErr-weaker r (StopsSo m asked.size id input taken output put) (EndsSo asked input taken output put entropy spent untouched unasked)
+    IfErr-weaker r (StopsSo m asked.size id input taken output put) (EncryptEnds asked input taken output put entropy spent untouched unasked)
     (λ error why. ends_after asked input taken output put entropy spent drawn m untouched unasked error started
     (subst (λ (i : List ℕ). StopsSo m asked.size i input taken output put error) is why)) stops
 
@@ -64,7 +64,7 @@ of_header false false count end r is = absurd cc
 -- a refusal of the header's parts
 ends_refused : (asked : Asked) (input : SourceState) (output : SinkState) (entropy spent : EntropyState) (drawn : List ℕ) (m : EncMaterialsValue) (untouched unasked : Type 0)
     (refusal : Refusal) → Drew asked.wraps entropy spent drawn → asked.gives (drawn_rest drawn) m → All IsEntry m.entries → start_refusal m asked.max_keys (drawn_id drawn) ≡ Some refusal → untouched
-    → IsOfHeader refusal → EndsSo asked input input output output entropy spent untouched unasked (errors.Refusal refusal)
+    → IsOfHeader refusal → EncryptEnds asked input input output output entropy spent untouched unasked (errors.Refusal refusal)
 ends_refused asked input output entropy spent drawn m untouched unasked (refusals.TooManyDataKeys n) drew given each cause same of =
     record { drawn = drawn; materials = m; drew = drew; given = given; each = each; cause = cause; same = same }
 ends_refused asked input output entropy spent drawn m untouched unasked (refusals.HeaderTooLong n) drew given each cause same of =
@@ -74,7 +74,7 @@ ends_refused asked input output entropy spent drawn m untouched unasked refusal 
 -- the same of the error that says so
 ends_with : (asked : Asked) (input : SourceState) (output : SinkState) (entropy spent : EntropyState) (drawn : List ℕ) (m : EncMaterialsValue) (untouched unasked : Type 0)
     (error : EncryptError) → Drew asked.wraps entropy spent drawn → asked.gives (drawn_rest drawn) m → All IsEntry m.entries → untouched
-    → StartsNot (start_refusal m asked.max_keys (drawn_id drawn)) error → EndsSo asked input input output output entropy spent untouched unasked error
+    → BeginsNoMessage (start_refusal m asked.max_keys (drawn_id drawn)) error → EncryptEnds asked input input output output entropy spent untouched unasked error
 ends_with asked input output entropy spent drawn m untouched unasked (errors.Refusal refusal) drew given each same cause =
     let count : ℕ = length m.entries in
     let end : ℕ = keys_end (committing (drawn_id drawn)) (stored_of m.required m.context) m.entries in
@@ -85,7 +85,7 @@ ends_with asked input output entropy spent drawn m untouched unasked errors.Memo
 
 pub ends_unstarted : (asked : Asked) (input : SourceState) (output : SinkState) (entropy spent : EntropyState) (drawn : List ℕ) (m : EncMaterialsValue) (id : List ℕ) (untouched unasked : Type 0)
     (error : EncryptError) → Drew asked.wraps entropy spent drawn → asked.gives (drawn_rest drawn) m → All IsEntry m.entries → untouched → id ≡ drawn_id drawn
-    → StartsNot (start_refusal m asked.max_keys id) error → EndsSo asked input input output output entropy spent untouched unasked error
+    → BeginsNoMessage (start_refusal m asked.max_keys id) error → EncryptEnds asked input input output output entropy spent untouched unasked error
 ends_unstarted asked input output entropy spent drawn m id untouched unasked error drew given each same is cause =
     ends_with asked input output entropy spent drawn m untouched unasked error drew given each same
-    (subst (λ (i : List ℕ). StartsNot (start_refusal m asked.max_keys i) error) is cause)
+    (subst (λ (i : List ℕ). BeginsNoMessage (start_refusal m asked.max_keys i) error) is cause)

@@ -14,7 +14,7 @@ use Rattle.context_codec.specs.Parts.{stored_of}
 use Rattle.context_codec.proofs.Parts.{IsContext-stored_of}
 use Rattle.edk_codec.specs.Entry.{Entry, IsEntry, edk_text}
 use Rattle.header_codec.specs.Header.{Opening, latest_end}
-use Rattle.header_codec.specs.Table.{is_over}
+use Rattle.esdk_fields.specs.Limits.{is_over}
 use Rattle.header_codec.specs.Written.{committing, keys_end, longest_entry}
 use Rattle.header_codec.proofs.Spelled.{version_short}
 use Rattle.header_codec.proofs.WrittenHeaders.{entry_text_len, keys_end_is}
@@ -27,8 +27,8 @@ use Rattle.whole_input.specs.Taken.{Came}
 use Rattle.esdk_encrypt.specs.declared.errors.EncryptError.{EncryptError}
 use Rattle.esdk_encrypt.specs.declared.errors.EncryptError.TheVariants as errors
 use Rattle.stream_seal.specs.Start.{start_refusal}
-use Rattle.esdk_encrypt.specs.Encrypt.{Asked, EndsSo, RefusesStart, drawn_id, drawn_rest}
-use Rattle.esdk_encrypt.specs.Laws.{FitsMessage, IsWithin, NothingFails}
+use Rattle.esdk_encrypt.specs.Encrypt.{Asked, EncryptEnds, RefusesStart, drawn_id, drawn_rest}
+use Rattle.esdk_encrypt.specs.Laws.{FitsMessage, IsWithin, NoObjectFails}
 use Rattle.esdk_encrypt.specs.Told.{NoneFor, Writer, asked_by, materials_of, wraps_of}
 
 -- ---- a header of at most 64 entries is short
@@ -89,8 +89,8 @@ start_not_refused asked entropy spent refusal untouched granted refuses =
 
 -- where the input fits and nothing fails, only want of memory ends an encryption
 pub only_memory_ends : (asked : Asked) (text : List ℕ) (input taken : SourceState) (output put : SinkState) (entropy spent : EntropyState) (untouched unasked : Type 0) (error : EncryptError)
-    → IsGranted asked → FitsMessage asked.size input text → NothingFails input taken output put entropy spent
-    → EndsSo asked input taken output put entropy spent untouched unasked error → error ≡ errors.Memory
+    → IsGranted asked → FitsMessage asked.size input text → NoObjectFails input taken output put entropy spent
+    → EncryptEnds asked input taken output put entropy spent untouched unasked error → error ≡ errors.Memory
 only_memory_ends asked text input taken output put entropy spent untouched unasked (errors.Outside outsides.EntropyFault) granted fits nothing ends =
     absurd (omega (arith, nothing.drawing, ends.rose))
 only_memory_ends asked text input taken output put entropy spent untouched unasked (errors.Outside outsides.KeyringFault) granted fits nothing ends =

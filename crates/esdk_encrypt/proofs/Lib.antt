@@ -1,3 +1,4 @@
+pub mod Asking
 pub mod EarlyEnds
 pub mod Ending
 pub mod Fitting
@@ -5,5 +6,4 @@ pub mod Gaining
 pub mod Input
 pub mod Messages
 pub mod Sessions
-pub mod Steps
 pub mod Telling

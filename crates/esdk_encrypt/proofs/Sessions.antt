@@ -1,24 +1,29 @@
 -- The session of a message whose text comes piece by piece, and what is written of it.
-use Rattle.std.proofs.Common.{◌≡◌, ◌∙◌, ℕ, ◌≤◌, List, [], ◌++◌, length, take, Bool, true, false, nat_le, if◌then◌else◌, is_some, Option, Some, None, refl, sym, ap, subst}
+use Rattle.std.proofs.Common.{◌≡◌, ◌∙◌, ℕ, ◌≤◌, List, [], ◌++◌, length, take, Bool, true, false, nat_le, if◌then◌else◌, is_some, Option, Some, None, refl, sym, ap, subst, append-nil}
 use Rattle.std.specs.Io.KnownBytes.{Appends}
 use Rattle.std.proofs.KnownBytes.{Appends-trans}
 use Rattle.esdk_base.specs.Sink.{AppendsFront}
 use Rattle.esdk_base.specs.Streams.{SinkState}
 use Rattle.esdk_fields.specs.declared.refusals.Refusal.{Refusal}
 use Rattle.esdk_fields.specs.declared.refusals.Refusal.TheVariants as refusals
-use Rattle.body_format.specs.Written.{frame_count}
+use Rattle.body_format.specs.Written.{frame_count, regular_frames}
 use Rattle.keyring_trait.specs.Materials.{EncMaterialsValue}
 use Rattle.stream_seal.specs.Feeding.{IsFed, fed, fed_out, feed_refusal, frames_given, given_so_far}
-use Rattle.stream_seal.specs.Session.{SealingValue, opened}
-use Rattle.stream_seal.specs.Start.{most_text}
+use Rattle.stream_seal.specs.Session.{SealingValue, new_session}
+use Rattle.stream_seal.specs.Start.{most_text, start_of}
 use Rattle.stream_seal.proofs.Feeding.{feeds}
 use Rattle.whole_input.specs.Written.{WritesBeyond}
 use Rattle.whole_input.proofs.Fronts.{beyond_after}
 use Rattle.esdk_encrypt.specs.Encrypt.{written_so_far}
-use Rattle.esdk_encrypt.specs.Feeding.{session_of}
+use Rattle.esdk_encrypt.specs.Writing.{session_of}
+
+-- before the first frame the header is all
+pub written_none : (m : EncMaterialsValue) (size : ℕ) (id : List ℕ) → written_so_far m size id [] ≡ start_of m size id
+unfolding frame_count regular_frames
+written_none m size id = append-nil (start_of m size id)
 
 -- nothing was taken yet
-pub opened_is : (m : EncMaterialsValue) (size : ℕ) (id : List ℕ) → opened m None size id ≡ session_of m size id []
+pub opened_is : (m : EncMaterialsValue) (size : ℕ) (id : List ℕ) → new_session m None size id ≡ session_of m size id []
 unfolding frame_count
 opened_is m size id = refl
 

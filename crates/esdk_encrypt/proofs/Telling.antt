@@ -9,13 +9,15 @@ use Rattle.keyring_trait.specs.declared.manager_errors.ManagerError.{ManagerErro
 use Rattle.keyring_trait.specs.declared.manager_errors.ManagerError.TheVariants as managers
 use Rattle.keyring_trait.specs.declared.served.Served.{Served}
 use Rattle.keyring_trait.specs.declared.served.Served.TheVariants.{Direct}
-use Rattle.keyring_trait.specs.Manager.{ManagerMeaning, AreDrawn, GivesMaterials, GivesNone, IsNew}
+use Rattle.keyring_trait.specs.Manager.{ManagerNow, AreDrawn, GivesMaterials, GivesNone, IsNew}
+use Rattle.keyring_trait.specs.Requests.{EncRequestValue}
+use Rattle.keyring_trait.specs.Saying.{said_last}
 use Rattle.keyring_trait.specs.Materials.{EncMaterialsValue}
 use Rattle.keyring_trait.specs.Requests.{EncRequestValue}
 use Rattle.keyring_trait.specs.Wrapping.{WrapKeyValue, active, ivs_of, made}
 use Rattle.esdk_encrypt.specs.declared.errors.EncryptError.{EncryptError}
 use Rattle.esdk_encrypt.specs.declared.errors.EncryptError.TheVariants as errors
-use Rattle.esdk_encrypt.specs.Encrypt.{Asked, Begins, Drew, Encrypts, EndsAfter, EndsSo, GivesNothing, HasNoMemory, RefusesStart, StopsSo, Writes, asked_of, drawn_id, drawn_rest}
+use Rattle.esdk_encrypt.specs.Encrypt.{Asked, Begins, Drew, Encrypts, EndsAfter, EncryptEnds, GivesNothing, HasNoMemory, RefusesStart, StopsSo, Writes, encryption_of, drawn_id, drawn_rest}
 use Rattle.esdk_encrypt.specs.Told.{asked_told, materials_of, writer_of}
 
 -- ---- runs about the same, of which one says more
@@ -84,7 +86,7 @@ memory_more a b entropy spent untouched more ends =
     record { drawn = ends.drawn; drew = drew_more a b entropy spent ends.drawn more ends.drew; same = ends.same }
 
 pub ends_more : (a b : Asked) (input taken : SourceState) (output put : SinkState) (entropy spent : EntropyState) (untouched unasked : Type 0) (error : EncryptError) → SaysMore a b
-    → EndsSo a input taken output put entropy spent untouched unasked error → EndsSo b input taken output put entropy spent untouched unasked error
+    → EncryptEnds a input taken output put entropy spent untouched unasked error → EncryptEnds b input taken output put entropy spent untouched unasked error
 ends_more a b input taken output put entropy spent untouched unasked (errors.Outside outsides.EntropyFault) more ends = ends
 ends_more a b input taken output put entropy spent untouched unasked (errors.Outside outsides.KeyringFault) more ends =
     nothing_more a b entropy spent managers.KeyringFault untouched more ends
@@ -102,72 +104,74 @@ ends_more a b input taken output put entropy spent untouched unasked errors.Memo
 -- ---- keys that are told
 
 -- The manager tells these keys, and is exact and plain.
-record IsTold (keys : List WrapKeyValue) (m : ManagerMeaning) (tells : List WrapKeyValue → Type 0) (exact : Type 0) : Type 0 where
-  told : tells keys
-  is_exact : exact
-  plain : m.plain ≡ true
-  fresh : m.fresh ≡ true
-  count : length (active keys) ≡ m.wraps
+record IsTold (keys : List WrapKeyValue) (n : ManagerNow) : Type 0 where
+  told : n.tells keys
+  is_exact : n.exact
+  plain : n.meaning.plain ≡ true
+  fresh : n.meaning.fresh ≡ true
+  count : length (active keys) ≡ n.meaning.wraps
 
 -- its materials are those of the keys
-materials_told : (keys : List WrapKeyValue) (old : ManagerMeaning) (tells : List WrapKeyValue → Type 0) (exact : Type 0) (request : EncRequestValue) (size : ℕ) (max_keys : Option ℕ)
-    (random : List ℕ) (m : EncMaterialsValue) → IsTold keys old tells exact → GivesMaterials old tells exact request random m
-    → m ≡ materials_of (writer_of keys old request size max_keys) random
-materials_told keys old tells exact request size max_keys random m is given =
+materials_told : (keys : List WrapKeyValue) (old : ManagerNow) (request : EncRequestValue) (size : ℕ) (max_keys : Option ℕ)
+    (random : List ℕ) (m : EncMaterialsValue) → IsTold keys old → GivesMaterials old request random m
+    → m ≡ materials_of (writer_of keys old.meaning request size max_keys) random
+materials_told keys old request size max_keys random m is given =
     let direct : m.served ≡ Direct = given.plain is.plain in
-    let drawn : AreDrawn old.wraps tells random m = given.fresh is.fresh (subst (λ (s : Served). IsNew s) (sym direct) tt) in
-    let wraps : old.wraps ≡ length (active keys) = sym is.count in
+    let drawn : AreDrawn old.meaning.wraps old.tells random m = given.fresh is.fresh (subst (λ (s : Served). IsNew s) (sym direct) tt) in
+    let wraps : old.meaning.wraps ≡ length (active keys) = sym is.count in
     let entries : m.entries ≡ made keys request.context (take 32 random) (ivs_of (length (active keys)) (drop 32 random)) =
     drawn.entries keys is.told ∙ (λ i. made keys (given.context i) (drawn.key i) (ivs_of (wraps i) (drop 32 random))) in
     λ i. record { context = given.context i; required = given.demanded is.is_exact i; key = drawn.key i; entries = entries i; served = direct i }
 
 -- and it gives none for the first refusal, or since a keyring failed
-none_told : (keys : List WrapKeyValue) (old new : ManagerMeaning) (exact : Type 0) (request : EncRequestValue) (size : ℕ) (max_keys : Option ℕ) (error : ManagerError) → exact
-    → GivesNone old new exact request error → (asked_told keys old new request size max_keys).gives_none error
-none_told keys old new exact request size max_keys (managers.Fault fault) is_exact cause = cause
-none_told keys old new exact request size max_keys (managers.Refusal refusal) is_exact cause = cause.1 is_exact
-none_told keys old new exact request size max_keys managers.KeyringFault is_exact cause = (cause.1 is_exact, cause.0)
-none_told keys old new exact request size max_keys managers.Memory is_exact cause = tt
+none_told : (keys : List WrapKeyValue) (old new : ManagerNow) (request : EncRequestValue) (size : ℕ) (max_keys : Option ℕ) (error : ManagerError) → old.exact
+    → GivesNone old new request error → (asked_told keys old.meaning new.meaning request size max_keys).gives_none error
+none_told keys old new request size max_keys (managers.Fault fault) is_exact cause = cause
+none_told keys old new request size max_keys (managers.Refusal refusal) is_exact cause = cause.1 is_exact
+none_told keys old new request size max_keys managers.KeyringFault is_exact cause = (cause.1 is_exact, cause.0)
+none_told keys old new request size max_keys managers.Memory is_exact cause = tt
 
-told_more : (keys : List WrapKeyValue) (old new : ManagerMeaning) (tells : List WrapKeyValue → Type 0) (exact : Type 0) (gave : List ℕ → EncMaterialsValue → Type 0) (request : EncRequestValue) (size : ℕ) (max_keys : Option ℕ)
-    → IsTold keys old tells exact → SaysMore (asked_of old new tells exact gave request size max_keys) (asked_told keys old new request size max_keys)
-told_more keys old new tells exact gave request size max_keys is = record {
+-- what a manager is asked between these moments, and what over the keys that it tells
+abbrev asked_between : ManagerNow → ManagerNow → EncRequestValue → ℕ → ℕ → Option ℕ → Asked
+asked_between old new request now size max_keys = encryption_of (said_last old new) request now size max_keys
+
+told_more : (keys : List WrapKeyValue) (old new : ManagerNow) (request : EncRequestValue) (now size : ℕ) (max_keys : Option ℕ)
+    → IsTold keys old → SaysMore (asked_between old new request now size max_keys) (asked_told keys old.meaning new.meaning request size max_keys)
+told_more keys old new request now size max_keys is = record {
   wraps = sym is.count;
-  gives = λ random m given. (given.0.unrefused is.is_exact, materials_told keys old tells exact request size max_keys random m is given.0);
-  gives_none = λ error cause. none_told keys old new exact request size max_keys error is.is_exact cause;
+  gives = λ random m given. (given.0.unrefused is.is_exact, materials_told keys old request size max_keys random m is given.0);
+  gives_none = λ error cause. none_told keys old new request size max_keys error is.is_exact cause;
   size = refl;
   max_keys = refl;
 }
 
 -- What a manager's `wraps` says of it: as many of the keys that it tells wrap, and where it is plain it is fresh.
-pub record CountsWraps (m : ManagerMeaning) (tells : List WrapKeyValue → Type 0) : Type 0 where
-  pub told : (keys : List WrapKeyValue) → tells keys → length (active keys) ≡ m.wraps
-  pub plain : m.plain ≡ true → m.fresh ≡ true
+pub record CountsWraps (n : ManagerNow) : Type 0 where
+  pub told : (keys : List WrapKeyValue) → n.tells keys → length (active keys) ≡ n.meaning.wraps
+  pub plain : n.meaning.plain ≡ true → n.meaning.fresh ≡ true
 
-is_told : (keys : List WrapKeyValue) (m : ManagerMeaning) (tells : List WrapKeyValue → Type 0) (exact : Type 0) → CountsWraps m tells → tells keys → exact → m.plain ≡ true
-    → IsTold keys m tells exact
-is_told keys m tells exact counts told is_exact plain =
+is_told : (keys : List WrapKeyValue) (n : ManagerNow) → CountsWraps n → n.tells keys → n.exact → n.meaning.plain ≡ true → IsTold keys n
+is_told keys n counts told is_exact plain =
     record { told = told; is_exact = is_exact; plain = plain; fresh = counts.plain plain; count = counts.told keys told }
 
-pub writes_told : (old new : ManagerMeaning) (tells : List WrapKeyValue → Type 0) (exact : Type 0) (gave : List ℕ → EncMaterialsValue → Type 0) (request : EncRequestValue) (size : ℕ) (max_keys : Option ℕ)
-    (input taken : SourceState) (output put : SinkState) (entropy spent : EntropyState) (r : Result (Unit {0}) EncryptError) → CountsWraps old tells
-    → OnOk r (Encrypts (asked_of old new tells exact gave request size max_keys) input taken output put entropy spent)
-    → (keys : List WrapKeyValue) → tells keys → exact → old.plain ≡ true
-    → OnOk r (Encrypts (asked_told keys old new request size max_keys) input taken output put entropy spent)
-writes_told old new tells exact gave request size max_keys input taken output put entropy spent r counts done keys told is_exact plain =
-    let a : Asked = asked_of old new tells exact gave request size max_keys in
-    let b : Asked = asked_told keys old new request size max_keys in
-    let more : SaysMore a b = told_more keys old new tells exact gave request size max_keys (is_told keys old tells exact counts told is_exact plain) in
-    on_ok_weaker r (encrypts_more a b input taken output put entropy spent more) done
+module _ (old new : ManagerNow) (request : EncRequestValue) (now size : ℕ) (max_keys : Option ℕ) (input taken : SourceState) (output put : SinkState) (entropy spent : EntropyState) where
+  pub writes_told : (r : Result (Unit {0}) EncryptError) → CountsWraps old
+      → OnOk r (Encrypts (asked_between old new request now size max_keys) input taken output put entropy spent)
+      → (keys : List WrapKeyValue) → old.tells keys → old.exact → old.meaning.plain ≡ true
+      → OnOk r (Encrypts (asked_told keys old.meaning new.meaning request size max_keys) input taken output put entropy spent)
+  writes_told r counts done keys told is_exact plain =
+      let a : Asked = asked_between old new request now size max_keys in
+      let b : Asked = asked_told keys old.meaning new.meaning request size max_keys in
+      let more : SaysMore a b = told_more keys old new request now size max_keys (is_told keys old counts told is_exact plain) in
+      on_ok_weaker r (encrypts_more a b input taken output put entropy spent more) done
 
-pub stops_told : (old new : ManagerMeaning) (tells : List WrapKeyValue → Type 0) (exact : Type 0) (gave : List ℕ → EncMaterialsValue → Type 0) (request : EncRequestValue) (size : ℕ) (max_keys : Option ℕ)
-    (input taken : SourceState) (output put : SinkState) (entropy spent : EntropyState) (untouched unasked : Type 0) (r : Result (Unit {0}) EncryptError) → CountsWraps old tells
-    → IfErr r (EndsSo (asked_of old new tells exact gave request size max_keys) input taken output put entropy spent untouched unasked)
-    → (keys : List WrapKeyValue) → tells keys → exact → old.plain ≡ true
-    → IfErr r (EndsSo (asked_told keys old new request size max_keys) input taken output put entropy spent untouched unasked)
-stops_told old new tells exact gave request size max_keys input taken output put entropy spent untouched unasked r counts ends keys told is_exact plain =
-    let a : Asked = asked_of old new tells exact gave request size max_keys in
-    let b : Asked = asked_told keys old new request size max_keys in
-    let more : SaysMore a b = told_more keys old new tells exact gave request size max_keys (is_told keys old tells exact counts told is_exact plain) in
-    IfErr-weaker r (EndsSo a input taken output put entropy spent untouched unasked) (EndsSo b input taken output put entropy spent untouched unasked)
-    (λ error why. ends_more a b input taken output put entropy spent untouched unasked error more why) ends
+  pub stops_told : (untouched unasked : Type 0) (r : Result (Unit {0}) EncryptError) → CountsWraps old
+      → IfErr r (EncryptEnds (asked_between old new request now size max_keys) input taken output put entropy spent untouched unasked)
+      → (keys : List WrapKeyValue) → old.tells keys → old.exact → old.meaning.plain ≡ true
+      → IfErr r (EncryptEnds (asked_told keys old.meaning new.meaning request size max_keys) input taken output put entropy spent untouched unasked)
+  stops_told untouched unasked r counts ends keys told is_exact plain =
+      let a : Asked = asked_between old new request now size max_keys in
+      let b : Asked = asked_told keys old.meaning new.meaning request size max_keys in
+      let more : SaysMore a b = told_more keys old new request now size max_keys (is_told keys old counts told is_exact plain) in
+      IfErr-weaker r (EncryptEnds a input taken output put entropy spent untouched unasked) (EncryptEnds b input taken output put entropy spent untouched unasked)
+      (λ error why. ends_more a b input taken output put entropy spent untouched unasked error more why) ends

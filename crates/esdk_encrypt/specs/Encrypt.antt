@@ -11,10 +11,9 @@ use Rattle.edk_codec.specs.Entry.{IsEntry}
 use Rattle.body_format.specs.Written.{regular_frames}
 use Rattle.keyring_trait.specs.declared.manager_errors.ManagerError.{ManagerError}
 use Rattle.keyring_trait.specs.declared.manager_errors.ManagerError.TheVariants as managers
-use Rattle.keyring_trait.specs.Manager.{ManagerMeaning, GivesMaterials, GivesNone}
 use Rattle.keyring_trait.specs.Materials.{EncMaterialsValue}
 use Rattle.keyring_trait.specs.Requests.{EncRequestValue}
-use Rattle.keyring_trait.specs.Wrapping.{WrapKeyValue}
+use Rattle.keyring_trait.specs.Saying.{Saying}
 use Rattle.message_format.specs.Message.{under}
 use Rattle.stream_seal.specs.Feeding.{frames_given}
 use Rattle.stream_seal.specs.Start.{message_of, most_frames, most_text, start_of, start_refusal}
@@ -125,12 +124,12 @@ pub record Asked : Type 1 where
   pub size : ℕ
   pub max_keys : Option ℕ
 
--- what is asked of a manager that means this before and that after it, tells these keys, and is exact or not; `gave` says what it gave last, at the run's moment
-abbrev pub asked_of : ManagerMeaning → ManagerMeaning → (List WrapKeyValue → Type 0) → Type 0 → (List ℕ → EncMaterialsValue → Type 0) → EncRequestValue → ℕ → Option ℕ → Asked
-asked_of old new tells exact gave request size max_keys = record {
-  wraps = old.wraps;
-  gives = λ random materials. GivesMaterials old tells exact request random materials × gave random materials;
-  gives_none = GivesNone old new exact request;
+-- what is asked of a manager that may say this, of this request and at this moment
+abbrev pub encryption_of : Saying → EncRequestValue → ℕ → ℕ → Option ℕ → Asked
+encryption_of saying request now size max_keys = record {
+  wraps = saying.wraps;
+  gives = saying.gives request now;
+  gives_none = saying.gives_none request;
   size = size;
   max_keys = max_keys;
 }
@@ -187,18 +186,18 @@ pub record HasNoMemory (asked : Asked) (entropy spent : EntropyState) (untouched
 
 -- Why an input wasn't encrypted, and what that left. `untouched` says that the input and the output are as before, `unasked` that the manager is. Want of memory is free before
 -- anything is taken or written, and can't come later.
-abbrev pub EndsSo : Asked → SourceState → SourceState → SinkState → SinkState → EntropyState → EntropyState → Type 0 → Type 0 → EncryptError → Type 0
-EndsSo asked input taken output put entropy spent untouched unasked (errors.Outside outsides.EntropyFault) = EntropyFails entropy spent untouched unasked
-EndsSo asked input taken output put entropy spent untouched unasked (errors.Outside outsides.KeyringFault) = GivesNothing asked entropy spent managers.KeyringFault untouched
-EndsSo asked input taken output put entropy spent untouched unasked (errors.Outside outside) = EndsAfter asked input taken output put entropy spent (errors.Outside outside)
-EndsSo asked input taken output put entropy spent untouched unasked (errors.Refusal refusals.TooManyFrames) =
+abbrev pub EncryptEnds : Asked → SourceState → SourceState → SinkState → SinkState → EntropyState → EntropyState → Type 0 → Type 0 → EncryptError → Type 0
+EncryptEnds asked input taken output put entropy spent untouched unasked (errors.Outside outsides.EntropyFault) = EntropyFails entropy spent untouched unasked
+EncryptEnds asked input taken output put entropy spent untouched unasked (errors.Outside outsides.KeyringFault) = GivesNothing asked entropy spent managers.KeyringFault untouched
+EncryptEnds asked input taken output put entropy spent untouched unasked (errors.Outside outside) = EndsAfter asked input taken output put entropy spent (errors.Outside outside)
+EncryptEnds asked input taken output put entropy spent untouched unasked (errors.Refusal refusals.TooManyFrames) =
     EndsAfter asked input taken output put entropy spent (errors.Refusal refusals.TooManyFrames)
-EndsSo asked input taken output put entropy spent untouched unasked (errors.Refusal (refusals.TooManyDataKeys n)) =
+EncryptEnds asked input taken output put entropy spent untouched unasked (errors.Refusal (refusals.TooManyDataKeys n)) =
     RefusesStart asked entropy spent (refusals.TooManyDataKeys n) untouched
-EndsSo asked input taken output put entropy spent untouched unasked (errors.Refusal (refusals.HeaderTooLong n)) =
+EncryptEnds asked input taken output put entropy spent untouched unasked (errors.Refusal (refusals.HeaderTooLong n)) =
     RefusesStart asked entropy spent (refusals.HeaderTooLong n) untouched
-EndsSo asked input taken output put entropy spent untouched unasked (errors.Refusal refusal) = GivesNothing asked entropy spent (managers.Refusal refusal) untouched
-EndsSo asked input taken output put entropy spent untouched unasked errors.Memory = HasNoMemory asked entropy spent untouched
+EncryptEnds asked input taken output put entropy spent untouched unasked (errors.Refusal refusal) = GivesNothing asked entropy spent (managers.Refusal refusal) untouched
+EncryptEnds asked input taken output put entropy spent untouched unasked errors.Memory = HasNoMemory asked entropy spent untouched
 
 -- a manager's error that is no fault of a header
 abbrev pub IsNoFault : ManagerError → Type 0
@@ -213,7 +212,7 @@ GivesNot (managers.Fault fault) error = ⊥
 GivesNot managers.Memory error = error ≡ errors.Memory
 
 -- a message can't be begun for that reason; want of memory is free
-abbrev pub StartsNot : Option Refusal → EncryptError → Type 0
-StartsNot refusal (errors.Refusal r) = refusal ≡ Some r
-StartsNot refusal (errors.Outside outside) = ⊥
-StartsNot refusal errors.Memory = ⊤
+abbrev pub BeginsNoMessage : Option Refusal → EncryptError → Type 0
+BeginsNoMessage refusal (errors.Refusal r) = refusal ≡ Some r
+BeginsNoMessage refusal (errors.Outside outside) = ⊥
+BeginsNoMessage refusal errors.Memory = ⊤

@@ -11,7 +11,7 @@ use Rattle.stream_seal.specs.Start.{message_of, most_text}
 use Rattle.whole_input.specs.Taken.{Came}
 use Rattle.esdk_encrypt.specs.declared.errors.EncryptError.{EncryptError}
 use Rattle.esdk_encrypt.specs.declared.errors.EncryptError.TheVariants.{Memory}
-use Rattle.esdk_encrypt.specs.Encrypt.{Encrypts, EndsSo, StopsSo, draws}
+use Rattle.esdk_encrypt.specs.Encrypt.{Encrypts, EncryptEnds, StopsSo, draws}
 use Rattle.esdk_encrypt.specs.Told.{Writer, asked_by, message_by, wraps_of}
 
 -- ---- what is written
@@ -44,17 +44,17 @@ pub record FitsMessage (size : ℕ) (input : SourceState) (text : List ℕ) : Ty
   pub few : length text < 2 ^ 62
 
 -- No count of faults rose of the input, the output or the entropy.
-pub record NothingFails (input taken : SourceState) (output put : SinkState) (entropy spent : EntropyState) : Type 0 where
+pub record NoObjectFails (input taken : SourceState) (output put : SinkState) (entropy spent : EntropyState) : Type 0 where
   pub source : Stayed input.faults taken.faults
   pub sink : Stayed output.faults put.faults
   pub drawing : Stayed entropy.faults spent.faults
 
 -- Where the writer is within the limits, the request isn't refused, the input fits and nothing fails, the keyrings included, only want of memory ends an encryption.
 -- `⊤` stands for what the run left untouched, which plays no part.
-abbrev pub EncryptsWhatFits : Type 0
-EncryptsWhatFits = (writer : Writer) (old new : ℕ) (text : List ℕ) (input taken : SourceState) (output put : SinkState) (entropy spent : EntropyState) (error : EncryptError)
-    → IsWithin writer → FitsMessage writer.size input text → Stayed old new → NothingFails input taken output put entropy spent
-    → EndsSo (asked_by writer None old new) input taken output put entropy spent ⊤ ⊤ error → error ≡ Memory
+abbrev pub EncryptsInputsThatFit : Type 0
+EncryptsInputsThatFit = (writer : Writer) (old new : ℕ) (text : List ℕ) (input taken : SourceState) (output put : SinkState) (entropy spent : EntropyState) (error : EncryptError)
+    → IsWithin writer → FitsMessage writer.size input text → Stayed old new → NoObjectFails input taken output put entropy spent
+    → EncryptEnds (asked_by writer None old new) input taken output put entropy spent ⊤ ⊤ error → error ≡ Memory
 
 -- ---- what is left where it ends early
 

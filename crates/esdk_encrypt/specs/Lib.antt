@@ -1,4 +1,5 @@
 pub mod Encrypt
-pub mod Feeding
+pub mod Writing
+pub mod Asking
 pub mod Told
 pub mod Laws

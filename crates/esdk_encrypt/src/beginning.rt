@@ -4,8 +4,8 @@ ghost use Rattle.std.specs.Prelude.{◌≡◌, ◌≤◌, [], None, All, IfErr, 
 ghost use Rattle.edk_codec.specs.Entry.{IsEntry};
 ghost use Rattle.stream_seal.specs.Stands.{Stands};
 ghost use Rattle.stream_seal.specs.Start.{start_refusal};
-ghost use Rattle.esdk_encrypt.specs.Encrypt.{StartsNot};
-ghost use Rattle.esdk_encrypt.specs.Feeding.{session_of};
+ghost use Rattle.esdk_encrypt.specs.Encrypt.{BeginsNoMessage};
+ghost use Rattle.esdk_encrypt.specs.Writing.{session_of};
 
 use crate::errors::EncryptError;
 use crate::options::EncryptOptions;
@@ -28,7 +28,7 @@ pub(crate) fn begin(
     ensures stands { IfOk result (λ sealer. Stands sealer
         (session_of materials.now options.frame_length message_id.now [])) }
     ensures taken { OnOk result (start_refusal materials.now options.max_keys message_id.now ≡ None) }
-    ensures cause { IfErr result (StartsNot (start_refusal materials.now options.max_keys
+    ensures cause { IfErr result (BeginsNoMessage (start_refusal materials.now options.max_keys
         message_id.now)) }
     ensures each { All IsEntry materials.now.entries }
 {

@@ -6,6 +6,7 @@ ghost use Rattle.esdk_fields.specs.Counts.{HasCause};
 ghost use Rattle.esdk_encrypt.specs.Encrypt.{Drew, drawn_id, drawn_rest};
 
 use esdk_base::{Entropy, Failed};
+use esdk_fields::array_of;
 use std::marker::Model;
 
 /// The most bytes that are drawn: 64 and 12 for each of 64 wraps.
@@ -67,14 +68,4 @@ pub(crate) fn draw<W: Entropy>(entropy: &mut W, wraps: u32) -> Result<Draws, Fai
     let mut bytes = [0; MOST_DRAWN];
     entropy.fill(&mut bytes[..count])?;
     Ok(Draws { bytes, count })
-}
-
-/// The bytes as an array of their number.
-pub(crate) fn array_of<const N: usize>(bytes: &[u8]) -> [u8; N]
-    requires { length bytes.now ≡ N }
-    ensures { result ≡ bytes.now }
-{
-    let mut array = [0; N];
-    array.copy_from_slice(bytes);
-    array
 }

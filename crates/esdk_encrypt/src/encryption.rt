@@ -1,36 +1,35 @@
 //! The encryption of an input.
 
-ghost use Rattle.std.specs.Prelude.{◌≡◌, ◌+◌, ◌≤◌, ◌^◌, ℕ, true, List, [], IfErr, OnOk};
-ghost use Rattle.keyring_trait.specs.Manager.{ManagerGoes, TellsOn};
-ghost use Rattle.keyring_trait.specs.Materials.{EncMaterialsValue};
+ghost use Rattle.std.specs.Prelude.{◌≡◌, ◌+◌, ◌≤◌, ◌^◌, ℕ, true, List, IfErr, OnOk};
+ghost use Rattle.keyring_trait.specs.Manager.{Went};
+ghost use Rattle.keyring_trait.specs.Saying.{said_last};
 ghost use Rattle.keyring_trait.specs.Wrapping.{WrapKeyValue};
-ghost use Rattle.stream_seal.specs.Stands.{Stands};
-ghost use Rattle.esdk_encrypt.specs.Encrypt.{asked_of, Encrypts, EndsSo, GivesNot, IsNoFault, StopsSo, Writes};
-ghost use Rattle.esdk_encrypt.specs.Feeding.{IsNewSealer, session_of};
+ghost use Rattle.esdk_encrypt.specs.Asking.{BearsAtMostOne};
+ghost use Rattle.esdk_encrypt.specs.Encrypt.{encryption_of, Encrypts, EncryptEnds, GivesNot, IsNoFault};
 ghost use Rattle.esdk_encrypt.specs.Told.{asked_told};
 
 use crate::beginning::begin;
 use crate::draws::draw;
 use crate::errors::EncryptError;
-use crate::feeding::{feed_input, put, put_out};
 use crate::options::EncryptOptions;
+use crate::writing::put_message;
 use esdk_base::{Entropy, Sink, Source};
 use esdk_fields::Outside;
 use keyring_trait::{EncRequest, Manager, ManagerError};
 use std::alloc::Global;
-use stream_seal::Sealer;
 use whole_input::Pieces;
 
 /// Encrypts the whole input with materials of the manager, as the request asks for them, and writes
 /// the message.
 ///
 /// First 64 bytes and 12 for each of the manager's wraps are drawn by one fill: 32 are the message
-/// id, and the manager is asked with the others, at the moment of the options. Of its materials the
-/// header is made: it stores the pairs of the context whose keys aren't required, and its tag
-/// authenticates the others too. Then memory is taken for one frame and for one piece of the input,
-/// and no more after that. The header is written, and the input is taken in pieces of at most
-/// 65,536 bytes: a frame is written once it is full and more of the input came, and the final frame
-/// once the input's end was seen. Each of them is one put.
+/// id, and the manager is asked with the others, at the moment of the options; it serves materials
+/// once at the most. Of its materials the header is made: it stores the pairs of the context whose
+/// keys aren't required, and its tag authenticates the others too. Then memory is reserved for one
+/// frame and for one piece of the input; want of it is answered no later. The header is written,
+/// and the input is taken in pieces of at most 65,536 bytes: a frame is written once it is full and
+/// more of the input came, and the final frame once the input's end was seen. Each of them is one
+/// put.
 ///
 /// `EntropyFault` leaves the manager, the input and the output as they were, and the bytes to come
 /// undrawn. The next errors leave the input and the output as they were: `RequiredAbsent` (Q4),
@@ -63,15 +62,13 @@ pub fn encrypt<M: Manager, S: Source, O: Sink, W: Entropy>(
     // Over any manager. The materials are the last that the manager which is left gave, at the
     // moment of the options.
     ensures done { OnOk result (Encrypts
-        (asked_of (M.meaning manager.old) (M.meaning manager.new) (M.tells manager.old)
-        (M.exact manager.old) (M.gave manager.new request.now options.now) request.now
+        (encryption_of (said_last (M.state manager.old) (M.state manager.new)) request.now options.now
         options.frame_length options.max_keys)
         (S.state input.old) (S.state input.new)
         (O.state output.old) (O.state output.new)
         (W.state entropy.old) (W.state entropy.new)) }
-    ensures ends { IfErr result (λ error. EndsSo
-        (asked_of (M.meaning manager.old) (M.meaning manager.new) (M.tells manager.old)
-        (M.exact manager.old) (M.gave manager.new request.now options.now) request.now
+    ensures ends { IfErr result (λ error. EncryptEnds
+        (encryption_of (said_last (M.state manager.old) (M.state manager.new)) request.now options.now
         options.frame_length options.max_keys)
         (S.state input.old) (S.state input.new)
         (O.state output.old) (O.state output.new)
@@ -79,29 +76,27 @@ pub fn encrypt<M: Manager, S: Source, O: Sink, W: Entropy>(
         ((input.new ≡ input.old) × (output.new ≡ output.old)) (manager.new ≡ manager.old) error) }
 
     // Over a manager that is exact and plain, and tells its keys.
-    ensures writes { (keys : List WrapKeyValue) → M.tells manager.old keys → M.exact manager.old
-        → (M.meaning manager.old).plain ≡ true
+    ensures writes { (keys : List WrapKeyValue) → (M.state manager.old).tells keys
+        → (M.state manager.old).exact → (M.state manager.old).meaning.plain ≡ true
         → OnOk result (Encrypts
-        (asked_told keys (M.meaning manager.old) (M.meaning manager.new) request.now
+        (asked_told keys (M.state manager.old).meaning (M.state manager.new).meaning request.now
         options.frame_length options.max_keys)
         (S.state input.old) (S.state input.new)
         (O.state output.old) (O.state output.new)
         (W.state entropy.old) (W.state entropy.new)) }
-    ensures stops { (keys : List WrapKeyValue) → M.tells manager.old keys → M.exact manager.old
-        → (M.meaning manager.old).plain ≡ true
-        → IfErr result (λ error. EndsSo
-        (asked_told keys (M.meaning manager.old) (M.meaning manager.new) request.now
+    ensures stops { (keys : List WrapKeyValue) → (M.state manager.old).tells keys
+        → (M.state manager.old).exact → (M.state manager.old).meaning.plain ≡ true
+        → IfErr result (λ error. EncryptEnds
+        (asked_told keys (M.state manager.old).meaning (M.state manager.new).meaning request.now
         options.frame_length options.max_keys)
         (S.state input.old) (S.state input.new)
         (O.state output.old) (O.state output.new)
         (W.state entropy.old) (W.state entropy.new)
         ((input.new ≡ input.old) × (output.new ≡ output.old)) (manager.new ≡ manager.old) error) }
 
-    ensures goes { ManagerGoes (M.meaning manager.old) (M.meaning manager.new) }
-    ensures tells { TellsOn (M.tells manager.old) (M.tells manager.new) }
-    ensures same { (M.meaning manager.old).plain ≡ true
-        → TellsOn (M.tells manager.new) (M.tells manager.old) }
-    ensures exact { M.exact manager.old → M.exact manager.new }
+    ensures went { Went (M.state manager.old) (M.state manager.new) }
+    ensures bears { BearsAtMostOne (M.state manager.old) (M.state manager.new) options.now
+        request.now.declared result }
     ensures taken { (S.state input.new).given ≤ (S.state input.old).given + 2 ^ 62 }
 {
     let wraps = manager.wraps();
@@ -130,34 +125,5 @@ fn ungiven(error: ManagerError) -> EncryptError
         ManagerError::Memory => EncryptError::Memory,
         // There is no header yet that could have a fault.
         ManagerError::Fault(_) => unreachable!(),
-    }
-}
-
-/// Writes a message: its header, a frame where one is full and more of the input came, and at the
-/// end of the input the final frame.
-fn put_message<S: Source, O: Sink>(
-    sealer: &mut Sealer,
-    pieces: &mut Pieces,
-    input: &mut S,
-    output: &mut O,
-) -> Result<(), EncryptError>
-    requires begins { IsNewSealer sealer.old }
-    requires none { pieces.old.taken ≡ 0 }
-    ensures writes { (m : EncMaterialsValue) (size : ℕ) (id : List ℕ) → 1 ≤ size
-        → Stands sealer.old (session_of m size id [])
-        → OnOk result (Writes m size id (S.state input.old) (S.state input.new) (O.state output.old)
-        (O.state output.new)) }
-    ensures stops { (m : EncMaterialsValue) (size : ℕ) (id : List ℕ) → 1 ≤ size
-        → Stands sealer.old (session_of m size id [])
-        → IfErr result (StopsSo m size id (S.state input.old) (S.state input.new)
-        (O.state output.old) (O.state output.new)) }
-    ensures taken { (S.state input.new).given ≤ (S.state input.old).given + 2 ^ 62 }
-{
-    put(sealer.header(), output)?;
-    feed_input(sealer, pieces, input, output)?;
-    match sealer.finish() {
-        Ok(()) => put_out(sealer, output),
-        // The session goes on.
-        Err(_) => unreachable!(),
     }
 }

@@ -1,11 +1,11 @@
 //! Laws about encryption. A law is a function that does nothing: its contract is what is proved.
 
-ghost use Rattle.esdk_encrypt.specs.Laws.{EncryptsWhatFits, GainsTheMessage, LeavesAFront, WritesAllButTheLast};
+ghost use Rattle.esdk_encrypt.specs.Laws.{EncryptsInputsThatFit, GainsTheMessage, LeavesAFront, WritesAllButTheLast};
 
 /// An input that fits into a message is encrypted, unless memory runs out or a count of faults
 /// rises.
 pub fn what_fits_is_encrypted()
-    ensures { EncryptsWhatFits }
+    ensures { EncryptsInputsThatFit }
 {}
 
 /// An output that tells its bytes has gained the message of all bytes of an input that tells them.

@@ -10,16 +10,17 @@
 //! keys: there the message is determined by the request, the keys and the bytes drawn.
 //! `specs/Laws.antt` says what follows: an input that fits is encrypted unless memory runs out or
 //! something outside fails, over bytes that are told the output has gained their message, and where
-//! a run ends early, a front of it. `specs/Feeding.antt` says how the input comes to a sealer.
+//! a run ends early, a front of it. `specs/Writing.antt` says how the text comes to a sealer, and
+//! `specs/Asking.antt` that the manager serves one message once.
 #![tactic(auto)]
 
 mod beginning;
 mod draws;
 mod encryption;
 mod errors;
-mod feeding;
 mod laws;
 mod options;
+mod writing;
 
 pub use encryption::encrypt;
 pub use errors::EncryptError;

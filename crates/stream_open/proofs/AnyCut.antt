@@ -20,7 +20,7 @@ use Rattle.message_format.proofs.Following.{SameAnswer, follows}
 use Rattle.stream_open.specs.declared.errors.OpenError.{OpenError}
 use Rattle.stream_open.specs.declared.errors.OpenError.TheVariants as errors
 use Rattle.stream_open.specs.Asking.{Heard, Nothing, Found, Named, Failed}
-use Rattle.stream_open.specs.Session.{OpeningValue, opened, answer_kept, judged_now, header_asked, asked_of, keeping, is_faulty, reach, added, answer_at, answer_on, step_answer, stepped, finished}
+use Rattle.stream_open.specs.Session.{OpeningValue, new_session, answer_kept, judged_now, header_asked, asked_header, keeping, is_faulty, reach, added, answer_at, answer_on, step_answer, stepped, finished}
 use Rattle.stream_open.specs.Laws.{Event, Step, Finish, MayBeHeard, Meets, MeetsAll, after_event, after_all, given_by, IsOpened}
 
 -- ---- which answer is looked at
@@ -52,7 +52,7 @@ asked_by false None settings bytes h e = refl
 asked_by false (Some a) settings bytes h e = absurd cc
 
 -- what is heard changes no judgement of the bytes taken
-pub heard_same : (v : OpeningValue) (piece : List ℕ) (short : Type 0) (heard : Heard) → MayBeHeard (asked_of v piece) short heard → (v.answer ≡ None → head v.settings v.taken ≡ None)
+pub heard_same : (v : OpeningValue) (piece : List ℕ) (short : Type 0) (heard : Heard) → MayBeHeard (asked_header v piece) short heard → (v.answer ≡ None → head v.settings v.taken ≡ None)
     → SameAnswer (header v.settings (start v.taken)) (answer_kept v.answer) (answer_kept (keeping v heard).answer)
 heard_same v piece short Nothing may unheard = same_answer (header v.settings (start v.taken)) (answer_kept v.answer)
 heard_same v piece short (Found m) (h, is) unheard =
@@ -144,7 +144,7 @@ kept_on v w piece n given stopped answer kept same is unheard =
       unheard = unheard;
     }
 
-pub ok_kept : (v : OpeningValue) (given piece : List ℕ) (heard : Heard) (n : ℕ) → IsKept v given → MayBeHeard (asked_of v piece) (Ok n ≡ Err errors.Memory) heard → step_answer v piece heard ≡ Ok n
+pub ok_kept : (v : OpeningValue) (given piece : List ℕ) (heard : Heard) (n : ℕ) → IsKept v given → MayBeHeard (asked_header v piece) (Ok n ≡ Err errors.Memory) heard → step_answer v piece heard ≡ Ok n
     → IsKept (stepped v piece heard (Ok n)) (given ++ (stepped v piece heard (Ok n)).out)
 unfolding step_answer
 ok_kept v given piece Nothing n kept may is =
@@ -152,7 +152,7 @@ ok_kept v given piece Nothing n kept may is =
     kept_on v v piece n given v.stopped v.answer kept (same_answer (header v.settings (start v.taken)) (answer_kept v.answer)) on.is
     (λ none. unread_front v.settings v.taken piece n (unasked v.stopped v.answer v.settings (v.taken ++ piece) on.going none (nothing_asked may)))
   where
-    nothing_asked : (asked_of v piece ≡ None) ⊎ (Ok n ≡ Err errors.Memory) → asked_of v piece ≡ None
+    nothing_asked : (asked_header v piece ≡ None) ⊎ (Ok n ≡ Err errors.Memory) → asked_header v piece ≡ None
     nothing_asked (inl none) = none
     nothing_asked (inr short) = absurd cc
 ok_kept v given piece (Found m) n kept may is =
@@ -176,7 +176,7 @@ kept_still v given served stopped answer kept same unheard =
       unheard = unheard;
     }
 
-err_kept : (v : OpeningValue) (given piece : List ℕ) (short : Type 0) (heard : Heard) (error : OpenError) → IsKept v given → MayBeHeard (asked_of v piece) short heard
+err_kept : (v : OpeningValue) (given piece : List ℕ) (short : Type 0) (heard : Heard) (error : OpenError) → IsKept v given → MayBeHeard (asked_header v piece) short heard
     → IsKept (stepped v piece heard (Err error)) (given ++ [])
 err_kept v given piece short Nothing error kept may = kept_still v given v.served true v.answer kept (heard_same v piece short Nothing may kept.unheard) kept.unheard
 err_kept v given piece short (Found m) error kept may = kept_still v given (Some m.served) true (Some (Unlocks m.context m.only m.key)) kept (heard_same v piece short (Found m) may kept.unheard) (λ none. absurd cc)
@@ -198,13 +198,13 @@ kept_all (e ∷ es) v given kept meets =
     subst (λ (l : List ℕ). IsKept (after_all es (after_event v e)) l) (append_assoc given (after_event v e).out (given_by es (after_event v e)))
     (kept_all es (after_event v e) (given ++ (after_event v e).out) (kept_event v given e kept meets.0) meets.1)
 
-pub kept_none : (settings : Settings) (given : List KeyValue) → IsKept (opened settings given) []
+pub kept_none : (settings : Settings) (given : List KeyValue) → IsKept (new_session settings given) []
 unfolding header opening
 kept_none settings given =
     let is : judged [] settings (answer_kept None) ≡ _ = judged_wanting [] settings (answer_kept None) refl in
     record { released = sym (ap content is); sound = ap (λ (j : Judged). is_faulty j.verdict) is; unheard = λ _. refl }
 
-pub any_cut : (settings : Settings) (given : List KeyValue) (events : List Event) → MeetsAll events (opened settings given) → IsOpened (after_all events (opened settings given)) (given_by events (opened settings given))
+pub any_cut : (settings : Settings) (given : List KeyValue) (events : List Event) → MeetsAll events (new_session settings given) → IsOpened (after_all events (new_session settings given)) (given_by events (new_session settings given))
 any_cut settings given events meets =
-    let kept = kept_all events (opened settings given) [] (kept_none settings given) meets in
+    let kept = kept_all events (new_session settings given) [] (kept_none settings given) meets in
     record { released = kept.released; sound = kept.sound }

@@ -17,7 +17,8 @@ use Rattle.frame_codec.specs.Unit.{Piece, More, Last, piece_of, unit, frame, blo
 use Rattle.frame_codec.proofs.Fields.{place}
 use Rattle.frame_codec.proofs.Heads.{ReadsHead, head_reads}
 use Rattle.frame_codec.proofs.Steps.{after_head}
-use Rattle.frame_codec.proofs.Units.{opened_there, unit_size, unit_wants_head, unit_refuses_head, unit_wants, unit_reads, unit_refuses, frame_is}
+use Rattle.frame_codec.specs.InPlace.{unit_size}
+use Rattle.frame_codec.proofs.Units.{opened_there, unit_wants_head, unit_refuses_head, unit_wants, unit_reads, unit_refuses, frame_is}
 use Rattle.frame_codec.proofs.Ways.{block_wants}
 use Rattle.body_format.specs.declared.verdicts.Verdict.{Verdict}
 use Rattle.body_format.specs.declared.verdicts.Verdict.TheVariants.{Going}

@@ -6,7 +6,7 @@ use Rattle.esdk_fields.specs.declared.faults.Fault.TheVariants.{TrailingBytes}
 use Rattle.stream_open.specs.declared.body.Body.{Body}
 use Rattle.stream_open.specs.declared.errors.OpenError.{OpenError}
 use Rattle.stream_open.specs.declared.errors.OpenError.TheVariants as errors
-use Rattle.stream_open.specs.UnitBuffer.{UnitValue}
+use Rattle.frame_codec.specs.UnitBuffer.{UnitValue}
 use Rattle.stream_open.specs.Body.{unit_reach, body_answer, AnswersBody, IsInUnit}
 
 quiet_answers : (body : Body) (piece : List ℕ) (r : Result ℕ OpenError) → AnswersBody (record body { unit = record body.unit { out = [] } }) piece r → AnswersBody body piece r

@@ -12,6 +12,7 @@ use Rattle.context_codec.specs.Context.{KeyValue}
 use Rattle.header_codec.specs.declared.settings.Settings.{Settings}
 use Rattle.header_codec.specs.Header.{HeaderValue}
 use Rattle.header_codec.specs.Table.{Head, header, head}
+use Rattle.keyring_trait.specs.Saying.{Saying}
 use Rattle.keyring_trait.specs.Unlocking.{Unlocking, Refuses, Unlocks}
 use Rattle.frame_codec.specs.Unit.{Piece, More, Last, block}
 use Rattle.body_format.specs.declared.verdicts.Verdict.{Verdict}
@@ -26,10 +27,10 @@ use Rattle.body_format.proofs.Slots.{first_is}
 use Rattle.message_format.specs.Judgement.{Judged, judged_header, opened_as, header_of, lock_fault, content}
 use Rattle.message_format.proofs.Judging.{body_of, judged_read, judged_refused, judged_opened, judged_locked}
 use Rattle.stream_open.specs.declared.errors.OpenError.TheVariants as errors
-use Rattle.stream_open.specs.Asking.{Asking, Heard, Nothing, Found, Named, Failed, IsHeard}
+use Rattle.stream_open.specs.Asking.{Heard, Nothing, Found, Named, Failed, IsHeard}
 use Rattle.stream_open.specs.Feeding.{GoesOn, Feeds, IsFed, AsksAbout, FeedsExactly, FeedsCompose, FeedsNothing, RunsOutBeforeContent}
 use Rattle.stream_open.specs.Laws.{MayBeHeard, EndsAt}
-use Rattle.stream_open.specs.Session.{OpeningValue, opened, answer_kept, judged_now, judged_with, header_asked, asked_of, keeping, reach, answer_at, step_answer, stepped, end_of, finish_answer, is_framed, framed, MayRunOut}
+use Rattle.stream_open.specs.Session.{OpeningValue, new_session, answer_kept, judged_now, judged_with, header_asked, asked_header, keeping, reach, answer_at, step_answer, stepped, end_of, finish_answer, is_framed, framed, MayRunOut}
 use Rattle.stream_open.proofs.AnyCut.{IsKept, asked_by, kept_none, ok_kept}
 use Rattle.stream_open.proofs.Ends.{ends_exactly}
 use Rattle.stream_open.proofs.FoundFaults.{answered_on, finds_fault, nothing_yet}
@@ -40,18 +41,18 @@ use Rattle.stream_open.proofs.Stopping.{unstopped_on}
 -- ---- what is heard
 
 -- memory didn't run out
-pub sure : (manager : Asking) (given : List KeyValue) (asked : Option HeaderValue) (short : Type 0) (heard : Heard) → (short → ⊥) → IsHeard manager given asked short heard → IsHeard manager given asked ⊥ heard
-sure manager given asked short Nothing never (inl none) = inl none
-sure manager given asked short Nothing never (inr is) = inr (never is)
-sure manager given asked short (Found m) never is = is
-sure manager given asked short (Named fault) never is = is
-sure manager given asked short Failed never is = is
+pub sure : (manager : Saying) (moment : ℕ) (given : List KeyValue) (asked : Option HeaderValue) (short : Type 0) (heard : Heard) → (short → ⊥) → IsHeard manager moment given asked short heard → IsHeard manager moment given asked ⊥ heard
+sure manager moment given asked short Nothing never (inl none) = inl none
+sure manager moment given asked short Nothing never (inr is) = inr (never is)
+sure manager moment given asked short (Found m) never is = is
+sure manager moment given asked short (Named fault) never is = is
+sure manager moment given asked short Failed never is = is
 
-pub may_hear : (manager : Asking) (given : List KeyValue) (asked : Option HeaderValue) (short : Type 0) (heard : Heard) → IsHeard manager given asked short heard → MayBeHeard asked short heard
-may_hear manager given asked short Nothing is = is
-may_hear manager given asked short (Found m) (h, same, finds) = (h, same)
-may_hear manager given asked short (Named fault) (h, same, finds) = (h, same)
-may_hear manager given asked short Failed (h, same, finds) = (h, same)
+pub may_hear : (manager : Saying) (moment : ℕ) (given : List KeyValue) (asked : Option HeaderValue) (short : Type 0) (heard : Heard) → IsHeard manager moment given asked short heard → MayBeHeard asked short heard
+may_hear manager moment given asked short Nothing is = is
+may_hear manager moment given asked short (Found m) (h, same, finds) = (h, same)
+may_hear manager moment given asked short (Named fault) (h, same, finds) = (h, same)
+may_hear manager moment given asked short Failed (h, same, finds) = (h, same)
 
 -- what may be heard where memory didn't run out may be heard
 surely : (asked : Option HeaderValue) (short : Type 0) (heard : Heard) → MayBeHeard asked ⊥ heard → MayBeHeard asked short heard
@@ -88,17 +89,17 @@ some_none : (a : Unlocking) → answer_in a ≡ None → ⊥
 some_none a e = cc
 
 -- an answer that is kept stays
-kept_answer : (v : OpeningValue) (piece : List ℕ) (short : Type 0) (heard : Heard) (a : Unlocking) → MayBeHeard (asked_of v piece) short heard → v.answer ≡ Some a → (keeping v heard).answer ≡ Some a
+pub kept_answer : (v : OpeningValue) (piece : List ℕ) (short : Type 0) (heard : Heard) (a : Unlocking) → MayBeHeard (asked_header v piece) short heard → v.answer ≡ Some a → (keeping v heard).answer ≡ Some a
 kept_answer v piece short Nothing a may is = is
 kept_answer v piece short (Found m) a (h, asked) is = absurd (some_none a (sym is ∙ asked_by v.stopped v.answer v.settings (v.taken ++ piece) h asked))
 kept_answer v piece short (Named fault) a (h, asked) is = absurd (some_none a (sym is ∙ asked_by v.stopped v.answer v.settings (v.taken ++ piece) h asked))
 kept_answer v piece short Failed a may is = is
 
-pub feeds_ok : (v : OpeningValue) (piece : List ℕ) (heard : Heard) (n : ℕ) → GoesOn v → MayBeHeard (asked_of v piece) ⊥ heard → step_answer v piece heard ≡ Ok n
+pub feeds_ok : (v : OpeningValue) (piece : List ℕ) (heard : Heard) (n : ℕ) → GoesOn v → MayBeHeard (asked_header v piece) ⊥ heard → step_answer v piece heard ≡ Ok n
     → Feeds v (take n piece) (stepped v piece heard (Ok n)) (stepped v piece heard (Ok n)).out
 feeds_ok v piece heard n goes may is =
     let before : IsKept v (content (judged_now v)) = record { released = refl; sound = goes.sound; unheard = goes.unheard } in
-    let kept = ok_kept v (content (judged_now v)) piece heard n before (surely (asked_of v piece) (Ok n ≡ Err errors.Memory) heard may) is in
+    let kept = ok_kept v (content (judged_now v)) piece heard n before (surely (asked_header v piece) (Ok n ≡ Err errors.Memory) heard may) is in
     record {
       settings = same_settings v heard;
       pairs = same_pairs v heard;
@@ -108,7 +109,7 @@ feeds_ok v piece heard n goes may is =
       goes = record { going = same_stopped v heard ∙ goes.going; sound = kept.sound; unheard = kept.unheard };
     }
 
-is_fed : (v : OpeningValue) (piece : List ℕ) (heard : Heard) (n : ℕ) → GoesOn v → MayBeHeard (asked_of v piece) ⊥ heard → 1 ≤ length piece → step_answer v piece heard ≡ Ok n → IsFed v piece heard n
+is_fed : (v : OpeningValue) (piece : List ℕ) (heard : Heard) (n : ℕ) → GoesOn v → MayBeHeard (asked_header v piece) ⊥ heard → 1 ≤ length piece → step_answer v piece heard ≡ Ok n → IsFed v piece heard n
 is_fed v piece heard n goes may some is =
     let ends : EndsAt (keeping v heard) piece n = (ends_exactly v piece heard).used n is in
     record { some = ends.some some; within = ends.within; feeds = feeds_ok v piece heard n goes may is }
@@ -123,12 +124,12 @@ asked_head bytes (Some parts) h e = (parts, (refl, sym (same (header_of bytes pa
     same g e = cc
 
 -- what is asked of a session that goes on and keeps no answer
-pub asked_now : (v : OpeningValue) (piece : List ℕ) → GoesOn v → v.answer ≡ None → asked_of v piece ≡ option_map (header_of (v.taken ++ piece)) (head v.settings (v.taken ++ piece))
+pub asked_now : (v : OpeningValue) (piece : List ℕ) → GoesOn v → v.answer ≡ None → asked_header v piece ≡ option_map (header_of (v.taken ++ piece)) (head v.settings (v.taken ++ piece))
 asked_now v piece goes none =
     ap (λ (b : Bool). if b then None else header_asked v.answer v.settings (v.taken ++ piece)) goes.going
     ∙ ap (λ (o : Option Unlocking). header_asked o v.settings (v.taken ++ piece)) none
 
-asks_by : (v : OpeningValue) (piece : List ℕ) (h : HeaderValue) → GoesOn v → asked_of v piece ≡ Some h → Standing v → AsksAbout v piece h
+asks_by : (v : OpeningValue) (piece : List ℕ) (h : HeaderValue) → GoesOn v → asked_header v piece ≡ Some h → Standing v → AsksAbout v piece h
 asks_by v piece h goes is (InHeader now) =
     let none = asked_by v.stopped v.answer v.settings (v.taken ++ piece) h is in
     let found = asked_head (v.taken ++ piece) (head v.settings (v.taken ++ piece)) h (sym (asked_now v piece goes none) ∙ is) in
@@ -138,7 +139,7 @@ asks_by v piece h goes is (Behind u iu) = absurd (none_some (sym (unasked u v pi
     none_some : None ≡ Some h → ⊥
     none_some e = cc
 
-pub asks_about : (v : OpeningValue) (piece : List ℕ) (h : HeaderValue) → GoesOn v → asked_of v piece ≡ Some h → AsksAbout v piece h
+pub asks_about : (v : OpeningValue) (piece : List ℕ) (h : HeaderValue) → GoesOn v → asked_header v piece ≡ Some h → AsksAbout v piece h
 asks_about v piece h goes is = asks_by v piece h goes is (standing v goes)
 
 -- ---- a keyring's fault
@@ -148,8 +149,8 @@ fault_not_keyring n Going e = cc
 fault_not_keyring n Whole e = cc
 fault_not_keyring n (Faulty fault) e = cc
 
-keyring_failed : (v : OpeningValue) (piece : List ℕ) (heard : Heard) → GoesOn v → MayBeHeard (asked_of v piece) ⊥ heard → step_answer v piece heard ≡ Err errors.KeyringFault
-    → (heard ≡ Failed) × ((h : HeaderValue) × (asked_of v piece ≡ Some h))
+keyring_failed : (v : OpeningValue) (piece : List ℕ) (heard : Heard) → GoesOn v → MayBeHeard (asked_header v piece) ⊥ heard → step_answer v piece heard ≡ Err errors.KeyringFault
+    → (heard ≡ Failed) × ((h : HeaderValue) × (asked_header v piece ≡ Some h))
 keyring_failed v piece Nothing goes may is = absurd (fault_not_keyring (reach v piece) (judged_with v piece (reach v piece)).verdict (sym (answered_on v piece Nothing goes.going) ∙ is))
 keyring_failed v piece (Found m) goes may is =
     let w : OpeningValue = keeping v (Found m) in
@@ -191,7 +192,7 @@ feeds_nothing v goes = record {
 }
 
 -- a session begins so
-pub opened_goes : (settings : Settings) (given : List KeyValue) → GoesOn (opened settings given)
+pub opened_goes : (settings : Settings) (given : List KeyValue) → GoesOn (new_session settings given)
 opened_goes settings given = let kept = kept_none settings given in record { going = refl; sound = kept.sound; unheard = kept.unheard }
 
 -- at its end it answers what is judged

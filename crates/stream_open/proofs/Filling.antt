@@ -10,7 +10,7 @@ use Rattle.frame_codec.specs.UnitHead.{head_of}
 use Rattle.frame_codec.proofs.Answering.{decides}
 use Rattle.frame_codec.proofs.Units.{unit_wants_head}
 use Rattle.stream_open.specs.declared.body.Body.{Body}
-use Rattle.stream_open.specs.UnitBuffer.{UnitValue}
+use Rattle.frame_codec.specs.UnitBuffer.{UnitValue}
 use Rattle.stream_open.specs.Body.{IsInUnit, SameBody, open_unit}
 
 -- So many bytes of the piece were taken into the open unit, and with none fewer it was whole or had a fault.

@@ -33,7 +33,7 @@ use Rattle.stream_open.specs.Asking.{Heard, Nothing, Found, Named, Failed}
 use Rattle.stream_open.specs.Body.{unit_reach, unit_width, open_unit}
 use Rattle.stream_open.specs.Feeding.{GoesOn, judged_all, FindsFault}
 use Rattle.stream_open.specs.Laws.{MayBeHeard, EndsAt}
-use Rattle.stream_open.specs.Session.{OpeningValue, answer_kept, judged_now, judged_with, header_asked, asked_of, keeping, is_faulty, is_stop, reach, answer_at, answer_on, step_answer}
+use Rattle.stream_open.specs.Session.{OpeningValue, answer_kept, judged_now, judged_with, header_asked, asked_header, keeping, is_faulty, is_stop, reach, answer_at, answer_on, step_answer}
 use Rattle.stream_open.specs.Stands.{IsUnlocked}
 use Rattle.stream_open.proofs.AnyCut.{same_answer}
 use Rattle.stream_open.proofs.Behind.{Clean, said, behind_units, row_of}
@@ -273,20 +273,20 @@ nothing_heard asked Failed none (h, is) = absurd (none_some h (sym none ∙ is))
     none_some : (h : HeaderValue) → None ≡ Some h → ⊥
     none_some h e = cc
 
-released_by : (v : OpeningValue) (piece : List ℕ) (heard : Heard) (fault : Fault) → GoesOn v → MayBeHeard (asked_of v piece) ⊥ heard → Standing v → FaultyAt (keeping v heard) piece fault
+released_by : (v : OpeningValue) (piece : List ℕ) (heard : Heard) (fault : Fault) → GoesOn v → MayBeHeard (asked_header v piece) ⊥ heard → Standing v → FaultyAt (keeping v heard) piece fault
     → content (judged_with (keeping v heard) piece (reach (keeping v heard) piece)) ≡ content (judged_now v)
 released_by v piece Nothing fault goes may (InHeader now) at = in_header v piece fault now at
 released_by v piece (Found m) fault goes may (InHeader now) at = in_header (keeping v (Found m)) piece fault now at ∙ nothing_yet (keeping v (Found m)) now ∙ sym (nothing_yet v now)
 released_by v piece (Named named) fault goes may (InHeader now) at = in_header (keeping v (Named named)) piece fault now at ∙ nothing_yet (keeping v (Named named)) now ∙ sym (nothing_yet v now)
 released_by v piece Failed fault goes may (InHeader now) at = in_header v piece fault now at
 released_by v piece heard fault goes may (Behind u iu) at =
-    let same : heard ≡ Nothing = nothing_heard (asked_of v piece) heard (unasked u v piece iu) may in
+    let same : heard ≡ Nothing = nothing_heard (asked_header v piece) heard (unasked u v piece iu) may in
     subst (λ (other : Heard). FaultyAt (keeping v other) piece fault → content (judged_with (keeping v other) piece (reach (keeping v other) piece)) ≡ content (judged_now v)) (sym same)
     (λ at_same. behind_by u v piece fault u.body.ended iu goes.going refl at_same.verdict) at
 
 -- ---- the header's fault
 
-header_by : (v : OpeningValue) (piece : List ℕ) (fault : Fault) (r : Reading Head) → GoesOn v → v.answer ≡ None → asked_of v piece ≡ None
+header_by : (v : OpeningValue) (piece : List ℕ) (fault : Fault) (r : Reading Head) → GoesOn v → v.answer ≡ None → asked_header v piece ≡ None
     → (judged (v.taken ++ piece) v.settings (answer_kept v.answer)).verdict ≡ Faulty fault → header v.settings (start (v.taken ++ piece)) ≡ r → fault_of r ≡ Some fault
 header_by v piece fault (Read parts p) goes none unasked_here faulty is =
     absurd (some_none
@@ -309,7 +309,7 @@ header_by v piece fault (Refused other at) goes none unasked_here faulty is =
 header_by v piece fault Wanting goes none unasked_here faulty is =
     absurd (going_not fault (sym (ap (λ (j : Judged). j.verdict) (judged_wanting (v.taken ++ piece) v.settings (answer_kept v.answer) is)) ∙ faulty))
 
-unheard_by : (v : OpeningValue) (piece : List ℕ) (heard : Heard) (fault : Fault) → GoesOn v → MayBeHeard (asked_of v piece) ⊥ heard → step_answer v piece heard ≡ Err (errors.Fault fault)
+unheard_by : (v : OpeningValue) (piece : List ℕ) (heard : Heard) (fault : Fault) → GoesOn v → MayBeHeard (asked_header v piece) ⊥ heard → step_answer v piece heard ≡ Err (errors.Fault fault)
     → (judged_all v piece heard).verdict ≡ Faulty fault → (keeping v heard).answer ≡ None → header_fault v.settings (v.taken ++ piece) ≡ Some fault
 unheard_by v piece Nothing fault goes (inl none) is faulty unheard = header_by v piece fault (header v.settings (start (v.taken ++ piece))) goes unheard none faulty refl
 unheard_by v piece Nothing fault goes (inr never) is faulty unheard = absurd never
@@ -326,7 +326,7 @@ all_is v piece (Found m) n fault e = with_all (keeping v (Found m)) piece n faul
 all_is v piece (Named named) n fault e = with_all (keeping v (Named named)) piece n fault e
 all_is v piece Failed n fault e = with_all v piece n fault e
 
-pub finds_fault : (v : OpeningValue) (piece : List ℕ) (heard : Heard) (fault : Fault) → GoesOn v → MayBeHeard (asked_of v piece) ⊥ heard → step_answer v piece heard ≡ Err (errors.Fault fault)
+pub finds_fault : (v : OpeningValue) (piece : List ℕ) (heard : Heard) (fault : Fault) → GoesOn v → MayBeHeard (asked_header v piece) ⊥ heard → step_answer v piece heard ≡ Err (errors.Fault fault)
     → FindsFault v piece heard fault
 finds_fault v piece heard fault goes may is =
     let at = faulty_at v piece heard fault goes.going is in

@@ -10,10 +10,11 @@ use Rattle.esdk_fields.specs.Place.{start}
 use Rattle.esdk_fields.specs.Reading.{Reading, Read, Refused, Wanting, value_of}
 use Rattle.context_codec.specs.Context.{KeyValue}
 use Rattle.header_codec.specs.Header.{HeaderValue}
-use Rattle.header_codec.specs.Session.{Session, answer_to, Answers as ReaderAnswers}
+use Rattle.header_codec.specs.Session.{HeaderAnswers, Session, answer_to}
 use Rattle.header_codec.specs.Stands.{Stands as Reads}
 use Rattle.header_codec.specs.Table.{Head, header}
 use Rattle.keyring_trait.specs.declared.served.Served.{Served}
+use Rattle.keyring_trait.specs.Manager.{ManagerNow}
 use Rattle.keyring_trait.specs.Materials.{DecMaterialsValue}
 use Rattle.keyring_trait.specs.Unlocking.{Unlocking, Refuses, Unlocks}
 use Rattle.body_format.specs.declared.verdicts.Verdict.TheVariants.{Going, Whole}
@@ -24,12 +25,15 @@ use Rattle.stream_open.specs.declared.errors.OpenError.{OpenError}
 use Rattle.stream_open.specs.declared.errors.OpenError.TheVariants as errors
 use Rattle.stream_open.specs.declared.session.Opener.{Opener}
 use Rattle.stream_open.specs.declared.unlocked.Unlocked.{Unlocked}
-use Rattle.stream_open.specs.Answered.{Answered, Unanswered}
-use Rattle.stream_open.specs.Asking.{Asking, request_of, Nothing, Found, Named, Failed}
+use Rattle.message_format.specs.declared.unlock_errors.UnlockError.{UnlockError}
+use Rattle.message_format.specs.declared.unlock_errors.UnlockError.TheVariants as locks
+use Rattle.message_format.specs.Unlocking.{BearsHeard, request_of, Answered, Unanswered, KeepsLock}
+use Rattle.stream_open.specs.Errors.{locked_as}
+use Rattle.stream_open.specs.Asking.{Nothing, Found, Named, Failed}
 use Rattle.stream_open.specs.Body.{IsBehind}
 use Rattle.stream_open.specs.Session.{OpeningValue, answer_kept, judged_now, judged_with, keeping, is_faulty, is_stop, reach, added, answer_at, answer_on, step_answer, stepped}
 use Rattle.stream_open.specs.Stands.{out_of, unread_as, IsBodyOf, IsLocked, StandsAt, Stands, Steps}
-use Rattle.stream_open.specs.Unlocking.{IsBegun, NotUnlocked}
+use Rattle.stream_open.specs.Unlocking.{IsBegun}
 use Rattle.stream_open.proofs.Behind.{said_as, judged_here, behind_first, none_before}
 use Rattle.stream_open.proofs.Headers.{refused_answer, wanting_answer, none_asked, Shown, shown_asked, kept_shown, named_answer, locked_answer, failed_answer, runs_out_locked, used_all}
 use Rattle.stream_open.proofs.Standing.{body_same, stands_as}
@@ -56,11 +60,11 @@ stands_off opener next v answer served stands now settings given is stopped unlo
 -- ---- the reader answered an error
 
 -- the bytes have a fault in the header
-pub steps_refused : (manager : Asking) (opener next : Opener) (v : OpeningValue) (piece : List ℕ) (fault : Fault) (at : ℕ) → Stands opener v → v.stopped ≡ false → IsLocked opener v → manager.bears None
+pub steps_refused : (first last : ManagerNow) (moment : ℕ) (opener next : Opener) (v : OpeningValue) (piece : List ℕ) (fault : Fault) (at : ℕ) → Stands opener v → v.stopped ≡ false → IsLocked opener v → BearsHeard first last moment None
     → header v.settings (start (v.taken ++ piece)) ≡ Refused fault at
     → next.settings ≡ opener.settings → next.given ≡ opener.given → next.served ≡ opener.served → next.stopped ≡ true → next.unlocked ≡ None
-    → Steps manager v piece (Err (errors.Fault fault)) next
-steps_refused manager opener next v piece fault at stands going lock bears whole settings given served stopped unlocked = record {
+    → Steps first last moment v piece (Err (errors.Fault fault)) next
+steps_refused first last moment opener next v piece fault at stands going lock bears whole settings given served stopped unlocked = record {
   heard = Nothing;
   hears = inl (none_asked v piece going (lock.unheard going) (ap value_of whole));
   bears = bears;
@@ -69,10 +73,10 @@ steps_refused manager opener next v piece fault at stands going lock bears whole
 }
 
 -- memory ran out, and nothing is heard
-pub steps_short : (manager : Asking) (opener next : Opener) (v : OpeningValue) (piece : List ℕ) → Stands opener v → v.stopped ≡ false → IsLocked opener v → manager.bears None
+pub steps_short : (first last : ManagerNow) (moment : ℕ) (opener next : Opener) (v : OpeningValue) (piece : List ℕ) → Stands opener v → v.stopped ≡ false → IsLocked opener v → BearsHeard first last moment None
     → next.settings ≡ opener.settings → next.given ≡ opener.given → next.served ≡ opener.served → next.stopped ≡ true → next.unlocked ≡ None
-    → Steps manager v piece (Err errors.Memory) next
-steps_short manager opener next v piece stands going lock bears settings given served stopped unlocked = record {
+    → Steps first last moment v piece (Err errors.Memory) next
+steps_short first last moment opener next v piece stands going lock bears settings given served stopped unlocked = record {
   heard = Nothing;
   hears = inr refl;
   bears = bears;
@@ -83,40 +87,40 @@ steps_short manager opener next v piece stands going lock bears settings given s
 abbrev reading_of : OpeningValue → Session
 reading_of v = record { settings = v.settings; taken = v.taken; stopped = false }
 
-unread_by : (manager : Asking) (opener next : Opener) (v : OpeningValue) (piece : List ℕ) (fault : Fault) (r : Reading Head) → header v.settings (start (v.taken ++ piece)) ≡ r
-    → answer_to (reading_of v) piece r ≡ Err (fields.Fault fault) → Stands opener v → v.stopped ≡ false → IsLocked opener v → manager.bears None
+unread_by : (first last : ManagerNow) (moment : ℕ) (opener next : Opener) (v : OpeningValue) (piece : List ℕ) (fault : Fault) (r : Reading Head) → header v.settings (start (v.taken ++ piece)) ≡ r
+    → answer_to (reading_of v) piece r ≡ Err (fields.Fault fault) → Stands opener v → v.stopped ≡ false → IsLocked opener v → BearsHeard first last moment None
     → next.settings ≡ opener.settings → next.given ≡ opener.given → next.served ≡ opener.served → next.stopped ≡ true → next.unlocked ≡ None
-    → Steps manager v piece (Err (errors.Fault fault)) next
-unread_by manager opener next v piece fault (Read parts end) e answer stands going lock bears settings given served stopped unlocked = absurd cc
-unread_by manager opener next v piece fault Wanting e answer stands going lock bears settings given served stopped unlocked = absurd cc
-unread_by manager opener next v piece fault (Refused other at) e answer stands going lock bears settings given served stopped unlocked =
+    → Steps first last moment v piece (Err (errors.Fault fault)) next
+unread_by first last moment opener next v piece fault (Read parts end) e answer stands going lock bears settings given served stopped unlocked = absurd cc
+unread_by first last moment opener next v piece fault Wanting e answer stands going lock bears settings given served stopped unlocked = absurd cc
+unread_by first last moment opener next v piece fault (Refused other at) e answer stands going lock bears settings given served stopped unlocked =
     let same : other ≡ fault = cc in
-    subst (λ (f : Fault). Steps manager v piece (Err (errors.Fault f)) next) same (steps_refused manager opener next v piece other at stands going lock bears e settings given served stopped unlocked)
+    subst (λ (f : Fault). Steps first last moment v piece (Err (errors.Fault f)) next) same (steps_refused first last moment opener next v piece other at stands going lock bears e settings given served stopped unlocked)
 
 not_stopped : (v : OpeningValue) (piece : List ℕ) (r : Reading Head) → answer_to (reading_of v) piece r ≡ Err fields.Stopped → ⊥
 not_stopped v piece (Read parts end) e = cc
 not_stopped v piece (Refused fault at) e = cc
 not_stopped v piece Wanting e = cc
 
-pub steps_unread : (manager : Asking) (opener next : Opener) (v : OpeningValue) (piece : List ℕ) (error : FieldError) → ReaderAnswers (reading_of v) piece (Err error)
-    → Stands opener v → v.stopped ≡ false → IsLocked opener v → manager.bears None
+pub steps_unread : (first last : ManagerNow) (moment : ℕ) (opener next : Opener) (v : OpeningValue) (piece : List ℕ) (error : FieldError) → HeaderAnswers (reading_of v) piece (Err error)
+    → Stands opener v → v.stopped ≡ false → IsLocked opener v → BearsHeard first last moment None
     → next.settings ≡ opener.settings → next.given ≡ opener.given → next.served ≡ opener.served → next.stopped ≡ true → next.unlocked ≡ None
-    → Steps manager v piece (Err (unread_as error)) next
-steps_unread manager opener next v piece (fields.Fault fault) answer stands going lock bears settings given served stopped unlocked =
-    unread_by manager opener next v piece fault (header v.settings (start (v.taken ++ piece))) refl answer stands going lock bears settings given served stopped unlocked
-steps_unread manager opener next v piece fields.Memory answer stands going lock bears settings given served stopped unlocked =
-    steps_short manager opener next v piece stands going lock bears settings given served stopped unlocked
-steps_unread manager opener next v piece fields.Stopped answer stands going lock bears settings given served stopped unlocked =
+    → Steps first last moment v piece (Err (unread_as error)) next
+steps_unread first last moment opener next v piece (fields.Fault fault) answer stands going lock bears settings given served stopped unlocked =
+    unread_by first last moment opener next v piece fault (header v.settings (start (v.taken ++ piece))) refl answer stands going lock bears settings given served stopped unlocked
+steps_unread first last moment opener next v piece fields.Memory answer stands going lock bears settings given served stopped unlocked =
+    steps_short first last moment opener next v piece stands going lock bears settings given served stopped unlocked
+steps_unread first last moment opener next v piece fields.Stopped answer stands going lock bears settings given served stopped unlocked =
     absurd (not_stopped v piece (header v.settings (start (v.taken ++ piece))) answer)
 
 -- ---- no header is whole yet
 
-pub steps_waiting : (manager : Asking) (opener next : Opener) (v : OpeningValue) (piece : List ℕ) (used : ℕ) → Stands opener v → v.stopped ≡ false → IsLocked opener v → manager.bears None
+pub steps_waiting : (first last : ManagerNow) (moment : ℕ) (opener next : Opener) (v : OpeningValue) (piece : List ℕ) (used : ℕ) → Stands opener v → v.stopped ≡ false → IsLocked opener v → BearsHeard first last moment None
     → used ≡ length piece → header v.settings (start (v.taken ++ piece)) ≡ Wanting → header v.settings (start (v.taken ++ take used piece)) ≡ Wanting
     → Reads next.reader (record { settings = v.settings; taken = v.taken ++ take used piece; stopped = false })
     → next.settings ≡ opener.settings → next.given ≡ opener.given → next.served ≡ opener.served → next.stopped ≡ false → next.unlocked ≡ None
-    → Steps manager v piece (Ok used) next
-steps_waiting manager opener next v piece used stands going lock bears all whole front reads settings given served stopped unlocked =
+    → Steps first last moment v piece (Ok used) next
+steps_waiting first last moment opener next v piece used stands going lock bears all whole front reads settings given served stopped unlocked =
     let w : OpeningValue = stepped v piece Nothing (Ok used) in
     let now : judged_now v ≡ locked Going = judged_wanting v.taken v.settings (answer_kept v.answer) lock.wanting in
     let later : judged_with v piece used ≡ locked Going = judged_wanting (v.taken ++ take used piece) v.settings (answer_kept v.answer) front in
@@ -140,48 +144,46 @@ steps_waiting manager opener next v piece used stands going lock bears all whole
 
 -- ---- the manager is asked
 
-pub steps_unanswered : (manager : Asking) (opener next : Opener) (v : OpeningValue) (piece : List ℕ) (used : ℕ) (h : HeaderValue) (error : OpenError) → Stands opener v → v.stopped ≡ false → IsLocked opener v
-    → Shown v piece used h → Unanswered manager (request_of v.given h) error
+pub steps_unanswered : (first last : ManagerNow) (moment : ℕ) (opener next : Opener) (v : OpeningValue) (piece : List ℕ) (used : ℕ) (h : HeaderValue) (error : UnlockError) → Stands opener v → v.stopped ≡ false → IsLocked opener v
+    → Shown v piece used h → Unanswered first last moment (request_of v.given h) error
     → next.settings ≡ opener.settings → next.given ≡ opener.given → next.served ≡ opener.served → next.stopped ≡ true → next.unlocked ≡ None
-    → Steps manager v piece (Err error) next
-steps_unanswered manager opener next v piece used h (errors.Fault fault) stands going lock shown (finds, bears) settings given served stopped unlocked = record {
+    → Steps first last moment v piece (Err (locked_as error)) next
+steps_unanswered first last moment opener next v piece used h (locks.Fault fault) stands going lock shown (finds, bears) settings given served stopped unlocked = record {
   heard = Named fault;
   hears = (h, shown_asked v piece used h going (lock.unheard going) shown, finds);
   bears = bears;
   answers = named_answer v piece used h fault going lock.wanting shown;
   stands = stands_off opener next v (Some (Refuses fault)) v.served stands lock.wanting settings given (served ∙ stands.served) stopped unlocked;
 }
-steps_unanswered manager opener next v piece used h errors.KeyringFault stands going lock shown (finds, bears) settings given served stopped unlocked = record {
+steps_unanswered first last moment opener next v piece used h locks.KeyringFault stands going lock shown (finds, bears) settings given served stopped unlocked = record {
   heard = Failed;
   hears = (h, shown_asked v piece used h going (lock.unheard going) shown, finds);
   bears = bears;
   answers = failed_answer v piece going;
   stands = stands_off opener next v v.answer v.served stands lock.wanting settings given (served ∙ stands.served) stopped unlocked;
 }
-steps_unanswered manager opener next v piece used h errors.Memory stands going lock shown bears settings given served stopped unlocked =
-    steps_short manager opener next v piece stands going lock bears settings given served stopped unlocked
-steps_unanswered manager opener next v piece used h errors.Stopped stands going lock shown none settings given served stopped unlocked = absurd none
+steps_unanswered first last moment opener next v piece used h locks.Memory stands going lock shown bears settings given served stopped unlocked =
+    steps_short first last moment opener next v piece stands going lock bears settings given served stopped unlocked
 
-pub steps_not_unlocked : (manager : Asking) (opener next : Opener) (v : OpeningValue) (piece : List ℕ) (used : ℕ) (h : HeaderValue) (m : DecMaterialsValue) (error : OpenError) → Stands opener v → v.stopped ≡ false
-    → IsLocked opener v → Shown v piece used h → Answered manager (request_of v.given h) m → NotUnlocked h m error
+pub steps_not_unlocked : (first last : ManagerNow) (moment : ℕ) (opener next : Opener) (v : OpeningValue) (piece : List ℕ) (used : ℕ) (h : HeaderValue) (m : DecMaterialsValue) (error : UnlockError) → Stands opener v → v.stopped ≡ false
+    → IsLocked opener v → Shown v piece used h → Answered first last moment (request_of v.given h) m → KeepsLock h m error
     → next.settings ≡ opener.settings → next.given ≡ opener.given → next.served ≡ Some m.served → next.stopped ≡ true → next.unlocked ≡ None
-    → Steps manager v piece (Err error) next
-steps_not_unlocked manager opener next v piece used h m (errors.Fault fault) stands going lock shown answered bad settings given served stopped unlocked = record {
+    → Steps first last moment v piece (Err (locked_as error)) next
+steps_not_unlocked first last moment opener next v piece used h m (locks.Fault fault) stands going lock shown answered bad settings given served stopped unlocked = record {
   heard = Found m;
   hears = (h, shown_asked v piece used h going (lock.unheard going) shown, answered.found);
   bears = answered.bears;
   answers = locked_answer v piece used h m fault going lock.wanting shown bad;
   stands = stands_off opener next v (Some (Unlocks m.context m.only m.key)) (Some m.served) stands lock.wanting settings given served stopped unlocked;
 }
-steps_not_unlocked manager opener next v piece used h m errors.Memory stands going lock shown answered bad settings given served stopped unlocked = record {
+steps_not_unlocked first last moment opener next v piece used h m locks.Memory stands going lock shown answered bad settings given served stopped unlocked = record {
   heard = Found m;
   hears = (h, shown_asked v piece used h going (lock.unheard going) shown, answered.found);
   bears = answered.bears;
   answers = runs_out_locked v going lock.wanting;
   stands = stands_off opener next v (Some (Unlocks m.context m.only m.key)) (Some m.served) stands lock.wanting settings given served stopped unlocked;
 }
-steps_not_unlocked manager opener next v piece used h m errors.KeyringFault stands going lock shown answered bad settings given served stopped unlocked = absurd bad
-steps_not_unlocked manager opener next v piece used h m errors.Stopped stands going lock shown answered bad settings given served stopped unlocked = absurd bad
+steps_not_unlocked first last moment opener next v piece used h m locks.KeyringFault stands going lock shown answered bad settings given served stopped unlocked = absurd bad
 
 -- ---- the header is unlocked
 
@@ -218,11 +220,11 @@ found_answer v piece m n going is verdict =
     ∙ ap (λ (k : ℕ). answer_at k (judged_with (keeping v (Found m)) piece k).verdict) is
     ∙ ap (answer_at n) verdict
 
-pub steps_opened : (manager : Asking) (opener next : Opener) (v : OpeningValue) (piece : List ℕ) (used : ℕ) (h : HeaderValue) (m : DecMaterialsValue) (u : Unlocked) → Stands opener v → v.stopped ≡ false
-    → IsLocked opener v → Shown v piece used h → used ≤ length piece → Answered manager (request_of v.given h) m → IsBegun u h opener.settings.max_unit m
+pub steps_opened : (first last : ManagerNow) (moment : ℕ) (opener next : Opener) (v : OpeningValue) (piece : List ℕ) (used : ℕ) (h : HeaderValue) (m : DecMaterialsValue) (u : Unlocked) → Stands opener v → v.stopped ≡ false
+    → IsLocked opener v → Shown v piece used h → used ≤ length piece → Answered first last moment (request_of v.given h) m → IsBegun u h opener.settings.max_unit m
     → next.settings ≡ opener.settings → next.given ≡ opener.given → next.served ≡ Some m.served → next.stopped ≡ false → next.unlocked ≡ Some u
-    → Steps manager v piece (Ok used) next
-steps_opened manager opener next v piece used h m u stands going lock shown within answered begun settings given served stopped unlocked =
+    → Steps first last moment v piece (Ok used) next
+steps_opened first last moment opener next v piece used h m u stands going lock shown within answered begun settings given served stopped unlocked =
     let w : OpeningValue = keeping v (Found m) in
     let after : OpeningValue = stepped v piece (Found m) (Ok used) in
     let limit : opener.settings.max_unit ≡ v.settings.max_unit = ap (λ (s : Rattle.header_codec.specs.declared.settings.Settings.Settings). s.max_unit) stands.settings in
@@ -270,8 +272,8 @@ steps_opened manager opener next v piece used h m u stands going lock shown with
 abbrev failed : OpenError → Result ℕ OpenError
 failed error = Err error
 
-pub steps_failed : (manager : Asking) (next : Opener) (v : OpeningValue) (piece : List ℕ) (r : Result ℕ OpenError) (error : OpenError) → IsErrAnd r (λ other. other ≡ error)
-    → Steps manager v piece (Err error) next → Steps manager v piece r next
-steps_failed manager next v piece r error is steps =
+pub steps_failed : (first last : ManagerNow) (moment : ℕ) (next : Opener) (v : OpeningValue) (piece : List ℕ) (r : Result ℕ OpenError) (error : OpenError) → IsErrAnd r (λ other. other ≡ error)
+    → Steps first last moment v piece (Err error) next → Steps first last moment v piece r next
+steps_failed first last moment next v piece r error is steps =
     let p = err_from_is_err_and r is in
-    subst (λ (s : Result ℕ OpenError). Steps manager v piece s next) (sym (p.1 ∙ ap failed p.2)) steps
+    subst (λ (s : Result ℕ OpenError). Steps first last moment v piece s next) (sym (p.1 ∙ ap failed p.2)) steps

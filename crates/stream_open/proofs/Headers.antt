@@ -24,7 +24,7 @@ use Rattle.message_format.proofs.Judging.{judged_wanting, judged_refused, judged
 use Rattle.message_format.proofs.WrittenHeads.{header_found}
 use Rattle.stream_open.specs.declared.errors.OpenError.TheVariants as errors
 use Rattle.stream_open.specs.Asking.{Nothing, Found, Named, Failed}
-use Rattle.stream_open.specs.Session.{OpeningValue, answer_kept, judged_now, judged_with, header_asked, asked_of, keeping, is_faulty, is_stop, reach, answer_at, answer_on, step_answer, MayRunOut}
+use Rattle.stream_open.specs.Session.{OpeningValue, answer_kept, judged_now, judged_with, header_asked, asked_header, keeping, is_faulty, is_stop, reach, answer_at, answer_on, step_answer, MayRunOut}
 use Rattle.stream_open.proofs.Ends.{reach_ends}
 
 -- ---- a front of the bytes
@@ -144,7 +144,7 @@ wanting_answer v piece going now whole =
 
 -- ---- what is asked
 
-pub none_asked : (v : OpeningValue) (piece : List ℕ) → v.stopped ≡ false → v.answer ≡ None → value_of (header v.settings (start (v.taken ++ piece))) ≡ None → asked_of v piece ≡ None
+pub none_asked : (v : OpeningValue) (piece : List ℕ) → v.stopped ≡ false → v.answer ≡ None → value_of (header v.settings (start (v.taken ++ piece))) ≡ None → asked_header v piece ≡ None
 none_asked v piece going unheard none =
     ap (λ (b : Bool). if b then None else header_asked v.answer v.settings (v.taken ++ piece)) going
     ∙ ap (λ (o : Option Unlocking). header_asked o v.settings (v.taken ++ piece)) unheard
@@ -178,7 +178,7 @@ shown v piece used h begins =
       left = refl;
     }
 
-pub shown_asked : (v : OpeningValue) (piece : List ℕ) (used : ℕ) (h : HeaderValue) → v.stopped ≡ false → v.answer ≡ None → Shown v piece used h → asked_of v piece ≡ Some h
+pub shown_asked : (v : OpeningValue) (piece : List ℕ) (used : ℕ) (h : HeaderValue) → v.stopped ≡ false → v.answer ≡ None → Shown v piece used h → asked_header v piece ≡ Some h
 shown_asked v piece used h going unheard s =
     ap (λ (b : Bool). if b then None else header_asked v.answer v.settings (v.taken ++ piece)) going
     ∙ ap (λ (o : Option Unlocking). header_asked o v.settings (v.taken ++ piece)) unheard
@@ -189,7 +189,7 @@ shown_asked v piece used h going unheard s =
     some_of g = Some g
 
 -- so a header is asked about
-pub was_asked : (v : OpeningValue) (piece : List ℕ) (used : ℕ) (h : HeaderValue) → v.stopped ≡ false → v.answer ≡ None → Shown v piece used h → asked_of v piece ≡ None → ⊥
+pub was_asked : (v : OpeningValue) (piece : List ℕ) (used : ℕ) (h : HeaderValue) → v.stopped ≡ false → v.answer ≡ None → Shown v piece used h → asked_header v piece ≡ None → ⊥
 was_asked v piece used h going unheard s none = some_none (sym (shown_asked v piece used h going unheard s) ∙ none)
   where
     some_none : Some h ≡ None → ⊥

@@ -18,3 +18,5 @@ pub mod Feeding
 pub mod Keeping
 pub mod Locks
 pub mod Marks
+pub mod FedPieces
+pub mod PieceEnds

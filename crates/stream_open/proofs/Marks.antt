@@ -18,7 +18,8 @@ use Rattle.frame_codec.specs.declared.unit_heads.Head.TheVariants as heads
 use Rattle.frame_codec.specs.Unit.{Piece, More, Last}
 use Rattle.frame_codec.specs.UnitHead.{head_of}
 use Rattle.frame_codec.proofs.Answering.{decides}
-use Rattle.frame_codec.proofs.Units.{unit_size, unit_refuses_head}
+use Rattle.frame_codec.specs.InPlace.{unit_size}
+use Rattle.frame_codec.proofs.Units.{unit_refuses_head}
 use Rattle.body_format.specs.declared.verdicts.Verdict.TheVariants.{Going, Whole}
 use Rattle.body_format.specs.Rows.{JudgedBody, slot, is_more, released, first_other}
 use Rattle.body_format.specs.Body.{judged_body}
@@ -36,7 +37,7 @@ use Rattle.stream_open.specs.Feeding.{GoesOn}
 use Rattle.stream_open.specs.OpenUnit.{judged_front, IsLastMark, IsFewer, HoldsPart, HoldsLess, HoldsLessThanAUnit}
 use Rattle.stream_open.specs.Session.{OpeningValue, answer_kept, judged_now}
 use Rattle.stream_open.specs.Stands.{IsUnlocked}
-use Rattle.stream_open.specs.UnitBuffer.{opened_of}
+use Rattle.frame_codec.specs.UnitBuffer.{opened_of}
 use Rattle.stream_open.proofs.Behind.{row_of, units_before, behind_units, said_as, judged_here, no_byte}
 use Rattle.stream_open.proofs.GoingOn.{Standing, InHeader, Behind, standing}
 use Rattle.stream_open.proofs.Standing.{body_same, judged_unlocked}

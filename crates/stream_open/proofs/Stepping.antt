@@ -29,7 +29,7 @@ use Rattle.stream_open.specs.declared.errors.OpenError.{OpenError}
 use Rattle.stream_open.specs.declared.errors.OpenError.TheVariants as errors
 use Rattle.stream_open.specs.Asking.{Nothing}
 use Rattle.stream_open.specs.Body.{HoldsFrames, LacksRoom, AnswersBody, BecameBody, IsBehind, IsInUnit, SameBody, StandsBehind, StepsIn, StepsBody, is_wanting, open_unit, unit_reach, reading_answer, body_answer}
-use Rattle.stream_open.specs.Session.{OpeningValue, answer_kept, judged_now, judged_with, header_asked, asked_of, is_faulty, is_stop, reach, added, answer_at, answer_on, step_answer, framed, is_framed, Answers, MayRunOut}
+use Rattle.stream_open.specs.Session.{OpeningValue, answer_kept, judged_now, judged_with, header_asked, asked_header, is_faulty, is_stop, reach, added, answer_at, answer_on, step_answer, framed, is_framed, Answers, MayRunOut}
 use Rattle.stream_open.specs.Stands.{IsBodyOf, IsUnlocked, StepsUnlocked}
 use Rattle.stream_open.proofs.AnyCut.{behind_front}
 use Rattle.stream_open.proofs.Behind.{Clean, said, said_as, behind_units, followed_none, judged_on, judged_here, behind_wanting, behind_more}
@@ -202,7 +202,7 @@ answers_as u v piece (Err errors.Memory) at going (unended, lacks) = runs_out u 
 answers_as u v piece (Err errors.KeyringFault) at going e = absurd e
 answers_as u v piece (Err errors.Stopped) at going e = absurd e
 
-pub unasked : (u : Unlocked) (v : OpeningValue) (piece : List ℕ) → IsUnlocked u v → asked_of v piece ≡ None
+pub unasked : (u : Unlocked) (v : OpeningValue) (piece : List ℕ) → IsUnlocked u v → asked_header v piece ≡ None
 unasked u v piece at = elim_stopped v.stopped
   where
     elim_stopped : (b : Bool) → (if b then None else header_asked v.answer v.settings (v.taken ++ piece)) ≡ None

@@ -1,11 +1,12 @@
 -- What a step comes to where the manager isn't asked.
 use Rattle.std.proofs.Common.{◌≡◌, ℕ, Bool, true, false, Option, Some, None, Result, Ok, Err, List, ◌++◌, if◌then◌else◌, sym, ap, subst, ◌∙◌, inl}
 use Rattle.std.specs.Prelude.{is_err}
+use Rattle.keyring_trait.specs.Manager.{ManagerNow}
 use Rattle.stream_open.specs.declared.errors.OpenError.{OpenError}
 use Rattle.stream_open.specs.declared.errors.OpenError.TheVariants as errors
 use Rattle.stream_open.specs.declared.session.Opener.{Opener}
 use Rattle.stream_open.specs.declared.unlocked.Unlocked.{Unlocked}
-use Rattle.stream_open.specs.Asking.{Asking, Nothing}
+use Rattle.stream_open.specs.Asking.{BearsHeard, Nothing}
 use Rattle.stream_open.specs.Session.{OpeningValue, header_asked, answer_on, step_answer, stepped}
 use Rattle.stream_open.specs.Stands.{quiet, out_of, IsUnlocked, StandsAt, Stands, StepsUnlocked, Steps}
 use Rattle.stream_open.proofs.Standing.{stands_as, stands_quiet}
@@ -15,10 +16,10 @@ stopped_answer : (v : OpeningValue) (piece : List ℕ) → v.stopped ≡ true �
 unfolding step_answer
 stopped_answer v piece off = ap (λ (b : Bool). if b then Err errors.Stopped else answer_on v piece Nothing) off
 
-pub steps_stopped : (manager : Asking) (opener next : Opener) (v : OpeningValue) (piece : List ℕ) → Stands opener v → v.stopped ≡ true → manager.bears None
+pub steps_stopped : (first last : ManagerNow) (moment : ℕ) (opener next : Opener) (v : OpeningValue) (piece : List ℕ) → Stands opener v → v.stopped ≡ true → BearsHeard first last moment None
     → next.settings ≡ opener.settings → next.given ≡ opener.given → next.reader ≡ opener.reader → next.served ≡ opener.served → next.stopped ≡ true → next.unlocked ≡ quiet opener.unlocked
-    → Steps manager v piece (Err errors.Stopped) next
-steps_stopped manager opener next v piece stands off bears settings given reader served stopped unlocked = record {
+    → Steps first last moment v piece (Err errors.Stopped) next
+steps_stopped first last moment opener next v piece stands off bears settings given reader served stopped unlocked = record {
   heard = Nothing;
   hears = inl (ap (λ (b : Bool). if b then None else header_asked v.answer v.settings (v.taken ++ piece)) off);
   bears = bears;
@@ -50,10 +51,10 @@ stands_after opener next v piece (Err error) new stands going steps settings giv
   at = subst (λ (o : Option Unlocked). StandsAt next (stepped v piece Nothing (Err error)) o) (sym unlocked) steps.stands;
 }
 
-pub steps_behind : (manager : Asking) (opener next : Opener) (v : OpeningValue) (piece : List ℕ) (r : Result ℕ OpenError) (new : Unlocked) → Stands opener v → v.stopped ≡ false → manager.bears None
+pub steps_behind : (first last : ManagerNow) (moment : ℕ) (opener next : Opener) (v : OpeningValue) (piece : List ℕ) (r : Result ℕ OpenError) (new : Unlocked) → Stands opener v → v.stopped ≡ false → BearsHeard first last moment None
     → StepsUnlocked v piece r new → next.settings ≡ opener.settings → next.given ≡ opener.given → next.served ≡ opener.served → next.stopped ≡ is_err r → next.unlocked ≡ Some new
-    → Steps manager v piece r next
-steps_behind manager opener next v piece r new stands going bears steps settings given served stopped unlocked = record {
+    → Steps first last moment v piece r next
+steps_behind first last moment opener next v piece r new stands going bears steps settings given served stopped unlocked = record {
   heard = Nothing;
   hears = inl steps.unasked;
   bears = bears;

@@ -8,7 +8,7 @@ use Rattle.body_format.specs.declared.verdicts.Verdict.TheVariants.{Going, Whole
 use Rattle.stream_open.specs.declared.errors.OpenError.{OpenError}
 use Rattle.stream_open.specs.declared.errors.OpenError.TheVariants as errors
 use Rattle.stream_open.specs.Asking.{Heard, Nothing, Found, Named, Failed}
-use Rattle.stream_open.specs.Session.{OpeningValue, opened, judged_now, judged_with, keeping, reach, answer_at, answer_on, step_answer, end_of, is_end, finish_answer, finished}
+use Rattle.stream_open.specs.Session.{OpeningValue, new_session, judged_now, judged_with, keeping, reach, answer_at, answer_on, step_answer, end_of, is_end, finish_answer, finished}
 use Rattle.stream_open.specs.Laws.{Event, Step, Finish, after_event, after_all, fails, is_stopped_by, StopsExactlyOf}
 
 or_true : (b : Bool) → true ≡ b || true
@@ -74,12 +74,12 @@ then_stopped : {A : Type 0} (b : Bool) (r : Result A OpenError) → b ≡ true �
 then_stopped true r e = refl
 then_stopped false r e = absurd cc
 
-pub stops_exactly : (settings : Settings) (given : List KeyValue) (events : List Event) → StopsExactlyOf (opened settings given) events
+pub stops_exactly : (settings : Settings) (given : List KeyValue) (events : List Event) → StopsExactlyOf (new_session settings given) events
 unfolding step_answer finish_answer
 stops_exactly settings given events =
-    let v : OpeningValue = after_all events (opened settings given) in
+    let v : OpeningValue = after_all events (new_session settings given) in
     record {
-      stopped = stopped_all events (opened settings given);
+      stopped = stopped_all events (new_session settings given);
       step = λ piece heard. (
         (λ is. only_stopped v.stopped (answer_on v piece heard) (unstopped_on v piece heard) is),
         (λ is. then_stopped v.stopped (answer_on v piece heard) is),

@@ -21,7 +21,7 @@ use Rattle.stream_open.specs.declared.errors.OpenError.TheVariants as errors
 use Rattle.stream_open.specs.Body.{AnswersBody, LacksRoom, BecameBody, GoesBehind, GoesOn, StepsIn, StepsBody, is_wanting, open_unit, unit_reach, reading_answer, body_answer}
 use Rattle.stream_open.proofs.Filling.{IsFilled}
 use Rattle.stream_open.proofs.Reaching.{Reaches, reach_is}
-use Rattle.stream_open.proofs.WholeUnits.{whole_reading}
+use Rattle.frame_codec.specs.InPlace.{whole_reading}
 
 -- the answer is what the unit is read as where the step ends
 pub answer_at_reach : (old : Body) (piece : List ℕ) (n : ℕ) (r : Reading Piece) → old.ended ≡ false → Reaches old piece n → open_unit old (old.unit.held ++ take n piece) ≡ r

@@ -1,27 +1,29 @@
 -- A unit whose content's length is known: until its last byte came it wants more, and then it opens or has a fault.
 use Rattle.std.proofs.Common.{◌≡◌, ◌≢◌, ℕ, ◌+◌, ◌-◌, ◌<◌, ◌≤◌, Option, Some, None, List, [], ◌++◌, length, take, drop, min, refl, sym, ap, subst, ◌∙◌, arith, inl, inr}
 use Rattle.std.proofs.lemmas.Bool.{cases_lt}
-use Rattle.std.proofs.lemmas.List.{length-append, length-take, drop-drop}
+use Rattle.std.proofs.lemmas.List.{length-append, length-take}
 use Rattle.esdk_fields.specs.declared.contents.Content.{Content}
 use Rattle.esdk_fields.specs.declared.contents.Content.TheVariants.{Single, Framed}
 use Rattle.esdk_fields.specs.declared.faults.Fault.TheVariants.{UnitTag}
 use Rattle.esdk_fields.specs.Place.{start}
-use Rattle.esdk_fields.specs.Reading.{Reading, Read, Refused, Wanting}
+use Rattle.esdk_fields.specs.Reading.{Wanting}
 use Rattle.esdk_fields.proofs.Fronts.{value_stays, read_after, fault_after_at}
 use Rattle.frame_codec.specs.declared.unit_heads.UnitHead.{UnitHead}
 use Rattle.frame_codec.specs.declared.unit_heads.Head.TheVariants as heads
 use Rattle.frame_codec.specs.Rows.{ForNumber, ForRegular, ForFinalNumber, ForFinal, ForBlock, number_at, long_number_at}
-use Rattle.frame_codec.specs.Unit.{Piece, piece_of, unit}
+use Rattle.frame_codec.specs.Unit.{piece_of, unit}
 use Rattle.frame_codec.specs.UnitHead.{IfRegular, unit_head, head_of}
 use Rattle.frame_codec.proofs.Answering.{asks_for_more, unit_answer}
 use Rattle.frame_codec.proofs.Fields.{place, read_once}
 use Rattle.frame_codec.proofs.Heads.{ReadsHead, head_reads}
 use Rattle.frame_codec.proofs.Order.{IsSequential-unit_head, IsSequential-unit}
 use Rattle.frame_codec.proofs.Steps.{made_regular, made_final, made_block}
-use Rattle.frame_codec.proofs.Units.{opened_there, unit_size, unit_wants, unit_reads, unit_refuses}
+use Rattle.frame_codec.specs.InPlace.{unit_size, whole_reading}
+use Rattle.frame_codec.proofs.InPlace.{whole_is as unit_whole}
+use Rattle.frame_codec.proofs.Units.{unit_wants}
 use Rattle.frame_codec.proofs.Ways.{Short, Other, Numbered, Regular, Marked, FinalOther, FinalNumbered, FinalLong, Final, frame_way, BlockShort, BlockLong, BlockOver, Block, block_way}
 use Rattle.stream_open.specs.declared.body.Body.{Body}
-use Rattle.stream_open.specs.UnitBuffer.{UnitValue, opened_of}
+use Rattle.frame_codec.specs.UnitBuffer.{UnitValue, opened_of}
 use Rattle.stream_open.specs.Body.{IsInUnit, LacksRoom, open_unit}
 use Rattle.stream_open.proofs.Filling.{IsFilled, taken_on, held_count, filled_more}
 
@@ -111,23 +113,9 @@ wants_within old piece used k head known low short =
 
 -- ---- when all of it is there
 
--- what a whole unit is read as, by what opens of it
-abbrev pub whole_reading : UnitHead → List ℕ → Option (List ℕ) → Reading Piece
-whole_reading head bytes (Some text) = Read (piece_of head.kind text) (place (0 + unit_size head) (drop (unit_size head) bytes))
-whole_reading head bytes None = Refused (UnitTag head.number) (0 + unit_size head)
-
-opened_same : (key id : List ℕ) (head : UnitHead) (bytes : List ℕ) → opened_there key id head (drop head.size bytes) ≡ opened_of key id head bytes
-opened_same key id head bytes =
-    ap (λ (l : List ℕ). Rattle.frame_codec.specs.Unit.opened_unit key id head (take head.length (drop head.size bytes)) (take 16 l)) (drop-drop head.length head.size bytes)
-
 pub whole_is : (old : Body) (bytes : List ℕ) (head : UnitHead) (o : Option (List ℕ)) → head_of old.content old.number old.max_unit bytes ≡ heads.Unit head → unit_size head ≤ length bytes
     → opened_of old.key old.message_id head bytes ≡ o → open_unit old bytes ≡ whole_reading head bytes o
-whole_is old bytes head (Some text) known long opens =
-    unit_reads old.content old.max_unit old.key old.message_id old.number bytes text head 0 (head_reads old.content old.number old.max_unit bytes head known) long
-    (opened_same old.key old.message_id head bytes ∙ opens)
-whole_is old bytes head None known long opens =
-    unit_refuses old.content old.max_unit old.key old.message_id old.number bytes head 0 (head_reads old.content old.number old.max_unit bytes head known) long
-    (opened_same old.key old.message_id head bytes ∙ opens)
+whole_is old bytes head o known long opens = unit_whole old.content old.max_unit old.key old.message_id old.number bytes head o known long opens
 
 -- bytes that want more are fewer than the unit has
 short_by : (old : Body) (bytes more : List ℕ) (head : UnitHead) (o : Option (List ℕ)) → open_unit old bytes ≡ Wanting → open_unit old (bytes ++ more) ≡ whole_reading head (bytes ++ more) o

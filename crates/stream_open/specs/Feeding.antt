@@ -9,13 +9,14 @@ use Rattle.header_codec.specs.Header.{HeaderValue}
 use Rattle.header_codec.specs.Table.{Head, head, header_fault}
 use Rattle.keyring_trait.specs.declared.manager_errors.ManagerError.TheVariants as managers
 use Rattle.keyring_trait.specs.declared.served.Served.{Served}
+use Rattle.keyring_trait.specs.Saying.{Saying}
 use Rattle.keyring_trait.specs.Unlocking.{Unlocking, Refuses, Unlocks}
 use Rattle.body_format.specs.declared.verdicts.Verdict.TheVariants.{Faulty}
 use Rattle.message_format.specs.Judgement.{Judged, judged, header_of, content}
 use Rattle.stream_open.specs.declared.errors.OpenError.TheVariants as errors
-use Rattle.stream_open.specs.Asking.{Asking, Heard, Failed, IsHeard, request_of}
+use Rattle.stream_open.specs.Asking.{Heard, Failed, IsHeard, request_of}
 use Rattle.stream_open.specs.Laws.{MayBeHeard}
-use Rattle.stream_open.specs.Session.{OpeningValue, answer_kept, judged_now, asked_of, keeping, is_faulty, step_answer, stepped, MayRunOut}
+use Rattle.stream_open.specs.Session.{OpeningValue, new_session, answer_kept, judged_now, asked_header, keeping, is_faulty, step_answer, stepped, MayRunOut}
 
 -- ---- sessions that go on
 
@@ -65,13 +66,13 @@ pub record AsksAbout (v : OpeningValue) (piece : List ℕ) (h : HeaderValue) : T
 pub record IsFedExactly (v : OpeningValue) (piece : List ℕ) (heard : Heard) : Type 0 where
   pub used : (n : ℕ) → 1 ≤ length piece → step_answer v piece heard ≡ Ok n → IsFed v piece heard n
   pub fault : (fault : Fault) → step_answer v piece heard ≡ Err (errors.Fault fault) → FindsFault v piece heard fault
-  pub failed : step_answer v piece heard ≡ Err errors.KeyringFault → (heard ≡ Failed) × ((h : HeaderValue) × (asked_of v piece ≡ Some h))
-  pub asked : (h : HeaderValue) → asked_of v piece ≡ Some h → AsksAbout v piece h
+  pub failed : step_answer v piece heard ≡ Err errors.KeyringFault → (heard ≡ Failed) × ((h : HeaderValue) × (asked_header v piece ≡ Some h))
+  pub asked : (h : HeaderValue) → asked_header v piece ≡ Some h → AsksAbout v piece h
   pub unstopped : step_answer v piece heard ≢ Err errors.Stopped
 
 -- A step of a session that goes on, which hears something exactly where a header is asked about.
 abbrev pub FeedsExactly : Type 0
-FeedsExactly = (v : OpeningValue) (piece : List ℕ) (heard : Heard) → GoesOn v → MayBeHeard (asked_of v piece) ⊥ heard → IsFedExactly v piece heard
+FeedsExactly = (v : OpeningValue) (piece : List ℕ) (heard : Heard) → GoesOn v → MayBeHeard (asked_header v piece) ⊥ heard → IsFedExactly v piece heard
 
 -- Where memory may run out nothing was released: the header isn't unlocked, or a single block isn't whole.
 abbrev pub RunsOutBeforeContent : Type 0
@@ -83,6 +84,10 @@ RunsOutBeforeContent = (v : OpeningValue) → MayRunOut v → content (judged_no
 abbrev pub FeedsCompose : Type 0
 FeedsCompose = (v w z : OpeningValue) (first second given more : List ℕ) → Feeds v first w given → Feeds w second z more → Feeds v (first ++ second) z (given ++ more)
 
+-- a session begins so
+abbrev pub FeedsBegin : Type 0
+FeedsBegin = (settings : Settings) (given : List KeyValue) → GoesOn (new_session settings given)
+
 -- no step yet
 abbrev pub FeedsNothing : Type 0
 FeedsNothing = (v : OpeningValue) → GoesOn v → Feeds v [] v []
@@ -93,26 +98,38 @@ FeedsNothing = (v : OpeningValue) → GoesOn v → Feeds v [] v []
 abbrev pub header_in : Settings → List ℕ → Option HeaderValue
 header_in settings bytes = option_map (header_of bytes) (head settings bytes)
 
--- An answer is kept about this header, and it is the manager's; none is kept where there is no header.
-abbrev pub KeepsAnswer : Asking → List KeyValue → Option HeaderValue → Option Unlocking → Type 0
-KeepsAnswer manager given None answer = answer ≡ None
-KeepsAnswer manager given (Some h) None = ⊥
-KeepsAnswer manager given (Some h) (Some (Unlocks whole only key)) =
-    (served : Served) × manager.finds (request_of given h) (record { context = whole; only = only; key = key; served = served })
-KeepsAnswer manager given (Some h) (Some (Refuses fault)) = manager.finds_none (request_of given h) (managers.Fault fault)
+-- An answer is kept about this header, and it is the manager's at this moment; none is kept where
+-- there is no header.
+abbrev pub KeepsAnswer : Saying → ℕ → List KeyValue → Option HeaderValue → Option Unlocking → Type 0
+KeepsAnswer manager now given None answer = answer ≡ None
+KeepsAnswer manager now given (Some h) None = ⊥
+KeepsAnswer manager now given (Some h) (Some (Unlocks whole only key)) =
+    (served : Served) × manager.finds (request_of given h) now
+    (record { context = whole; only = only; key = key; served = served })
+KeepsAnswer manager now given (Some h) (Some (Refuses fault)) =
+    manager.finds_none (request_of given h) (managers.Fault fault)
 
 -- this session keeps the manager's answer to the header that is whole in these bytes
-abbrev pub Keeps : Asking → OpeningValue → List ℕ → Type 0
-Keeps manager v bytes = KeepsAnswer manager v.given (header_in v.settings bytes) v.answer
+abbrev pub Keeps : Saying → ℕ → OpeningValue → List ℕ → Type 0
+Keeps manager now v bytes = KeepsAnswer manager now v.given (header_in v.settings bytes) v.answer
 
--- What is kept after a step, with the bytes that it used, or with all of the piece where it found a fault. Where no header is asked about, it is what was kept, whoever
--- answered it; where one is, it is what was heard.
-pub record KeepsOn (manager : Asking) (v : OpeningValue) (piece : List ℕ) (heard : Heard) : Type 0 where
-  pub before : asked_of v piece ≡ None → Keeps manager v v.taken → (n : ℕ) → Keeps manager (keeping v heard) (v.taken ++ take n piece)
-  pub before_all : asked_of v piece ≡ None → Keeps manager v v.taken → Keeps manager (keeping v heard) (v.taken ++ piece)
-  pub used : (h : HeaderValue) → asked_of v piece ≡ Some h → (n : ℕ) → step_answer v piece heard ≡ Ok n → Keeps manager (keeping v heard) (v.taken ++ take n piece)
-  pub fault : (h : HeaderValue) (fault : Fault) → asked_of v piece ≡ Some h → step_answer v piece heard ≡ Err (errors.Fault fault) → Keeps manager (keeping v heard) (v.taken ++ piece)
+-- What is kept after a step, with the bytes that it used, or with all of the piece where it found a
+-- fault. Where no header is asked about, it is what was kept, whoever answered it; where one is, it
+-- is what was heard.
+pub record KeepsOn (manager : Saying) (now : ℕ) (v : OpeningValue) (piece : List ℕ) (heard : Heard) : Type 0 where
+  pub before : asked_header v piece ≡ None → Keeps manager now v v.taken
+      → (n : ℕ) → Keeps manager now (keeping v heard) (v.taken ++ take n piece)
+  pub before_all : asked_header v piece ≡ None → Keeps manager now v v.taken
+      → Keeps manager now (keeping v heard) (v.taken ++ piece)
+  pub used : (h : HeaderValue) → asked_header v piece ≡ Some h
+      → (n : ℕ) → step_answer v piece heard ≡ Ok n
+      → Keeps manager now (keeping v heard) (v.taken ++ take n piece)
+  pub fault : (h : HeaderValue) (fault : Fault) → asked_header v piece ≡ Some h
+      → step_answer v piece heard ≡ Err (errors.Fault fault)
+      → Keeps manager now (keeping v heard) (v.taken ++ piece)
 
 -- A step of a session that goes on keeps the answer that it hears.
-abbrev pub KeepsAnswers : Asking → Type 0
-KeepsAnswers manager = (v : OpeningValue) (piece : List ℕ) (heard : Heard) → GoesOn v → IsHeard manager v.given (asked_of v piece) ⊥ heard → KeepsOn manager v piece heard
+abbrev pub KeepsAnswers : Saying → ℕ → Type 0
+KeepsAnswers manager now = (v : OpeningValue) (piece : List ℕ) (heard : Heard)
+    → GoesOn v → IsHeard manager now v.given (asked_header v piece) ⊥ heard
+    → KeepsOn manager now v piece heard

@@ -8,7 +8,7 @@ use Rattle.message_format.specs.Judgement.{content}
 use Rattle.stream_open.specs.declared.errors.OpenError.{OpenError}
 use Rattle.stream_open.specs.declared.errors.OpenError.TheVariants as errors
 use Rattle.stream_open.specs.Asking.{Heard, Nothing, Found, Named, Failed}
-use Rattle.stream_open.specs.Session.{OpeningValue, opened, judged_now, asked_of, keeping, reach, is_faulty, is_stop, step_answer, Answers, stepped, finish_answer, finished}
+use Rattle.stream_open.specs.Session.{OpeningValue, new_session, judged_now, asked_header, keeping, reach, is_faulty, is_stop, step_answer, Answers, stepped, finish_answer, finished}
 
 -- ---- calls in a row
 
@@ -26,7 +26,7 @@ MayBeHeard asked short Failed = (h : HeaderValue) × (asked ≡ Some h)
 
 -- the session may meet this call
 abbrev pub Meets : OpeningValue → Event → Type 0
-Meets v (Step piece heard answer) = MayBeHeard (asked_of v piece) (answer ≡ Err errors.Memory) heard × Answers v piece heard answer
+Meets v (Step piece heard answer) = MayBeHeard (asked_header v piece) (answer ≡ Err errors.Memory) heard × Answers v piece heard answer
 Meets v Finish = ⊤
 
 abbrev pub after_event : OpeningValue → Event → OpeningValue
@@ -66,8 +66,8 @@ pub record IsOpened (v : OpeningValue) (given : List ℕ) : Type 0 where
   pub sound : is_faulty (judged_now v).verdict ≡ false
 
 abbrev pub OpensAnyCut : Type 0
-OpensAnyCut = (settings : Settings) (given : List KeyValue) (events : List Event) → MeetsAll events (opened settings given)
-    → IsOpened (after_all events (opened settings given)) (given_by events (opened settings given))
+OpensAnyCut = (settings : Settings) (given : List KeyValue) (events : List Event) → MeetsAll events (new_session settings given)
+    → IsOpened (after_all events (new_session settings given)) (given_by events (new_session settings given))
 
 -- ---- where steps end
 
@@ -95,4 +95,4 @@ pub record StopsExactlyOf (begun : OpeningValue) (events : List Event) : Type 0 
   pub finish : (finish_answer (after_all events begun) ≡ Err errors.Stopped) ↔ ((after_all events begun).stopped ≡ true)
 
 abbrev pub StopsExactly : Type 0
-StopsExactly = (settings : Settings) (given : List KeyValue) (events : List Event) → StopsExactlyOf (opened settings given) events
+StopsExactly = (settings : Settings) (given : List KeyValue) (events : List Event) → StopsExactlyOf (new_session settings given) events

@@ -1,10 +1,10 @@
-pub mod Answered
 pub mod Asking
 pub mod Body
+pub mod Errors
 pub mod Feeding
 pub mod Laws
 pub mod OpenUnit
+pub mod Receiving
 pub mod Session
 pub mod Stands
-pub mod UnitBuffer
 pub mod Unlocking

@@ -1,4 +1,5 @@
--- A message that is opened piece by piece: what a session is worth, and what each call makes of it. All of it follows from how the bytes taken are judged.
+-- A message that is opened piece by piece: what a session is worth, and what each call makes of it.
+-- All of it follows from how the bytes taken are judged.
 -- Standard: AWS Encryption SDK Specification, "Decrypt".
 use Rattle.std.specs.Prelude.{◌≡◌, ℕ, ◌+◌, List, [], ◌++◌, length, take, drop, min, Bool, true, false, not, ◌||◌, nat_lt, Option, Some, None, Result, Ok, Err, option_map, if◌then◌else◌}
 use Rattle.std.specs.List.{concat, prefix_len, range_with_len}
@@ -30,8 +31,8 @@ pub record OpeningValue : Type 0 where
   pub out : List ℕ
 
 -- nothing is taken yet
-abbrev pub opened : Settings → List KeyValue → OpeningValue
-opened settings given = record { settings = settings; given = given; taken = []; answer = None; served = None; stopped = false; out = [] }
+abbrev pub new_session : Settings → List KeyValue → OpeningValue
+new_session settings given = record { settings = settings; given = given; taken = []; answer = None; served = None; stopped = false; out = [] }
 
 -- ---- how the bytes are judged
 
@@ -55,8 +56,8 @@ header_asked None settings bytes = option_map (header_of bytes) (head settings b
 header_asked (Some answer) settings bytes = None
 
 -- the header about which a step asks the manager: the one that is whole with the piece, where the manager hasn't answered yet
-abbrev pub asked_of : OpeningValue → List ℕ → Option HeaderValue
-asked_of v piece = if v.stopped then None else header_asked v.answer v.settings (v.taken ++ piece)
+abbrev pub asked_header : OpeningValue → List ℕ → Option HeaderValue
+asked_header v piece = if v.stopped then None else header_asked v.answer v.settings (v.taken ++ piece)
 
 -- the session that has kept what was heard
 abbrev pub keeping : OpeningValue → Heard → OpeningValue

@@ -7,6 +7,8 @@ use Rattle.esdk_fields.specs.Reading.{Read, Wanting}
 use Rattle.header_codec.specs.Header.{HeaderValue}
 use Rattle.header_codec.specs.Stands.{Stands as Reads}
 use Rattle.header_codec.specs.Table.{Head, header}
+use Rattle.keyring_trait.specs.Manager.{ManagerNow}
+use Rattle.keyring_trait.specs.Saying.{said_last}
 use Rattle.keyring_trait.specs.Unlocking.{Unlocks}
 use Rattle.suite_table.specs.Keys.{derived}
 use Rattle.message_format.specs.Judgement.{header_of, lock_fault}
@@ -15,9 +17,9 @@ use Rattle.stream_open.specs.declared.unlocked.Unlocked.{Unlocked}
 use Rattle.stream_open.specs.declared.session.Opener.{Opener}
 use Rattle.stream_open.specs.declared.errors.OpenError.{OpenError}
 use Rattle.stream_open.specs.declared.errors.OpenError.TheVariants as errors
-use Rattle.stream_open.specs.Asking.{Asking, Heard, Nothing, served_in, IsHeard}
+use Rattle.stream_open.specs.Asking.{Heard, Nothing, served_in, IsHeard, BearsHeard}
 use Rattle.stream_open.specs.Body.{HoldsFrames, StandsBehind}
-use Rattle.stream_open.specs.Session.{OpeningValue, asked_of, Answers, stepped, framed}
+use Rattle.stream_open.specs.Session.{OpeningValue, asked_header, Answers, stepped, framed}
 
 -- what an opener gave last
 abbrev pub out_of : Option Unlocked → List ℕ
@@ -67,17 +69,19 @@ pub record Stands (opener : Opener) (v : OpeningValue) : Type 0 where
   pub out : out_of opener.unlocked ≡ v.out
   pub at : StandsAt opener v opener.unlocked
 
--- What a step comes to: this was heard from the manager, which answered and bears its lines so; the answer is the session's, and the opener stands for the session after it.
-pub record Steps (manager : Asking) (v : OpeningValue) (piece : List ℕ) (answer : Result ℕ OpenError) (opener : Opener) : Type 0 where
+-- What a step comes to at a moment, over a manager that was so and is so now: this was heard from the
+-- manager, which bears its lines so; the answer is the session's, and the opener stands for the
+-- session after it.
+pub record Steps (old new : ManagerNow) (now : ℕ) (v : OpeningValue) (piece : List ℕ) (answer : Result ℕ OpenError) (opener : Opener) : Type 0 where
   pub heard : Heard
-  pub hears : IsHeard manager v.given (asked_of v piece) (answer ≡ Err errors.Memory) heard
-  pub bears : manager.bears (served_in heard)
+  pub hears : IsHeard (said_last old new) now v.given (asked_header v piece) (answer ≡ Err errors.Memory) heard
+  pub bears : BearsHeard old new now (served_in heard)
   pub answers : Answers v piece heard answer
   pub stands : Stands opener (stepped v piece heard answer)
 
 -- A step once the header is unlocked: no header is asked about, and the answer and what is given are the session's.
 pub record StepsUnlocked (v : OpeningValue) (piece : List ℕ) (answer : Result ℕ OpenError) (u : Unlocked) : Type 0 where
-  pub unasked : asked_of v piece ≡ None
+  pub unasked : asked_header v piece ≡ None
   pub answers : Answers v piece Nothing answer
   pub stands : IsUnlocked u (stepped v piece Nothing answer)
   pub out : u.body.unit.out ≡ (stepped v piece Nothing answer).out

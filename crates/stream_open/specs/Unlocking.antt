@@ -1,11 +1,9 @@
--- What unlocking a header with a manager's materials comes to.
-use Rattle.std.specs.Prelude.{◌≡◌, ℕ, [], true, false, Option, Some, None, ⊤}
+-- What an opener has of a header that was unlocked with a manager's materials.
+use Rattle.std.specs.Prelude.{◌≡◌, ℕ, [], true, false, Option, None}
 use Rattle.header_codec.specs.Header.{HeaderValue}
 use Rattle.keyring_trait.specs.Materials.{DecMaterialsValue}
 use Rattle.message_format.specs.Judgement.{lock_fault}
 use Rattle.suite_table.specs.Keys.{derived}
-use Rattle.stream_open.specs.declared.errors.OpenError.{OpenError}
-use Rattle.stream_open.specs.declared.errors.OpenError.TheVariants as errors
 use Rattle.stream_open.specs.declared.unlocked.Unlocked.{Unlocked}
 use Rattle.stream_open.specs.Body.{HoldsFrames}
 use Rattle.stream_open.specs.Session.{framed}
@@ -24,10 +22,3 @@ pub record IsBegun (u : Unlocked) (h : HeaderValue) (max_unit : Option ℕ) (m :
   pub held : u.body.unit.held ≡ []
   pub out : u.body.unit.out ≡ []
   pub reserved : framed u.body.content ≡ true → HoldsFrames u.body.content u.body.unit.reserved
-
--- The lock has this fault. Want of memory is free.
-abbrev pub NotUnlocked : HeaderValue → DecMaterialsValue → OpenError → Type 0
-NotUnlocked h m (errors.Fault fault) = lock_fault h m.only m.key ≡ Some fault
-NotUnlocked h m errors.KeyringFault = ⊥
-NotUnlocked h m errors.Stopped = ⊥
-NotUnlocked h m errors.Memory = ⊤

@@ -5,16 +5,14 @@ ghost use Rattle.esdk_fields.specs.Reading.{Read, Refused};
 ghost use Rattle.esdk_fields.specs.declared.faults.Fault.TheVariants.{UnitTag};
 ghost use Rattle.frame_codec.specs.UnitHead.{final_mark, longest_block, IfRegular};
 ghost use Rattle.stream_open.specs.Body.{AnswersBody, GoesOn, HoldsFrames, IsInUnit, SameBody, StepsBody};
-ghost use Rattle.stream_open.specs.UnitBuffer.{opened_of};
+ghost use Rattle.frame_codec.specs.UnitBuffer.{opened_of};
 ghost use Rattle.stream_open.specs.declared.errors.OpenError.TheVariants as errors;
 ghost use Rattle.stream_open.specs.Session.{framed};
 
-use crate::body_key::BodyKey;
 use crate::errors::OpenError;
-use crate::message_id::MessageId;
-use crate::unit_buffer::UnitBuffer;
 use esdk_fields::{Content, Fault};
-use frame_codec::{Head, UnitHead, UnitKind, judge_head};
+use frame_codec::{Head, MessageId, UnitBuffer, UnitHead, UnitKind, judge_head};
+use gcm_core::GcmKey;
 use header_codec::HeaderLock;
 use std::alloc::{AllocError, Global};
 
@@ -27,7 +25,7 @@ const TAG: usize = 16;
 /// The body of a message whose header is unlocked. It holds one unit.
 #[derive(Drop)]
 pub(crate) struct Body {
-    pub(crate) key: BodyKey,
+    pub(crate) key: GcmKey,
     pub(crate) message_id: MessageId,
     pub(crate) content: Content,
     pub(crate) max_unit: Option<u64>,
@@ -54,7 +52,7 @@ impl Body {
         alloc: Global,
         header: &HeaderLock,
         max_unit: Option<u64>,
-        key: BodyKey,
+        key: GcmKey,
     ) -> Result<Body, AllocError>
         ensures key { IfOk result (λ body. body.key ≡ key) }
         ensures id { IfOk result (λ body. body.message_id ≡ header.now.message_id) }

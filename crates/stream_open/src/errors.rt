@@ -2,8 +2,10 @@
 
 ghost use Rattle.std.specs.Prelude.{◌≡◌};
 ghost use Rattle.stream_open.specs.declared.errors.OpenError.TheVariants.{Memory};
+ghost use Rattle.stream_open.specs.Errors.{locked_as};
 
 use esdk_fields::Fault;
+use message_format::UnlockError;
 use std::alloc::AllocError;
 use std::error::Error;
 use std::fmt;
@@ -45,5 +47,17 @@ impl From<AllocError> for OpenError {
 
     fn from(_: AllocError) -> OpenError {
         OpenError::Memory
+    }
+}
+
+impl From<UnlockError> for OpenError {
+    ghost from_gives = { λ why error. error ≡ locked_as why };
+
+    fn from(error: UnlockError) -> OpenError {
+        match error {
+            UnlockError::Fault(fault) => OpenError::Fault(fault),
+            UnlockError::KeyringFault => OpenError::KeyringFault,
+            UnlockError::Memory => OpenError::Memory,
+        }
     }
 }

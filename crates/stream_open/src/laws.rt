@@ -1,10 +1,11 @@
 //! Laws about opening. A law is a function that does nothing: its contract is what is proved.
 
 ghost use Rattle.std.specs.Prelude.{ℕ};
-ghost use Rattle.stream_open.specs.Asking.{asking_of};
-ghost use Rattle.stream_open.specs.Feeding.{FeedsCompose, FeedsExactly, FeedsNothing, KeepsAnswers, RunsOutBeforeContent};
+ghost use Rattle.keyring_trait.specs.Saying.{said_last};
+ghost use Rattle.stream_open.specs.Feeding.{FeedsBegin, FeedsCompose, FeedsExactly, FeedsNothing, KeepsAnswers, RunsOutBeforeContent};
 ghost use Rattle.stream_open.specs.Laws.{OpensAnyCut, StepsEndExactly, StopsExactly};
 ghost use Rattle.stream_open.specs.OpenUnit.{HoldsLessThanAUnit};
+ghost use Rattle.stream_open.specs.Receiving.{FedAsOne};
 
 use keyring_trait::Manager;
 
@@ -27,18 +28,23 @@ pub fn errors_come_exactly()
 /// piece has, or the manager fails before anything was given. Memory runs out only before anything
 /// was given.
 pub fn pieces_are_fed_to_their_end()
+    ensures begins { FeedsBegin }
     ensures once { FeedsExactly }
     ensures on { FeedsCompose }
     ensures none { FeedsNothing }
     ensures memory { RunsOutBeforeContent }
 {}
 
+/// Pieces that are fed one after another come to what they come to as one piece: what was given is
+/// joined, and the manager was asked once at the most for all of them.
+pub fn pieces_are_fed_as_one<M: Manager>(first: &M, between: &M, last: &M)
+    ensures { FedAsOne M.state first.now between.now last.now }
+{}
+
 /// The answer that a session keeps is the manager's to the header that is whole in the bytes taken:
 /// what a step heard when the manager was so before it and so behind it.
 pub fn answers_are_kept<M: Manager>(before: &M, after: &M)
-    ensures { (now : ℕ) → KeepsAnswers (asking_of (M.meaning before.now) (M.meaning after.now)
-        (M.tells before.now) (M.exact before.now) (M.found after.now) (M.bears before.now)
-        (M.bears after.now) now) }
+    ensures { (now : ℕ) → KeepsAnswers (said_last (M.state before.now) (M.state after.now)) now }
 {}
 
 /// Less than one unit is held: what came since the last mark is fewer bytes than the unit that is

@@ -6,26 +6,23 @@
 //! it is checked, and nothing is held back. Standard: AWS Encryption SDK Specification, "Decrypt".
 //!
 //! `specs/Session.antt` says what each call answers, gives and leaves, by the judgement of the
-//! bytes taken; `specs/Asking.antt` what the manager is asked, and `specs/Stands.antt` which opener
-//! is at which point of a session. `specs/Laws.antt` says what follows: however a message is cut
-//! into pieces, what is given at any moment is the content of the units that are whole by then.
-//! `specs/Feeding.antt` says what a caller's loop of steps comes to, and `specs/OpenUnit.antt` how
-//! much is held.
+//! bytes taken; `specs/Asking.antt` what is heard of the manager, and `specs/Stands.antt` which
+//! opener is at which point of a session. `specs/Laws.antt` says what follows: however a message is
+//! cut into pieces, what is given at any moment is the content of the units that are whole by then.
+//! `specs/Feeding.antt` says what a loop of steps comes to, `specs/Receiving.antt` what feeding a
+//! whole piece into a receiver does, and `specs/OpenUnit.antt` how much is held.
 #![tactic(auto)]
 
-mod asking;
 mod body;
-mod body_key;
 mod errors;
 mod laws;
-mod message_id;
+mod receiving;
 mod session;
-mod unit_buffer;
 mod unlocked;
 
 pub use errors::OpenError;
 pub use laws::{
     answers_are_kept, any_cut_gives_the_content, errors_come_exactly, less_than_a_unit_is_held,
-    pieces_are_fed_to_their_end,
+    pieces_are_fed_as_one, pieces_are_fed_to_their_end,
 };
 pub use session::Opener;

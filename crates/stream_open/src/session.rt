@@ -1,26 +1,24 @@
 //! A message that is opened piece by piece.
 
-ghost use Rattle.std.specs.Prelude.{◌≡◌, ◌≤◌, true, false, List, length, [], None, IfErr, IfOk};
+ghost use Rattle.std.specs.Prelude.{◌≡◌, ◌≤◌, false, length, None, IfOk};
 ghost use Rattle.std.specs.Option.{option_copied};
-ghost use Rattle.keyring_trait.specs.Manager.{ManagerGoes, TellsOn};
-ghost use Rattle.keyring_trait.specs.declared.journal.JournalLine.{JournalLine};
-ghost use Rattle.stream_open.specs.Asking.{asking_of};
-ghost use Rattle.stream_open.specs.Session.{OpeningValue, opened, judged_now, asked_of, finish_answer, finished, whole_context, only_authenticated, is_end};
+ghost use Rattle.keyring_trait.specs.Manager.{Went};
+ghost use Rattle.stream_open.specs.Session.{OpeningValue, new_session, judged_now, asked_header, finish_answer, finished, whole_context, only_authenticated, is_end};
 ghost use Rattle.stream_open.specs.Stands.{Stands, Steps, quiet, unread_as};
 
-use crate::asking::{Asked, materials_for};
 use crate::errors::OpenError;
-use crate::unlocked::{Unlocked, unlocked_by};
+use crate::unlocked::{Unlocked, begun};
 use context_codec::Context;
 use esdk_fields::{Fault, FieldError};
 use header_codec::{HeaderReader, Settings};
 use keyring_trait::{Manager, Served};
+use message_format::materials_for;
 use std::alloc::Global;
 
 /// Opens a message piece by piece: the header, which a materials manager unlocks, and one frame
 /// after another, or the single block. Each content is handed out by the step that takes the last
 /// byte of its unit, after its tag was checked. Once the header of a framed message is unlocked, no
-/// step takes memory. AWS Encryption SDK Specification, "Decrypt".
+/// step answers `Memory`. AWS Encryption SDK Specification, "Decrypt".
 #[derive(Drop)]
 pub struct Opener {
     settings: Settings,
@@ -35,7 +33,7 @@ impl Opener {
     /// An opener that has taken nothing. It keeps these limits, and the manager is told these pairs
     /// beside those that the header stores.
     pub fn new(alloc: Global, settings: Settings, given: Context) -> Opener
-        ensures { Stands result (opened settings given) }
+        ensures { Stands result (new_session settings given) }
     {
         Opener {
             settings,
@@ -80,25 +78,15 @@ impl Opener {
         now: u64,
         piece: &[u8],
     ) -> Result<usize, OpenError>
-        ensures steps { (v : OpeningValue) → Stands self.old v → Steps
-            (asking_of (M.meaning manager.old) (M.meaning manager.new) (M.tells manager.old)
-            (M.exact manager.old) (M.found manager.new) (M.bears manager.old)
-            (M.bears manager.new) now)
-            v piece.now result self.new }
+        ensures steps { (v : OpeningValue) → Stands self.old v → Steps (M.state manager.old)
+            (M.state manager.new) now v piece.now result self.new }
         ensures within { (v : OpeningValue) → Stands self.old v
             → IfOk result (λ used. used ≤ length piece.now) }
-        ensures goes { ManagerGoes (M.meaning manager.old) (M.meaning manager.new) }
-        ensures tells { TellsOn (M.tells manager.old) (M.tells manager.new) }
-        ensures same { (M.meaning manager.old).plain ≡ true
-            → TellsOn (M.tells manager.new) (M.tells manager.old) }
-        ensures exact { M.exact manager.old → M.exact manager.new }
-        ensures limits { (lines : List JournalLine) → M.within manager.new lines
-            → M.within manager.old lines }
-        ensures unasked { (v : OpeningValue) → Stands self.old v → asked_of v piece.now ≡ None
+        ensures went { Went (M.state manager.old) (M.state manager.new) }
+        ensures unasked { (v : OpeningValue) → Stands self.old v → asked_header v piece.now ≡ None
             → manager.new ≡ manager.old }
     {
-        // Where the manager isn't asked, it stays as it is: `wraps` says so of a steady one's
-        // count.
+        // Where the manager isn't asked, it stays as it is: `wraps` says what that keeps.
         let _wraps = manager.wraps();
         if self.stopped {
             self.give_nothing();
@@ -112,8 +100,15 @@ impl Opener {
         self.step_header(alloc, manager, now, piece)
     }
 
+    /// Whether an earlier call answered an error.
+    pub(crate) fn is_stopped(&self) -> bool
+        ensures { result ≡ self.now.stopped }
+    {
+        self.stopped
+    }
+
     /// Nothing is given any more.
-    fn give_nothing(&mut self)
+    pub(crate) fn give_nothing(&mut self)
         ensures unlocked { self.new.unlocked ≡ quiet self.old.unlocked }
         ensures settings { self.new.settings ≡ self.old.settings }
         ensures given { self.new.given ≡ self.old.given }
@@ -134,24 +129,15 @@ impl Opener {
         now: u64,
         piece: &[u8],
     ) -> Result<usize, OpenError>
-        requires manager { ManagerGoes (M.meaning manager.old) (M.meaning manager.old) }
+        requires manager { Went (M.state manager.old) (M.state manager.old) }
         requires going { self.old.stopped ≡ false }
         requires locked { self.old.unlocked ≡ None }
-        ensures steps { (v : OpeningValue) → Stands self.old v → Steps
-            (asking_of (M.meaning manager.old) (M.meaning manager.new) (M.tells manager.old)
-            (M.exact manager.old) (M.found manager.new) (M.bears manager.old)
-            (M.bears manager.new) now)
-            v piece.now result self.new }
+        ensures steps { (v : OpeningValue) → Stands self.old v → Steps (M.state manager.old)
+            (M.state manager.new) now v piece.now result self.new }
         ensures within { (v : OpeningValue) → Stands self.old v
             → IfOk result (λ used. used ≤ length piece.now) }
-        ensures goes { ManagerGoes (M.meaning manager.old) (M.meaning manager.new) }
-        ensures tells { TellsOn (M.tells manager.old) (M.tells manager.new) }
-        ensures same { (M.meaning manager.old).plain ≡ true
-            → TellsOn (M.tells manager.new) (M.tells manager.old) }
-        ensures exact { M.exact manager.old → M.exact manager.new }
-        ensures limits { (lines : List JournalLine) → M.within manager.new lines
-            → M.within manager.old lines }
-        ensures unasked { (v : OpeningValue) → Stands self.old v → asked_of v piece.now ≡ None
+        ensures went { Went (M.state manager.old) (M.state manager.new) }
+        ensures unasked { (v : OpeningValue) → Stands self.old v → asked_header v piece.now ≡ None
             → manager.new ≡ manager.old }
     {
         self.stopped = true;
@@ -163,9 +149,9 @@ impl Opener {
             self.stopped = false;
             return Ok(step.used);
         };
-        let Asked { materials, lock } = materials_for(alloc, manager, now, &self.given, header)?;
-        self.served = Some(materials.served());
-        self.unlocked = Some(unlocked_by(alloc, &lock, self.settings.max_unit, materials)?);
+        let asked = materials_for(alloc, manager, now, &self.given, header)?;
+        self.served = Some(asked.materials.served());
+        self.unlocked = Some(begun(alloc, asked, self.settings.max_unit)?);
         self.stopped = false;
         Ok(step.used)
     }
@@ -199,7 +185,7 @@ impl Opener {
         }
     }
 
-    /// The whole context, once the header was unlocked, handed out. Takes no memory.
+    /// The whole context, once the header was unlocked, handed out.
     pub fn into_context(self) -> Option<Context>
         ensures { (v : OpeningValue) → Stands self v → result ≡ whole_context v }
     {

@@ -1,18 +1,15 @@
 //! What a header is unlocked with.
 
-ghost use Rattle.std.specs.Prelude.{◌≡◌, ◌≤◌, [], length, false, None, Some, IfOk, IfErr};
-ghost use Rattle.message_format.specs.Judgement.{lock_fault};
+ghost use Rattle.std.specs.Prelude.{◌≡◌, ◌≤◌, length, false, IfOk, IfErr};
+ghost use Rattle.message_format.specs.Unlocking.{KeepsLock};
 ghost use Rattle.stream_open.specs.Session.{OpeningValue};
 ghost use Rattle.stream_open.specs.Stands.{IsUnlocked, StepsUnlocked};
-ghost use Rattle.stream_open.specs.Unlocking.{IsBegun, NotUnlocked};
+ghost use Rattle.stream_open.specs.Unlocking.{IsBegun};
 
 use crate::body::Body;
-use crate::body_key::BodyKey;
 use crate::errors::OpenError;
 use context_codec::Context;
-use header_codec::HeaderLock;
-use keyring_trait::DecMaterials;
-use message_format::unlocked_key;
+use message_format::{Asked, UnlockError, unlocked_by};
 use std::alloc::Global;
 
 /// What a header was unlocked with, and the body behind it.
@@ -35,23 +32,23 @@ impl Unlocked {
     }
 }
 
-/// Unlocks a header with the manager's materials. `Fault` with M16 where the header doesn't commit
-/// to their data key, else with M17 where its tag isn't that of its body and of the pairs that it
-/// doesn't store; `Memory` where memory runs out; never another error.
-pub(crate) fn unlocked_by(
+/// Unlocks a header with the manager's materials, and begins its body. `Fault` with M16 where the
+/// header doesn't commit to their data key, else with M17 where its tag isn't that of its body and
+/// of the pairs that it doesn't store; `Memory` where memory runs out; never another error.
+pub(crate) fn begun(
     alloc: Global,
-    header: &HeaderLock,
+    asked: Asked,
     max_unit: Option<u64>,
-    materials: DecMaterials,
-) -> Result<Unlocked, OpenError>
-    ensures unlocked { IfOk result (λ u. IsBegun u header.now max_unit materials) }
-    ensures cause { IfErr result (NotUnlocked header.now materials) }
+) -> Result<Unlocked, UnlockError>
+    ensures unlocked { IfOk result (λ u. IsBegun u asked.lock max_unit asked.materials) }
+    ensures cause { IfErr result (KeepsLock asked.lock asked.materials) }
 {
-    let (whole, only, key) = materials.into_parts();
-    let key = match unlocked_key(alloc, header, &only, &key)? {
-        Ok(key) => BodyKey::new(alloc, key)?,
-        Err(fault) => return Err(OpenError::Fault(fault)),
-    };
-    let body = Body::new(alloc, header, max_unit, key)?;
-    Ok(Unlocked { whole, only, body })
+    let opened = unlocked_by(alloc, asked)?;
+    let key = opened.key;
+    let body = Body::new(alloc, &opened.lock, max_unit, key)?;
+    Ok(Unlocked {
+        whole: opened.whole,
+        only: opened.only,
+        body,
+    })
 }

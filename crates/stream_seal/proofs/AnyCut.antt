@@ -6,7 +6,7 @@ use Rattle.frame_codec.specs.Written.{regular_frame, final_frame}
 use Rattle.keyring_trait.specs.Materials.{EncMaterialsValue}
 use Rattle.message_format.specs.Message.{message}
 use Rattle.body_format.specs.Written.{framed_body, regular_frames}
-use Rattle.stream_seal.specs.Session.{SealingValue, Doing, Stops, Gives, Takes, beginning, held, doing, after_doing, opened, finished, under_of}
+use Rattle.stream_seal.specs.Session.{SealingValue, Doing, Stops, Gives, Takes, beginning, held, doing, after_doing, new_session, finished, under_of}
 use Rattle.stream_seal.specs.Start.{message_of, most_frames, start_of}
 use Rattle.stream_seal.specs.Laws.{Event, Step, Finish, after_event, after_all, given_by, finishes, is_finished_by, HoldsSome, HoldsNone, BeginsMessage, IsSameMessage, IsSealed, SealsAnyCutOf}
 use Rattle.stream_seal.proofs.Doing.{DoesSo, does, doing_stopped}
@@ -57,7 +57,7 @@ all_within : (declared : Option ℕ) → IfSome declared (λ whole. 0 ≤ whole)
 all_within None = tt
 all_within (Some whole) = omega arith
 
-pub kept_none : (m : EncMaterialsValue) (declared : Option ℕ) (size : ℕ) (id : List ℕ) → IsKept (opened m declared size id) false []
+pub kept_none : (m : EncMaterialsValue) (declared : Option ℕ) (size : ℕ) (id : List ℕ) → IsKept (new_session m declared size id) false []
 unfolding regular_frames
 kept_none m declared size id = record {
   low = omega arith;
@@ -232,9 +232,9 @@ same_beginning v w same =
     ap (λ (m : EncMaterialsValue). start_of m w.size w.id) same.materials ∙ ap (λ (n : ℕ). start_of v.materials n w.id) same.size
     ∙ ap (λ (l : List ℕ). start_of v.materials v.size l) same.id
 
-pub any_cut : (m : EncMaterialsValue) (declared : Option ℕ) (size : ℕ) (id : List ℕ) (events : List Event) → 1 ≤ size → SealsAnyCutOf (opened m declared size id) events
+pub any_cut : (m : EncMaterialsValue) (declared : Option ℕ) (size : ℕ) (id : List ℕ) (events : List Event) → 1 ≤ size → SealsAnyCutOf (new_session m declared size id) events
 any_cut m declared size id events wide =
-    let begun : SealingValue = opened m declared size id in
+    let begun : SealingValue = new_session m declared size id in
     let v : SealingValue = after_all events begun in
     let same : IsSameMessage begun v = same_all events begun in
     let kept = kept_all events begun false [] (kept_none m declared size id) in

@@ -11,7 +11,7 @@ use Rattle.body_format.proofs.Ranges.{flat_map_add}
 use Rattle.keyring_trait.specs.Materials.{EncMaterialsValue}
 use Rattle.stream_seal.specs.declared.errors.SealError.{SealError}
 use Rattle.stream_seal.specs.declared.errors.SealError.TheVariants as errors
-use Rattle.stream_seal.specs.Session.{SealingValue, beginning, finished, held, opened, step_answer, stepped, under_of}
+use Rattle.stream_seal.specs.Session.{SealingValue, beginning, finished, held, new_session, step_answer, stepped, under_of}
 use Rattle.stream_seal.specs.Start.{message_of, most_text}
 use Rattle.stream_seal.specs.Laws.{HoldsSome, IsSameMessage}
 use Rattle.stream_seal.specs.Feeding.{frames_given, most_of, most_taken, over_of, feed_refusal, frames_behind, fed_out, given_so_far, IsFed, IsFeeding, StepsOn, StepsNot, StepFeeds, HasFed, IsOnTheWay, HasEnded, FillsMessage, HoldsTheLast, IsLeast, Feeds, RefusesPiece, BeginsFed}
@@ -164,11 +164,11 @@ finishes v is = ap (λ (w : SealingValue). given_so_far v ++ w.out) (finished_on
 none_given : (size : ℕ) → 1 ≤ size → 0 ≡ frames_given 0 size
 none_given size wide = sym (given_is 0 size 0 wide (record { low = omega arith; high = omega arith; rest = λ some. absurd (omega arith) }))
 
-pub begin_fed : (m : EncMaterialsValue) (declared : Option ℕ) (size : ℕ) (id : List ℕ) → 1 ≤ size → BeginsFed (opened m declared size id)
+pub begin_fed : (m : EncMaterialsValue) (declared : Option ℕ) (size : ℕ) (id : List ℕ) → 1 ≤ size → BeginsFed (new_session m declared size id)
 unfolding given_so_far regular_frames
 begin_fed m declared size id wide = record {
   is_fed = record { wide = wide; on = refl; short = omega arith; handed = none_given size wide; quiet = refl };
-  given = append-nil (beginning (opened m declared size id));
+  given = append-nil (beginning (new_session m declared size id));
 }
 
 -- more frames of a text

@@ -3,7 +3,7 @@ use Rattle.std.proofs.Common.{◌≡◌, ℕ, ◌≤◌, List, [], ◌∷◌, �
 use Rattle.std.specs.List.{concat}
 use Rattle.std.proofs.lemmas.List.{append-nil, length-append}
 use Rattle.keyring_trait.specs.Materials.{EncMaterialsValue}
-use Rattle.stream_seal.specs.Session.{SealingValue, beginning, finished, opened}
+use Rattle.stream_seal.specs.Session.{SealingValue, beginning, finished, new_session}
 use Rattle.stream_seal.specs.Start.{message_of, most_text}
 use Rattle.stream_seal.specs.Laws.{IsSameMessage}
 use Rattle.stream_seal.specs.Feeding.{most_of, most_taken, feed_refusal, fed, fed_out, given_so_far, fed_all, all_fed_out, IsFed, FeedsAll}
@@ -41,9 +41,9 @@ feeds_all (p ∷ ps) v is room =
     }
 
 pub fed_any_cut : (m : EncMaterialsValue) (declared : Option ℕ) (size : ℕ) (id : List ℕ) (pieces : List (List ℕ)) → 1 ≤ size → length (concat pieces) ≤ most_of declared (most_text size)
-    → beginning (opened m declared size id) ++ all_fed_out pieces (opened m declared size id) ++ (finished (fed_all pieces (opened m declared size id))).out ≡ message_of m size id (concat pieces)
+    → beginning (new_session m declared size id) ++ all_fed_out pieces (new_session m declared size id) ++ (finished (fed_all pieces (new_session m declared size id))).out ≡ message_of m size id (concat pieces)
 fed_any_cut m declared size id pieces wide room =
-    let begun : SealingValue = opened m declared size id in
+    let begun : SealingValue = new_session m declared size id in
     let now : SealingValue = fed_all pieces begun in
     let begins = begin_fed m declared size id wide in
     let all = feeds_all pieces begun begins.is_fed room in

@@ -9,4 +9,5 @@ pub mod GivenFrames
 pub mod FeedingSteps
 pub mod Feeding
 pub mod FeedingAll
+pub mod FedReceivers
 pub mod FedSealers

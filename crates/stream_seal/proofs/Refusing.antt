@@ -8,7 +8,7 @@ use Rattle.esdk_fields.specs.declared.refusals.Refusal.TheVariants as refusals
 use Rattle.keyring_trait.specs.Materials.{EncMaterialsValue}
 use Rattle.stream_seal.specs.declared.errors.SealError.{SealError}
 use Rattle.stream_seal.specs.declared.errors.SealError.TheVariants as errors
-use Rattle.stream_seal.specs.Session.{SealingValue, Doing, Stops, Gives, Takes, held, spent_of, within_of, doing, doing_full, doing_on, answer_of, after_doing, opened, finished, step_answer}
+use Rattle.stream_seal.specs.Session.{SealingValue, Doing, Stops, Gives, Takes, held, spent_of, within_of, doing, doing_full, doing_on, answer_of, after_doing, new_session, finished, step_answer}
 use Rattle.stream_seal.specs.Start.{most_frames, most_text}
 use Rattle.stream_seal.specs.Laws.{Event, Step, Finish, after_event, after_all, is_finished_by, is_stopped_by, stops, given_by, IsOffered, IsFull, AnswersExactly, StopsExactlyOf}
 use Rattle.stream_seal.proofs.Doing.{within_most, doing_stopped, doing_spent, doing_last, GoesOn}
@@ -149,8 +149,8 @@ takes_on v piece None short some unspent =
     let count : ℕ = min (v.size - length (held v)) (length piece) in
     which piece (length (held v) == v.size) (doing_full v) (Takes (within_of v.declared (length v.taken) count))
     (λ _. which piece (v.handed + 1 == most_frames) (Stops (errors.Refusal refusals.TooManyFrames)) Gives (λ _. tt) (λ _. tt))
-    (λ opened.
-    let room : length (held v) ≢ v.size = eqb-false (length (held v)) v.size opened in
+    (λ new_session.
+    let room : length (held v) ≢ v.size = eqb-false (length (held v)) v.size new_session in
     (within_some v.declared (length v.taken) count unspent (omega (arith, room)), omega (arith, within_most v.declared (length v.taken) count)))
 
 takes_some : (v : SealingValue) (piece : List ℕ) → length (held v) ≤ v.size → 1 ≤ length piece → TakesSome piece (doing v piece)
@@ -228,9 +228,9 @@ refuses v piece ended given wide kept = record {
       (takes_some v piece (omega (arith, length-drop (v.handed * v.size) v.taken, kept.low, kept.high)) offered.some) is;
 }
 
-pub errors_exact : (m : EncMaterialsValue) (declared : Option ℕ) (size : ℕ) (id : List ℕ) (events : List Event) → 1 ≤ size → StopsExactlyOf (opened m declared size id) events
+pub errors_exact : (m : EncMaterialsValue) (declared : Option ℕ) (size : ℕ) (id : List ℕ) (events : List Event) → 1 ≤ size → StopsExactlyOf (new_session m declared size id) events
 errors_exact m declared size id events wide =
-    let begun : SealingValue = opened m declared size id in
+    let begun : SealingValue = new_session m declared size id in
     record {
       stopped = stopped_all events begun;
       answers = λ piece. refuses (after_all events begun) piece (is_finished_by events begun) (given_by events begun) (omega (arith, (same_all events begun).size))

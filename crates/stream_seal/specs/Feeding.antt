@@ -11,7 +11,7 @@ use Rattle.keyring_trait.specs.Materials.{EncMaterialsValue}
 use Rattle.stream_seal.specs.declared.errors.SealError.{SealError}
 use Rattle.stream_seal.specs.declared.errors.SealError.TheVariants as errors
 use Rattle.stream_seal.specs.Laws.{HoldsNone, HoldsSome, IsSameMessage}
-use Rattle.stream_seal.specs.Session.{SealingValue, beginning, finished, held, opened, step_answer, stepped, under_of}
+use Rattle.stream_seal.specs.Session.{SealingValue, beginning, finished, held, new_session, step_answer, stepped, under_of}
 use Rattle.stream_seal.specs.Start.{message_of, most_frames, most_text}
 
 -- ---- what feeding comes to
@@ -190,7 +190,7 @@ pub record BeginsFed (v : SealingValue) : Type 0 where
   pub given : given_so_far v ≡ beginning v
 
 abbrev pub BeginFed : Type 0
-BeginFed = (m : EncMaterialsValue) (declared : Option ℕ) (size : ℕ) (id : List ℕ) → 1 ≤ size → BeginsFed (opened m declared size id)
+BeginFed = (m : EncMaterialsValue) (declared : Option ℕ) (size : ℕ) (id : List ℕ) → 1 ≤ size → BeginsFed (new_session m declared size id)
 
 -- each step on the way
 abbrev pub StepsFeed : Type 0
@@ -215,5 +215,5 @@ FeedsAllPieces = (pieces : List (List ℕ)) (v : SealingValue) → IsFed v → l
 -- However a text is cut: its pieces fed, each to its end, and `finish` behind them give the message of the text.
 abbrev pub FedAnyCut : Type 0
 FedAnyCut = (m : EncMaterialsValue) (declared : Option ℕ) (size : ℕ) (id : List ℕ) (pieces : List (List ℕ)) → 1 ≤ size → length (concat pieces) ≤ most_of declared (most_text size)
-    → let begun = opened m declared size id in
+    → let begun = new_session m declared size id in
     beginning begun ++ all_fed_out pieces begun ++ (finished (fed_all pieces begun)).out ≡ message_of m size id (concat pieces)

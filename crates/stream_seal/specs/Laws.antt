@@ -5,7 +5,7 @@ use Rattle.frame_codec.specs.Written.{final_frame}
 use Rattle.body_format.specs.Written.{frame_count, regular_frames}
 use Rattle.keyring_trait.specs.Materials.{EncMaterialsValue}
 use Rattle.stream_seal.specs.declared.errors.SealError.TheVariants as errors
-use Rattle.stream_seal.specs.Session.{SealingValue, beginning, opened, step_answer, stepped, finished, under_of}
+use Rattle.stream_seal.specs.Session.{SealingValue, beginning, new_session, step_answer, stepped, finished, under_of}
 use Rattle.stream_seal.specs.Start.{message_of, most_frames, most_text}
 
 -- ---- calls in a row
@@ -92,7 +92,7 @@ pub record SealsAnyCutOf (begun : SealingValue) (events : List Event) : Type 0 w
   pub sealed : IsSealed (after_all events begun) (is_finished_by events begun) (beginning begun ++ given_by events begun)
 
 abbrev pub SealsAnyCut : Type 0
-SealsAnyCut = (m : EncMaterialsValue) (declared : Option ℕ) (size : ℕ) (id : List ℕ) (events : List Event) → 1 ≤ size → SealsAnyCutOf (opened m declared size id) events
+SealsAnyCut = (m : EncMaterialsValue) (declared : Option ℕ) (size : ℕ) (id : List ℕ) (events : List Event) → 1 ≤ size → SealsAnyCutOf (new_session m declared size id) events
 
 -- ---- errors
 
@@ -129,4 +129,4 @@ pub record StopsExactlyOf (begun : SealingValue) (events : List Event) : Type 0 
   pub answers : (piece : List ℕ) → AnswersExactly (after_all events begun) piece
 
 abbrev pub StopsExactly : Type 0
-StopsExactly = (m : EncMaterialsValue) (declared : Option ℕ) (size : ℕ) (id : List ℕ) (events : List Event) → 1 ≤ size → StopsExactlyOf (opened m declared size id) events
+StopsExactly = (m : EncMaterialsValue) (declared : Option ℕ) (size : ℕ) (id : List ℕ) (events : List Event) → 1 ≤ size → StopsExactlyOf (new_session m declared size id) events

@@ -23,8 +23,8 @@ pub record SealingValue : Type 0 where
   pub out : List ℕ
 
 -- nothing is taken yet
-abbrev pub opened : EncMaterialsValue → Option ℕ → ℕ → List ℕ → SealingValue
-opened materials declared size id =
+abbrev pub new_session : EncMaterialsValue → Option ℕ → ℕ → List ℕ → SealingValue
+new_session materials declared size id =
     record { materials = materials; declared = declared; size = size; id = id; taken = []; handed = 0; stopped = false; out = [] }
 
 -- what the message begins with: the header and the header's tag

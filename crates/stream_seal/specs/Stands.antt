@@ -14,7 +14,7 @@ use Rattle.stream_seal.specs.Session.{SealingValue, beginning, held}
 -- until the session stops the bytes held.
 pub record Stands (sealer : Sealer) (v : SealingValue) : Type 0 where
   pub header : sealer.header ≡ beginning v
-  pub key : sealer.key.value ≡ derived Committing v.materials.key v.id
+  pub key : sealer.key ≡ derived Committing v.materials.key v.id
   pub id : sealer.message_id ≡ v.id
   pub size : sealer.frame.size ≡ v.size
   pub stopped : sealer.stopped ≡ v.stopped

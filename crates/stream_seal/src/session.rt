@@ -1,7 +1,11 @@
 //! A message that is sealed piece by piece.
 
-ghost use Rattle.std.specs.Prelude.{◌≡◌, ◌-◌, ◌<◌, ◌≤◌, length, None, IfErr, IfOk, OnOk};
-ghost use Rattle.stream_seal.specs.Session.{SealingValue, beginning, IsNotMemory, opened, step_answer, stepped, finish_answer, finished};
+ghost use Rattle.std.specs.Prelude.{◌≡◌, ◌-◌, ◌<◌, ◌≤◌, true, length, None, Err, IfErr, IfOk, OnOk};
+ghost use Rattle.esdk_base.specs.declared.receiver.FeedError.TheVariants.{Machine};
+ghost use Rattle.stream_seal.specs.declared.errors.SealError.TheVariants.{Stopped};
+ghost use Rattle.stream_seal.specs.Feeding.{IsFed};
+ghost use Rattle.stream_seal.specs.Receiving.{FeedsPiece, Finishes, GivesOut};
+ghost use Rattle.stream_seal.specs.Session.{SealingValue, beginning, IsNotMemory, new_session, step_answer, stepped, finish_answer, finished};
 ghost use Rattle.stream_seal.specs.Stands.{Stands, work_of};
 ghost use Rattle.stream_seal.specs.Start.{BeginsNot, start_refusal};
 
@@ -9,20 +13,21 @@ use crate::declared_length::{Declared, after, spent, whole_to_come, within};
 use crate::errors::SealError;
 use crate::frame_buffer::FrameBuffer;
 use crate::start::{message_start, unstarted};
+use esdk_base::{FeedError, Receiver};
 use esdk_fields::{Blob, Refusal};
 use frame_codec::number_after;
 use gcm_core::GcmKey;
 use keyring_trait::EncMaterials;
-use std::alloc::{AllocError, Global};
+use std::alloc::Global;
 use suite_table::committed_keys;
 
 /// Seals a message piece by piece: the header, the regular frames as the text comes, and the final
-/// frame. It holds one frame, and takes memory at the start alone. AWS Encryption SDK
+/// frame. It holds one frame; want of memory is answered at the start alone. AWS Encryption SDK
 /// Specification, "Encrypt".
 #[derive(Drop)]
 pub struct Sealer {
     header: Blob,
-    key: Box<GcmKey>,
+    key: GcmKey,
     message_id: [u8; 32],
     declared: Option<Declared>,
     number: u32,
@@ -48,13 +53,13 @@ impl Sealer {
     ) -> Result<Sealer, SealError>
         requires some { 1 ≤ frame_length }
         ensures stands { IfOk result (λ sealer. Stands sealer
-            (opened materials.now declared frame_length message_id.now)) }
+            (new_session materials.now declared frame_length message_id.now)) }
         ensures taken { OnOk result (start_refusal materials.now max_keys message_id.now ≡ None) }
         ensures cause { IfErr result (BeginsNot (start_refusal materials.now max_keys
             message_id.now)) }
     {
         let keys = committed_keys(materials.key().bytes(), message_id);
-        let mut key = boxed(alloc, GcmKey::new(&keys.key))?;
+        let mut key = GcmKey::new(alloc, &keys.key)?;
         let header = match message_start(
             alloc,
             materials,
@@ -62,7 +67,7 @@ impl Sealer {
             max_keys,
             message_id,
             &keys.commitment,
-            &mut *key,
+            &mut key,
         ) {
             Ok(header) => header,
             Err(error) => return Err(unstarted(error)),
@@ -94,8 +99,8 @@ impl Sealer {
         self.frame.out()
     }
 
-    /// Takes bytes of the piece, or gives a frame, and answers how many bytes it used. Takes no
-    /// memory, and never answers `Memory`.
+    /// Takes bytes of the piece, or gives a frame, and answers how many it used. Never answers
+    /// `Memory`.
     ///
     /// An empty piece uses and gives nothing. Otherwise: where all declared bytes were taken, it
     /// answers `OverDeclared` (Q10) with their number; where a full frame is held and has the
@@ -136,7 +141,7 @@ impl Sealer {
         match number_after(self.number) {
             Some(next) => {
                 self.frame
-                    .seal_regular(&mut *self.key, &self.message_id, self.number);
+                    .seal_regular(&mut self.key, &self.message_id, self.number);
                 self.number = next;
                 Ok(0)
             }
@@ -147,8 +152,7 @@ impl Sealer {
         }
     }
 
-    /// Gives the final frame, with the bytes that are held. Takes no memory, and never answers
-    /// `Memory`.
+    /// Gives the final frame, with the bytes that are held. Never answers `Memory`.
     ///
     /// `Stopped` exactly where an earlier call answered an error or this one was made before; it
     /// leaves `out` empty.
@@ -162,15 +166,80 @@ impl Sealer {
             return Err(SealError::Stopped);
         }
         self.frame
-            .seal_final(&mut *self.key, &self.message_id, self.number);
+            .seal_final(&mut self.key, &self.message_id, self.number);
         self.stopped = true;
         Ok(())
     }
+
+    /// Takes the whole piece, and hands each frame that is full to the receiver once more bytes
+    /// come, by one call each. Never answers `Memory`.
+    ///
+    /// `OverDeclared` (Q10) and `TooManyFrames` (Q9), where the piece has a byte beyond those
+    /// declared, or beyond those that a message has room for: the bytes before it were taken, and
+    /// all their frames but the last handed over. `Receiver`, where the receiver failed at a frame;
+    /// it isn't asked again. `Stopped`, where the sealer had stopped before; then the receiver
+    /// isn't asked.
+    pub fn feed<R: Receiver>(
+        &mut self,
+        piece: &[u8],
+        output: &mut R,
+    ) -> Result<(), FeedError<SealError, R::Error>>
+        ensures feeds { (v : SealingValue) → Stands self.old v → IsFed v
+            → FeedsPiece R.takes R.fails v piece.now output.old output.new self.new result }
+        ensures stopped { (v : SealingValue) → Stands self.old v → v.stopped ≡ true
+            → (result ≡ Err (Machine Stopped)) × (output.new ≡ output.old) }
+    {
+        if self.stopped {
+            return Err(FeedError::Machine(SealError::Stopped));
+        }
+        let mut left = piece;
+        while !left.is_empty() {
+            let used = match self.step(left) {
+                Ok(used) => used,
+                Err(error) => return Err(FeedError::Machine(error)),
+            };
+            hand_out(self, output)?;
+            let (_taken, rest) = left.split_at(used);
+            left = rest;
+        }
+        Ok(())
+    }
+
+    /// Gives the final frame, with the bytes that are held, and hands it to the receiver. Never
+    /// answers `Memory`.
+    ///
+    /// `Stopped` exactly where an earlier call answered an error of the sealer, or the message was
+    /// finished before; then the receiver isn't asked. `Receiver`, where the receiver failed at the
+    /// frame. The sealer has stopped then, as after `Ok`.
+    pub fn finish_into<R: Receiver>(
+        &mut self,
+        output: &mut R,
+    ) -> Result<(), FeedError<SealError, R::Error>>
+        ensures ends { (v : SealingValue) → Stands self.old v
+            → Finishes R.takes R.fails v output.old output.new result }
+        ensures stands { (v : SealingValue) → Stands self.old v → Stands self.new (finished v) }
+    {
+        match self.finish() {
+            Ok(()) => hand_out(self, output),
+            Err(error) => Err(FeedError::Machine(error)),
+        }
+    }
 }
 
-/// The key on the heap, where it stays, since it is large. Fails only where memory runs out.
-fn boxed(alloc: Global, key: GcmKey) -> Result<Box<GcmKey>, AllocError>
-    ensures { IfOk result (λ boxed. boxed.value ≡ key) }
+/// Hands what the sealer gave last to the receiver, if it is something.
+fn hand_out<R: Receiver>(
+    sealer: &Sealer,
+    output: &mut R,
+) -> Result<(), FeedError<SealError, R::Error>>
+    ensures { (v : SealingValue) → Stands sealer.now v
+        → GivesOut R.takes R.fails v.out output.old output.new result }
 {
-    Ok(Box::new(alloc, key)?)
+    let out = sealer.out();
+    if out.is_empty() {
+        return Ok(());
+    }
+    match output.take(out) {
+        Ok(()) => Ok(()),
+        Err(error) => Err(FeedError::Receiver(error)),
+    }
 }

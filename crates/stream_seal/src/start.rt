@@ -77,7 +77,7 @@ fn body_of_header(
         (start_refusal materials.now max_keys message_id.now)) }
 {
     let stored = materials.context().without(alloc, materials.required())?;
-    match write_header(
+    write_header(
         alloc,
         message_id,
         &stored,
@@ -85,10 +85,7 @@ fn body_of_header(
         frame_length,
         commit_key,
         max_keys,
-    ) {
-        Ok(body) => Ok(body),
-        Err(error) => Err(error),
-    }
+    )
 }
 
 /// Why a message isn't begun whose header isn't written.

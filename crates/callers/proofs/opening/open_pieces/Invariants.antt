@@ -1,11 +1,10 @@
 use Rattle.std.proofs.Common.{map, take}
 use Rattle.std.specs.List.{concat}
-use Rattle.callers.specs.Opening.{IsGoing, IsTaken, no_limits}
+use Rattle.callers.specs.Opening.{no_limits}
+use Rattle.callers.proofs.Opened.{Opening}
 use Rattle.callers.proofs.opening.open_pieces.Given as goal
 
 -- the pieces so far were taken
 abbrev pub invariant-loop-piece : goal.invariant-loop-piece
-invariant-loop-piece g l = record {
-  going : IsGoing l.opener;
-  taken : IsTaken no_limits (concat (map (λ piece. piece.now) (take l.piece-index l.pieces))) (g.O.Sink.state l.fn.output).written (g.O.Sink.state l.output).written l.opener;
-}
+invariant-loop-piece g l =
+    Opening no_limits (concat (map (λ piece. piece.now) (take l.piece-index l.pieces))) (g.O.Sink.state l.fn.output).written (g.O.Sink.state l.output).written l.opener

@@ -1,22 +1,22 @@
 use Rattle.std.proofs.Common.{[], None}
 use Rattle.std.proofs.lemmas.List.{take_all, take_more, map-append, append-nil}
 use Rattle.std.proofs.lemmas.List.Folds.{concat-append}
-use Rattle.stream_seal.specs.Session.{opened}
+use Rattle.stream_seal.specs.Session.{new_session}
 use Rattle.callers.proofs.Sealed.{sealing_ends, sealing_first, sealing_more}
 use Rattle.callers.proofs.sealing.seal_pieces.Goals as goal
 
 pub loop-piece-init : goal.loop-piece-init
 loop-piece-init g c =
     let stands = c.in_ok-sealer.ensures.stands in
-    sealing_first c.args.materials.now c.args.frame_length c.args.message_id.now _ _ c.in_ok-sealer.sealer c.header.result.now c.requires.some stands (c.header.ensures (opened c.args.materials.now None c.args.frame_length c.args.message_id.now) stands) c.in_ok-put.ensures.bytes
+    sealing_first c.args.materials.now c.args.frame_length c.args.message_id.now _ _ c.in_ok-sealer.sealer c.header.result.now c.requires.some stands (c.header.ensures (new_session c.args.materials.now None c.args.frame_length c.args.message_id.now) stands) c.in_ok-put.ensures.bytes
 
 pub loop-piece-preserved : goal.loop-piece-preserved
 loop-piece-preserved g c =
     rw (take_more c.args.pieces.now c.loop-piece.piece-index (record { ref_ptr = (0, 0); now = [] }) c.loop-piece-test.true, map-append, concat-append, append-nil)
-    (sealing_more c.args.materials.now c.args.frame_length c.args.message_id.now _ _ _ _ _ _ _ c.loop-piece.invariant c.in_ok-seal_piece.ensures)
+    (sealing_more g.O.Sink.state c.args.materials.now c.args.frame_length c.args.message_id.now _ _ _ _ _ c.loop-piece.invariant _ _ c.in_ok-feed.ensures.feeds)
 
 pub returns : goal.returns
 returns g c = record {
-  message = sealing_ends c.args.materials.now c.args.frame_length c.args.message_id.now _ c.out.result.now _ _ _ _ c.finish.new.self
-      (rw (take_all c.loop-piece.piece-index c.args.pieces.now c.loop-piece-test.false) at c.loop-piece.invariant) c.finish.ensures.stands c.out.ensures c.in_ok-put-2.ensures.bytes;
+  message = sealing_ends g.O.Sink.state c.args.materials.now c.args.frame_length c.args.message_id.now _ _ _ _ _
+      (rw (take_all c.loop-piece.piece-index c.args.pieces.now c.loop-piece-test.false) at c.loop-piece.invariant) c.in_ok-finish_into.ensures.ends;
 }

@@ -4,7 +4,7 @@ use Rattle.esdk_fields.specs.Reading.{Wanting}
 use Rattle.frame_codec.specs.declared.unit_heads.UnitHead.{UnitHead}
 use Rattle.frame_codec.specs.declared.unit_heads.Head.TheVariants as heads
 use Rattle.frame_codec.specs.UnitHead.{head_of}
-use Rattle.frame_codec.proofs.Units.{unit_size}
+use Rattle.frame_codec.specs.InPlace.{unit_size}
 use Rattle.stream_open.specs.declared.body.Body.{Body}
 use Rattle.stream_open.specs.Body.{open_unit}
 use Rattle.std.proofs.lemmas.List.{length-drop, take_all}

@@ -90,10 +90,10 @@ returns-in-Some-number_after-clause-stands c = λ v stands.
     let room = room_is c.args.self.now v c.go_on.new.self c.room-room.result stands goes.on c.go_on.ensures c.room-room.ensures.room c.room-room.ensures.short in
     let full : length (held v) ≡ v.size = omega (arith, room.is, room.within, c.if-room-gt0.false) in
     let next = next_some c.args.self.now.number c.in-Some-number_after.next (sym c.number_after.ensures ∙ c.in-Some-number_after.is) in
-    rw (c.seal_regular.ensures.same, c.deref_mut.ensures.value)
+    rw c.seal_regular.ensures.same
     (stands_after _ v c.args.piece.now _ (doing_gives v c.args.piece.now goes full (λ last. next.more (stands.number ∙ last)))
     (stands_gives c.args.self.now v c.go_on.new.self c.seal_regular.new.self c.in-Some-number_after.next c.args.piece.now stands goes.on full c.go_on.ensures
-    (rw c.deref_mut.ensures.value at c.seal_regular.ensures.sealed v.size) next.is))
+    (c.seal_regular.ensures.sealed v.size) next.is))
 
 pub returns-in-None-clause-answer : goal.returns-in-None-clause-answer
 returns-in-None-clause-answer c = λ v stands.

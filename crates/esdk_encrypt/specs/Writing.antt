@@ -1,0 +1,56 @@
+-- A message that is written as its text comes.
+use Rattle.std.specs.Prelude.{◌≡◌, ℕ, ◌≤◌, List, [], length, false, None, Result, Ok, Err}
+use Rattle.esdk_base.specs.declared.receiver.FeedError.{FeedError}
+use Rattle.esdk_base.specs.declared.receiver.FeedError.TheVariants as feeds
+use Rattle.esdk_base.specs.declared.source.Failed.{Failed}
+use Rattle.esdk_fields.specs.declared.refusals.Outside.TheVariants as outsides
+use Rattle.keyring_trait.specs.Materials.{EncMaterialsValue}
+use Rattle.stream_seal.specs.declared.errors.SealError.{SealError}
+use Rattle.stream_seal.specs.declared.errors.SealError.TheVariants as seals
+use Rattle.stream_seal.specs.declared.session.Sealer.{Sealer}
+use Rattle.stream_seal.specs.Feeding.{frames_given}
+use Rattle.stream_seal.specs.Session.{SealingValue}
+use Rattle.stream_seal.specs.Stands.{Stands}
+use Rattle.esdk_encrypt.specs.declared.errors.EncryptError.{EncryptError}
+use Rattle.esdk_encrypt.specs.declared.errors.EncryptError.TheVariants as errors
+
+-- the session that was fed this text, of a message with these materials, in frames of this length,
+-- under this id
+abbrev pub session_of : EncMaterialsValue → ℕ → List ℕ → List ℕ → SealingValue
+session_of m size id text = record {
+  materials = m;
+  declared = None;
+  size = size;
+  id = id;
+  taken = text;
+  handed = frames_given (length text) size;
+  stopped = false;
+  out = [];
+}
+
+-- The sealer begins a message: it stands for a session that took nothing yet.
+pub record IsNewSealer (sealer : Sealer) : Type 0 where
+  pub materials : EncMaterialsValue
+  pub size : ℕ
+  pub id : List ℕ
+  pub wide : 1 ≤ size
+  pub stands : Stands sealer (session_of materials size id [])
+
+-- what feeding or finishing a sealer into a sink comes to
+abbrev pub Fed : Type 0
+Fed = Result (Unit {0}) (FeedError SealError Failed)
+
+-- where the sealer failed, it names a refusal
+abbrev pub IsNamed : Fed → Type 0
+IsNamed (Ok done) = Unit {0}
+IsNamed (Err (feeds.Receiver failed)) = Unit {0}
+IsNamed (Err (feeds.Machine (seals.Refusal refusal))) = Unit {0}
+IsNamed (Err (feeds.Machine error)) = ⊥
+
+-- what a run answers then
+abbrev pub WritesAs : Fed → Result (Unit {0}) EncryptError → Type 0
+WritesAs (Ok done) result = result ≡ Ok tt
+WritesAs (Err (feeds.Receiver failed)) result = result ≡ Err (errors.Outside outsides.SinkFault)
+WritesAs (Err (feeds.Machine (seals.Refusal refusal))) result =
+    result ≡ Err (errors.Refusal refusal)
+WritesAs (Err (feeds.Machine error)) result = ⊥
