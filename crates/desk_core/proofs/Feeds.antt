@@ -6,7 +6,8 @@ use Rattle.std.specs.Map.{update}
 use Rattle.keyring_trait.specs.declared.journal.JournalLine.{JournalLine}
 use Rattle.keyring_trait.specs.declared.journal.Kind.TheVariants.{Unseal}
 use Rattle.keyring_trait.specs.declared.served.Served.{Served}
-use Rattle.stream_open.specs.Asking.{Asking, BearsOn, Heard}
+use Rattle.keyring_trait.specs.Manager.{ManagerNow}
+use Rattle.stream_open.specs.Asking.{BearsHeard, Heard}
 use Rattle.desk_core.specs.declared.errors.DeskError.{DeskError}
 use Rattle.desk_core.specs.declared.live_sessions.Desk.{Desk}
 use Rattle.desk_core.specs.declared.live_sessions.Lent.{Lent}
@@ -49,10 +50,10 @@ stops_fed (Some s) piece heard short error e = stops_answered (step_answer s pie
 
 -- ---- the desk
 
-pub feeds_ok : {M : Type 0} (manager : Asking) (next : Desk M) (v : DeskValue) (id now : ℕ) (piece : List ℕ) (used : ℕ) (before : List JournalLine)
-    → StepsAt manager v.live id now piece (Ok used) next.sessions before next.journal.items → before ≡ v.journal → NoneAbove v.live v.last → next.last_id ≡ v.last → next.lent ≡ lents.Live id
-    → Feeds manager v id now piece (Ok used) next
-feeds_ok manager next v id now piece used before step same above last lent =
+pub feeds_ok : {M : Type 0} (m n : ManagerNow) (next : Desk M) (v : DeskValue) (id now : ℕ) (piece : List ℕ) (used : ℕ) (before : List JournalLine)
+    → StepsAt m n v.live id now piece (Ok used) next.sessions before next.journal.items → before ≡ v.journal → NoneAbove v.live v.last → next.last_id ≡ v.last → next.lent ≡ lents.Live id
+    → Feeds m n v id now piece (Ok used) next
+feeds_ok m n next v id now piece used before step same above last lent =
     let turn : Turn ℕ = fed (v.live id) piece step.heard step.short in
     let goes : Goes turn = goes_fed (v.live id) piece step.heard step.short used step.answer in
     let s : SessionValue = goes.session in
@@ -70,10 +71,10 @@ feeds_ok manager next v id now piece used before step same above last lent =
           (step.journal ∙ ap (λ (l : List JournalLine). l ++ open_lines id now step.heard) same) lends;
     }
 
-pub feeds_err : {M : Type 0} (manager : Asking) (next : Desk M) (v : DeskValue) (id now : ℕ) (piece : List ℕ) (error : DeskError) (before : List JournalLine)
-    → StepsAt manager v.live id now piece (Err error) next.sessions before next.journal.items → before ≡ v.journal → NoneAbove v.live v.last → next.last_id ≡ v.last → next.lent ≡ lents.Nothing
-    → Feeds manager v id now piece (Err error) next
-feeds_err manager next v id now piece error before step same above last lent =
+pub feeds_err : {M : Type 0} (m n : ManagerNow) (next : Desk M) (v : DeskValue) (id now : ℕ) (piece : List ℕ) (error : DeskError) (before : List JournalLine)
+    → StepsAt m n v.live id now piece (Err error) next.sessions before next.journal.items → before ≡ v.journal → NoneAbove v.live v.last → next.last_id ≡ v.last → next.lent ≡ lents.Nothing
+    → Feeds m n v id now piece (Err error) next
+feeds_err m n next v id now piece error before step same above last lent =
     let turn : Turn ℕ = fed (v.live id) piece step.heard step.short in
     let stops : Stops turn = stops_fed (v.live id) piece step.heard step.short error step.answer in
     record {
@@ -90,7 +91,7 @@ feeds_err manager next v id now piece error before step same above last lent =
 -- ---- the journal
 
 -- a manager that bears the journal bears it with the line that is added
-pub bears_then : (old new : List JournalLine → Type 0) (id now : ℕ) (served : Option Served) (before after : List JournalLine) → BearsOn old new now served
-    → after ≡ before ++ lines_of id Unseal now None served → old before → new after
-bears_then old new id now None before after on e bore = subst new (sym (e ∙ append-nil before)) (on before bore)
-bears_then old new id now (Some served) before after on e bore = subst new (sym e) (on before id bore)
+pub bears_then : (m n : ManagerNow) (id now : ℕ) (served : Option Served) (before after : List JournalLine) → BearsHeard m n now served
+    → after ≡ before ++ lines_of id Unseal now None served → m.bears before → n.bears after
+bears_then m n id now None before after on e bore = subst n.bears (sym (e ∙ append-nil before)) (on before bore)
+bears_then m n id now (Some served) before after on e bore = subst n.bears (sym e) (on before id bore)

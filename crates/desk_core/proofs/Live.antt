@@ -8,7 +8,8 @@ use Rattle.std.specs.Global.{Box}
 use Rattle.std.specs.Map.{update}
 use Rattle.std.specs.Ordering.{is_eq, nat_cmp}
 use Rattle.keyring_trait.specs.declared.journal.JournalLine.{JournalLine}
-use Rattle.stream_open.specs.Asking.{Asking}
+use Rattle.keyring_trait.specs.Manager.{ManagerNow}
+use Rattle.keyring_trait.specs.Saying.{said_last}
 use Rattle.desk_core.specs.declared.errors.DeskError.{DeskError}
 use Rattle.desk_core.specs.declared.session.Session.{Session}
 use Rattle.desk_core.specs.Session.{SessionValue, Turn, answered, fed, step_answer, stepped}
@@ -62,16 +63,16 @@ pub taken_out : {X : Type 0} (b : Bool) (first then last written : Option X) →
 taken_out true first then last written e f = f
 taken_out false first then last written e f = f ∙ e
 
-pub steps_at : (manager : Asking) (live : ℕ → Option SessionValue) (id now : ℕ) (piece : List ℕ) (result : Result ℕ DeskError) (old new : BTreeMap ℕ (Box Session)) (machine next : Box Session)
+pub steps_at : (m n : ManagerNow) (live : ℕ → Option SessionValue) (id now : ℕ) (piece : List ℕ) (result : Result ℕ DeskError) (old new : BTreeMap ℕ (Box Session)) (machine next : Box Session)
     (before after : List JournalLine) → AreLive old live → Some machine ≡ get nat_cmp old id
-    → ((s : SessionValue) → StandsFor machine.value s → IsLive s → Steps manager s id now piece result next.value before after)
-    → ((q : ℕ) → get nat_cmp new q ≡ cond (is_at (nat_cmp id) q) (machine_left result next) (get nat_cmp old q)) → StepsAt manager live id now piece result new before after
-steps_at manager live id now piece result old new machine next before after alive there steps updates = by (live id) refl
+    → ((s : SessionValue) → StandsFor machine.value s → IsLive s → Steps m n s id now piece result next.value before after)
+    → ((q : ℕ) → get nat_cmp new q ≡ cond (is_at (nat_cmp id) q) (machine_left result next) (get nat_cmp old q)) → StepsAt m n live id now piece result new before after
+steps_at m n live id now piece result old new machine next before after alive there steps updates = by (live id) refl
   where
     at : (o : Option SessionValue) → live id ≡ o → StandsAt (Some machine.value) o
     at o e = subst (λ (p : Option (Box Session)). StandsAt (option_map box_value p) o) (sym there) (subst (λ (p : Option SessionValue). StandsAt (machine_at old id) p) e (alive id))
 
-    by : (o : Option SessionValue) → live id ≡ o → StepsAt manager live id now piece result new before after
+    by : (o : Option SessionValue) → live id ≡ o → StepsAt m n live id now piece result new before after
     by None e = absurd (at None e)
     by (Some s) e =
         let step = steps s (at (Some s) e).0 (at (Some s) e).1 in
@@ -82,7 +83,7 @@ steps_at manager live id now piece result old new machine next before after aliv
         record {
           heard = step.heard;
           short = step.short;
-          hears = subst (λ (o : Option SessionValue). MayHear manager o piece step.heard step.short) (sym e) step.hears;
+          hears = subst (λ (o : Option SessionValue). MayHear (said_last m n) now o piece step.heard step.short) (sym e) step.hears;
           bears = step.bears;
           journal = step.journal;
           answer = subst (λ (o : Option SessionValue). result ≡ (fed o piece step.heard step.short).answer) (sym e)

@@ -6,14 +6,16 @@ use Rattle.header_codec.specs.Header.{HeaderValue}
 use Rattle.keyring_trait.specs.declared.journal.JournalLine.{JournalLine}
 use Rattle.keyring_trait.specs.declared.journal.Kind.TheVariants.{Unseal}
 use Rattle.keyring_trait.specs.declared.served.Served.{Served}
+use Rattle.keyring_trait.specs.Manager.{ManagerNow}
+use Rattle.keyring_trait.specs.Saying.{Saying, said_last}
 use Rattle.keyring_trait.specs.Unlocking.{Unlocking}
 use Rattle.stream_open.specs.declared.errors.OpenError.{OpenError}
 use Rattle.stream_open.specs.declared.errors.OpenError.TheVariants as opens
 use Rattle.stream_open.specs.declared.session.Opener.{Opener}
 use Rattle.stream_open.specs.declared.unlocked.Unlocked.{Unlocked}
-use Rattle.stream_open.specs.Asking.{Asking, Heard, Nothing, Found, Named, Failed, IsHeard, served_in}
+use Rattle.stream_open.specs.Asking.{BearsHeard, Heard, Nothing, Found, Named, Failed, IsHeard, served_in}
 use Rattle.stream_open.specs.Session as open_session
-use Rattle.stream_open.specs.Session.{OpeningValue, asked_of, header_asked, answer_kept, judged_now, whole_in, Answers, MayRunOut, whole_context}
+use Rattle.stream_open.specs.Session.{OpeningValue, asked_header, header_asked, answer_kept, judged_now, whole_in, Answers, MayRunOut, whole_context}
 use Rattle.stream_open.specs.Stands as open_stands
 use Rattle.stream_open.proofs.Ends.{ends_exactly}
 use Rattle.stream_open.proofs.Headers.{runs_out_locked}
@@ -48,10 +50,10 @@ unheard_context v e =
     ∙ elim (judged_now v).unlocked as (λ b. (if b then whole_in (answer_kept None) else None) ≡ None) [ true ↦ refl | false ↦ refl ]
 
 -- once it is unlocked, no header is asked about
-pub unlocked_asks : (v : OpeningValue) (piece : List ℕ) (context : List KeyValue) → whole_context v ≡ Some context → asked_of v piece ≡ None
+pub unlocked_asks : (v : OpeningValue) (piece : List ℕ) (context : List KeyValue) → whole_context v ≡ Some context → asked_header v piece ≡ None
 unlocked_asks v piece context some = by v.answer refl
   where
-    by : (o : Option Unlocking) → v.answer ≡ o → asked_of v piece ≡ None
+    by : (o : Option Unlocking) → v.answer ≡ o → asked_header v piece ≡ None
     by None e = let n = unheard_context v e in absurd (cc)
     by (Some a) e =
         ap (λ (o : Option Unlocking). if v.stopped then None else header_asked o v.settings (v.taken ++ piece)) e
@@ -81,12 +83,12 @@ may_run_out v piece heard (Err opens.KeyringFault) h short = absurd (cc)
 may_run_out v piece heard (Err opens.Stopped) h short = absurd (cc)
 may_run_out v piece heard (Err opens.Memory) h short = h
 
-heard_so : (manager : Asking) (given : List KeyValue) (asked : Option HeaderValue) (r : Result ℕ OpenError) (heard : Heard) → IsHeard manager given asked (r ≡ Err opens.Memory) heard
-    → IsHeard manager given asked (is_memory r ≡ true) heard
-heard_so manager given asked r Nothing h = elim h [ inl e ↦ inl e | inr e ↦ inr (ap is_memory e) ]
-heard_so manager given asked r (Found materials) h = h
-heard_so manager given asked r (Named fault) h = h
-heard_so manager given asked r Failed h = h
+heard_so : (manager : Saying) (now : ℕ) (given : List KeyValue) (asked : Option HeaderValue) (r : Result ℕ OpenError) (heard : Heard) → IsHeard manager now given asked (r ≡ Err opens.Memory) heard
+    → IsHeard manager now given asked (is_memory r ≡ true) heard
+heard_so manager now given asked r Nothing h = elim h [ inl e ↦ inl e | inr e ↦ inr (ap is_memory e) ]
+heard_so manager now given asked r (Found materials) h = h
+heard_so manager now given asked r (Named fault) h = h
+heard_so manager now given asked r Failed h = h
 
 -- ---- what is left
 
@@ -117,22 +119,22 @@ served_then v piece Failed (Ok n) none = none
 served_then v piece Failed (Err error) none = none
 
 -- where no header is asked about, no materials are heard
-unserved : (manager : Asking) (given : List KeyValue) (asked : Option HeaderValue) (short : Type 0) (heard : Heard) → asked ≡ None → IsHeard manager given asked short heard → served_in heard ≡ None
-unserved manager given asked short Nothing none h = refl
-unserved manager given asked short (Found materials) none h = let some = h.1 in absurd (cc)
-unserved manager given asked short (Named fault) none h = refl
-unserved manager given asked short Failed none h = refl
+unserved : (manager : Saying) (now : ℕ) (given : List KeyValue) (asked : Option HeaderValue) (short : Type 0) (heard : Heard) → asked ≡ None → IsHeard manager now given asked short heard → served_in heard ≡ None
+unserved manager now given asked short Nothing none h = refl
+unserved manager now given asked short (Found materials) none h = let some = h.1 in absurd (cc)
+unserved manager now given asked short (Named fault) none h = refl
+unserved manager now given asked short Failed none h = refl
 
 -- ---- the step
 
-pub steps_of : (manager : Asking) (v : OpeningValue) (id now : ℕ) (piece : List ℕ) (result : Result ℕ DeskError) (opener : Opener) (before after : List JournalLine) → IsLive (Opening v)
-    → (step : StepsOpener manager v piece result opener) → after ≡ before ++ open_lines id now step.steps.heard → Steps manager (Opening v) id now piece result (machines.Opening opener) before after
-steps_of manager v id now piece result opener before after live step journal =
+pub steps_of : (m n : ManagerNow) (v : OpeningValue) (id now : ℕ) (piece : List ℕ) (result : Result ℕ DeskError) (opener : Opener) (before after : List JournalLine) → IsLive (Opening v)
+    → (step : StepsOpener m n now v piece result opener) → after ≡ before ++ open_lines id now step.steps.heard → Steps m n (Opening v) id now piece result (machines.Opening opener) before after
+steps_of m n v id now piece result opener before after live step journal =
     let own = own_answer v piece step.steps.heard step.own step.steps.answers in
     record {
       heard = step.steps.heard;
       short = is_memory step.own;
-      hears = (heard_so manager v.given (asked_of v piece) step.own step.steps.heard step.steps.hears, may_run_out v piece step.steps.heard step.own step.steps.answers);
+      hears = (heard_so (said_last m n) now v.given (asked_header v piece) step.own step.steps.heard step.steps.hears, may_run_out v piece step.steps.heard step.own step.steps.answers);
       bears = step.steps.bears;
       journal = journal;
       answer = step.answer ∙ ap open_answer (sym own);
@@ -142,27 +144,27 @@ steps_of manager v id now piece result opener before after live step journal =
     }
 
 -- what is heard is recorded, by how the materials were served that the opener keeps
-pub steps_locked : (manager : Asking) (v : OpeningValue) (id now : ℕ) (piece : List ℕ) (result : Result ℕ DeskError) (opener : Opener) (before after : List JournalLine) → IsLive (Opening v)
-    → v.served ≡ None → StepsOpener manager v piece result opener
-    → ((w : OpeningValue) → open_stands.Stands opener w → after ≡ before ++ lines_of id Unseal now None w.served) → Steps manager (Opening v) id now piece result (machines.Opening opener) before after
-steps_locked manager v id now piece result opener before after live none step recorded =
+pub steps_locked : (m n : ManagerNow) (v : OpeningValue) (id now : ℕ) (piece : List ℕ) (result : Result ℕ DeskError) (opener : Opener) (before after : List JournalLine) → IsLive (Opening v)
+    → v.served ≡ None → StepsOpener m n now v piece result opener
+    → ((w : OpeningValue) → open_stands.Stands opener w → after ≡ before ++ lines_of id Unseal now None w.served) → Steps m n (Opening v) id now piece result (machines.Opening opener) before after
+steps_locked m n v id now piece result opener before after live none step recorded =
     let heard = step.steps.heard in
-    steps_of manager v id now piece result opener before after live step
+    steps_of m n v id now piece result opener before after live step
     (subst (λ (o : Option Served). after ≡ before ++ lines_of id Unseal now None o) (served_then v piece heard step.own none) (recorded (open_session.stepped v piece heard step.own) step.steps.stands))
 
 -- once the header is unlocked, nothing is
-pub steps_unlocked : (manager : Asking) (v : OpeningValue) (id now : ℕ) (piece : List ℕ) (result : Result ℕ DeskError) (opener : Opener) (lines : List JournalLine) (context : List KeyValue)
-    → IsLive (Opening v) → whole_context v ≡ Some context → StepsOpener manager v piece result opener → Steps manager (Opening v) id now piece result (machines.Opening opener) lines lines
-steps_unlocked manager v id now piece result opener lines context live unlocked step =
+pub steps_unlocked : (m n : ManagerNow) (v : OpeningValue) (id now : ℕ) (piece : List ℕ) (result : Result ℕ DeskError) (opener : Opener) (lines : List JournalLine) (context : List KeyValue)
+    → IsLive (Opening v) → whole_context v ≡ Some context → StepsOpener m n now v piece result opener → Steps m n (Opening v) id now piece result (machines.Opening opener) lines lines
+steps_unlocked m n v id now piece result opener lines context live unlocked step =
     let heard = step.steps.heard in
-    let none = unserved manager v.given (asked_of v piece) (step.own ≡ Err opens.Memory) heard (unlocked_asks v piece context unlocked) step.steps.hears in
-    steps_of manager v id now piece result opener lines lines live step
+    let none = unserved (said_last m n) now v.given (asked_header v piece) (step.own ≡ Err opens.Memory) heard (unlocked_asks v piece context unlocked) step.steps.hears in
+    steps_of m n v id now piece result opener lines lines live step
     (subst (λ (o : Option Served). lines ≡ lines ++ lines_of id Unseal now None o) (sym none) (sym (append-nil lines)))
 
 -- there is no memory for the line
-pub steps_short : (manager : Asking) (v : OpeningValue) (id now : ℕ) (piece : List ℕ) (opener : Opener) (before after : List JournalLine) → IsLockedStill v → manager.bears None → after ≡ before
-    → Steps manager (Opening v) id now piece (Err errors.Memory) (machines.Opening opener) before after
-steps_short manager v id now piece opener before after still bears same = record {
+pub steps_short : (m n : ManagerNow) (v : OpeningValue) (id now : ℕ) (piece : List ℕ) (opener : Opener) (before after : List JournalLine) → IsLockedStill v → BearsHeard m n now None → after ≡ before
+    → Steps m n (Opening v) id now piece (Err errors.Memory) (machines.Opening opener) before after
+steps_short m n v id now piece opener before after still bears same = record {
   heard = Nothing;
   short = true;
   hears = (inr refl, λ short. still.runs_out);
@@ -174,10 +176,10 @@ steps_short manager v id now piece opener before after still bears same = record
 }
 
 -- a piece that isn't empty is used
-pub uses_some : (manager : Asking) (v : OpeningValue) (piece : List ℕ) (own : Result ℕ OpenError) (opener : Opener) (n : ℕ) → open_stands.Steps manager v piece own opener → own ≡ Ok n
-    → 1 ≤ length piece → 1 ≤ n
-uses_some manager v piece own opener n step is some =
-    ((ends_exactly v piece step.heard).used n (subst (λ (r : Result ℕ OpenError). Answers v piece step.heard r) is step.answers)).some some
+pub uses_some : (m n : ManagerNow) (now : ℕ) (v : OpeningValue) (piece : List ℕ) (own : Result ℕ OpenError) (opener : Opener) (used : ℕ) → open_stands.Steps m n now v piece own opener → own ≡ Ok used
+    → 1 ≤ length piece → 1 ≤ used
+uses_some m n now v piece own opener used step is some =
+    ((ends_exactly v piece step.heard).used used (subst (λ (r : Result ℕ OpenError). Answers v piece step.heard r) is step.answers)).some some
 
 pub falls_opening : (machine : Session) (opener : Opener) (result : Result ℕ DeskError) (piece : List ℕ) → machine ≡ machines.Opening opener → IfOk result (λ used. used ≤ length piece)
     → IfOk result (λ used. 1 ≤ length piece → 1 ≤ used) → IfOk result (λ used. 1 ≤ length piece → length piece - used < work_in (Some machine) (length piece))
@@ -185,6 +187,6 @@ falls_opening machine opener (Ok used) piece is within some = λ any. let least 
 falls_opening machine opener (Err error) piece is within some = tt
 
 -- the same step, of a journal that has the same lines
-pub steps_from : (manager : Asking) (s : SessionValue) (id now : ℕ) (piece : List ℕ) (result : Result ℕ DeskError) (machine : Session) (before old after : List JournalLine) → before ≡ old
-    → Steps manager s id now piece result machine before after → Steps manager s id now piece result machine old after
-steps_from manager s id now piece result machine before old after e step = subst (λ (l : List JournalLine). Steps manager s id now piece result machine l after) e step
+pub steps_from : (m n : ManagerNow) (s : SessionValue) (id now : ℕ) (piece : List ℕ) (result : Result ℕ DeskError) (machine : Session) (before old after : List JournalLine) → before ≡ old
+    → Steps m n s id now piece result machine before after → Steps m n s id now piece result machine old after
+steps_from m n s id now piece result machine before old after e step = subst (λ (l : List JournalLine). Steps m n s id now piece result machine l after) e step

@@ -6,6 +6,7 @@ use Rattle.std.specs.Map.{update}
 use Rattle.context_codec.specs.Context.{KeyValue}
 use Rattle.header_codec.specs.declared.settings.Settings.{Settings}
 use Rattle.keyring_trait.specs.declared.journal.JournalLine.{JournalLine}
+use Rattle.keyring_trait.specs.Saying.{Saying}
 use Rattle.stream_open.specs.Session as open_session
 use Rattle.desk_core.specs.declared.errors.DeskError.{DeskError}
 use Rattle.desk_core.specs.declared.errors.DeskError.TheVariants as errors
@@ -16,7 +17,7 @@ use Rattle.desk_core.specs.declared.live_sessions.Lent.TheVariants as lents
 use Rattle.desk_core.specs.SealRequest.{SealRequestValue}
 use Rattle.desk_core.specs.Session.{SessionValue, Opening, Turn, Reply, NoReply, Gives, Refuses, Fails, failed, open_opened, seal_opened}
 use Rattle.desk_core.specs.Desk.{DeskValue, after_turn, drawn, seal_lines}
-use Rattle.desk_core.specs.Calls.{Giving, IsReply, OpensOpen, OpensSeal}
+use Rattle.desk_core.specs.Calls.{IsReply, OpensOpen, OpensSeal}
 use Rattle.desk_core.specs.Stands.{StandsFor, IsLive, AreLive, Lends, Stands}
 use Rattle.desk_core.specs.Beginning.{Begins}
 use Rattle.desk_core.proofs.Live.{are_live_same}
@@ -42,12 +43,12 @@ none_next v above = above (v.last + 1) (omega arith)
 
 pub opens_open : {M : Type 0} (next : Desk M) (v : DeskValue) (settings : Settings) (given : List KeyValue) (result : Result ℕ DeskError) → NoneAbove v.live v.last
     → next.last_id ≡ v.last + 1 → next.journal.items ≡ v.journal → next.lent ≡ lents.Nothing → IfOk result (λ number. number ≡ v.last + 1) → IfErr result (λ error. error ≡ errors.Memory)
-    → OnOk result (AreLive next.sessions (update nat_eq v.live (v.last + 1) (Some (Opening (open_session.opened settings given))))) → OnErr result (AreLive next.sessions v.live)
+    → OnOk result (AreLive next.sessions (update nat_eq v.live (v.last + 1) (Some (Opening (open_session.new_session settings given))))) → OnErr result (AreLive next.sessions v.live)
     → OpensOpen v settings given result next
 opens_open next v settings given (Ok number) above last journal lent is memory alive same = record {
   short = false;
   answer = ap (λ (n : ℕ). Ok n) is;
-  stands = stands_drawn next v [] (open_opened settings given false (v.last + 1)) (Some (Opening (open_session.opened settings given))) refl refl above alive last (journal ∙ sym (append-nil v.journal)) lent;
+  stands = stands_drawn next v [] (open_opened settings given false (v.last + 1)) (Some (Opening (open_session.new_session settings given))) refl refl above alive last (journal ∙ sym (append-nil v.journal)) lent;
 }
 opens_open next v settings given (Err error) above last journal lent is memory alive same = record {
   short = true;
@@ -59,15 +60,15 @@ opens_open next v settings given (Err error) above last journal lent is memory a
 -- the same, by a number that is the next
 pub opens_open_at : {M : Type 0} (next : Desk M) (v : DeskValue) (settings : Settings) (given : List KeyValue) (result : Result ℕ DeskError) (id : ℕ) → id ≡ v.last + 1 → NoneAbove v.live v.last
     → next.last_id ≡ id → next.journal.items ≡ v.journal → next.lent ≡ lents.Nothing → IfOk result (λ number. number ≡ id) → IfErr result (λ error. error ≡ errors.Memory)
-    → OnOk result (AreLive next.sessions (update nat_eq v.live id (Some (Opening (open_session.opened settings given))))) → OnErr result (AreLive next.sessions v.live)
+    → OnOk result (AreLive next.sessions (update nat_eq v.live id (Some (Opening (open_session.new_session settings given))))) → OnErr result (AreLive next.sessions v.live)
     → OpensOpen v settings given result next
 opens_open_at next v settings given result id e above last journal lent is memory alive same =
     opens_open next v settings given result above (last ∙ e) journal lent (subst (λ (i : ℕ). IfOk result (λ number. number ≡ i)) e is) memory
-    (subst (λ (i : ℕ). OnOk result (AreLive next.sessions (update nat_eq v.live i (Some (Opening (open_session.opened settings given)))))) e alive) same
+    (subst (λ (i : ℕ). OnOk result (AreLive next.sessions (update nat_eq v.live i (Some (Opening (open_session.new_session settings given)))))) e alive) same
 
 -- ---- to seal a message
 
-pub opens_not : {M : Type 0} (manager : Giving) (next : Desk M) (v : DeskValue) (request : SealRequestValue) (now : ℕ) (random : List ℕ) (error : DeskError) (before : List JournalLine)
+pub opens_not : {M : Type 0} (manager : Saying) (next : Desk M) (v : DeskValue) (request : SealRequestValue) (now : ℕ) (random : List ℕ) (error : DeskError) (before : List JournalLine)
     → Begins manager request (v.last + 1) now random (Err error) before next.journal.items → before ≡ v.journal → NoneAbove v.live v.last → next.last_id ≡ v.last + 1 → next.lent ≡ lents.Nothing
     → AreLive next.sessions v.live → OpensSeal manager v request now random (Err error) next
 opens_not manager next v request now random error before begins same above last lent alive =
@@ -82,18 +83,18 @@ opens_not manager next v request now random error before begins same above last 
     }
 
 -- a reply with which a session begins can also be followed by want of memory
-record Shortened (manager : Giving) (request : SealRequestValue) (random : List ℕ) (reply : Reply) (id : ℕ) : Type 0 where
-  replies : IsReply manager true reply
+record Shortened (manager : Saying) (request : SealRequestValue) (now : ℕ) (random : List ℕ) (reply : Reply) (id : ℕ) : Type 0 where
+  replies : IsReply manager request now random true reply
   turn : seal_opened request random reply true id ≡ failed errors.Memory
 
-shortened : (manager : Giving) (request : SealRequestValue) (random : List ℕ) (reply : Reply) (short : Bool) (id number : ℕ) → IsReply manager short reply
-    → (seal_opened request random reply short id).answer ≡ Ok number → Shortened manager request random reply id
-shortened manager request random NoReply short id number is e = absurd (cc)
-shortened manager request random (Gives m) short id number is e = record { replies = is; turn = refl }
-shortened manager request random (Refuses refusal) short id number is e = absurd (cc)
-shortened manager request random Fails short id number is e = absurd (cc)
+shortened : (manager : Saying) (request : SealRequestValue) (now : ℕ) (random : List ℕ) (reply : Reply) (short : Bool) (id number : ℕ) → IsReply manager request now random short reply
+    → (seal_opened request random reply short id).answer ≡ Ok number → Shortened manager request now random reply id
+shortened manager request now random NoReply short id number is e = absurd (cc)
+shortened manager request now random (Gives m) short id number is e = record { replies = is; turn = refl }
+shortened manager request now random (Refuses refusal) short id number is e = absurd (cc)
+shortened manager request now random Fails short id number is e = absurd (cc)
 
-pub opens_seal : {M : Type 0} (manager : Giving) (next : Desk M) (v : DeskValue) (request : SealRequestValue) (now : ℕ) (random : List ℕ) (machine : Box Session) (result : Result ℕ DeskError)
+pub opens_seal : {M : Type 0} (manager : Saying) (next : Desk M) (v : DeskValue) (request : SealRequestValue) (now : ℕ) (random : List ℕ) (machine : Box Session) (result : Result ℕ DeskError)
     (before : List JournalLine) → Begins manager request (v.last + 1) now random (Ok machine) before next.journal.items → before ≡ v.journal → NoneAbove v.live v.last → next.last_id ≡ v.last + 1
     → next.lent ≡ lents.Nothing → IfOk result (λ number. number ≡ v.last + 1) → IfErr result (λ error. error ≡ errors.Memory)
     → ((s : SessionValue) → StandsFor machine.value s → IsLive s → OnOk result (AreLive next.sessions (update nat_eq v.live (v.last + 1) (Some s)))) → OnErr result (AreLive next.sessions v.live)
@@ -111,8 +112,8 @@ opens_seal manager next v request now random machine (Ok number) before begins s
     }
 opens_seal manager next v request now random machine (Err error) before begins same above last lent is memory alive err =
     let lines : List JournalLine = seal_lines (v.last + 1) now request begins.reply in
-    let then : Shortened manager request random begins.reply (v.last + 1) =
-    shortened manager request random begins.reply begins.short (v.last + 1) (v.last + 1) begins.replies begins.begins.1 in
+    let then : Shortened manager request now random begins.reply (v.last + 1) =
+    shortened manager request now random begins.reply begins.short (v.last + 1) (v.last + 1) begins.replies begins.begins.1 in
     record {
       reply = begins.reply;
       short = true;
@@ -122,7 +123,7 @@ opens_seal manager next v request now random machine (Err error) before begins s
           (are_live_same next.sessions v.live (v.last + 1) err (none_next v above)) last (begins.journal ∙ ap (λ (l : List JournalLine). l ++ lines) same) lent;
     }
 
-pub opens_seal_at : {M : Type 0} (manager : Giving) (next : Desk M) (v : DeskValue) (request : SealRequestValue) (now : ℕ) (random : List ℕ) (machine : Box Session) (result : Result ℕ DeskError)
+pub opens_seal_at : {M : Type 0} (manager : Saying) (next : Desk M) (v : DeskValue) (request : SealRequestValue) (now : ℕ) (random : List ℕ) (machine : Box Session) (result : Result ℕ DeskError)
     (before : List JournalLine) (id : ℕ) → id ≡ v.last + 1 → Begins manager request id now random (Ok machine) before next.journal.items → before ≡ v.journal → NoneAbove v.live v.last
     → next.last_id ≡ id → next.lent ≡ lents.Nothing → IfOk result (λ number. number ≡ id) → IfErr result (λ error. error ≡ errors.Memory)
     → ((s : SessionValue) → StandsFor machine.value s → IsLive s → OnOk result (AreLive next.sessions (update nat_eq v.live id (Some s)))) → OnErr result (AreLive next.sessions v.live)

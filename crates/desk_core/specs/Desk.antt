@@ -12,7 +12,8 @@ use Rattle.desk_core.specs.declared.errors.DeskError.{DeskError}
 use Rattle.desk_core.specs.SealRequest.{SealRequestValue}
 use Rattle.desk_core.specs.Session.{SessionValue, Turn, fed, ended, dropped, Reply, NoReply, Gives, Refuses, Fails, seal_opened, open_opened}
 
--- What a desk is worth: the sessions that are live, by their numbers; the last number that was drawn; what the manager answered so far; and what the last call gave.
+-- What a desk is worth: the sessions that are live, by their numbers; the last number that was
+-- drawn; what the manager answered so far; and what the last call gave.
 pub record DeskValue : Type 0 where
   pub live : ℕ → Option SessionValue
   pub last : ℕ
@@ -28,7 +29,8 @@ empty_desk = record { live = λ id. None; last = 0; journal = []; out = [] }
 -- the line of an answer that was served so; none, where no materials were
 abbrev pub lines_of : ℕ → Kind → ℕ → Option ℕ → Option Served → List JournalLine
 lines_of id kind now length None = []
-lines_of id kind now length (Some served) = record { session = id; kind = kind; served = served; now = now; length = length } ∷ []
+lines_of id kind now length (Some served) =
+    record { session = id; kind = kind; served = served; now = now; length = length } ∷ []
 
 -- how the materials were served that the manager gave to seal with, if it gave some
 abbrev pub served_by : Reply → Option Served
@@ -37,7 +39,8 @@ served_by (Gives m) = Some m.served
 served_by (Refuses refusal) = None
 served_by Fails = None
 
--- the line that is added where a session is opened to seal a message, and where the header of one that is opened becomes whole
+-- the line that is added where a session is opened to seal a message, and where the header of one
+-- that is opened becomes whole
 abbrev pub seal_lines : ℕ → ℕ → SealRequestValue → Reply → List JournalLine
 seal_lines id now request reply = lines_of id Seal now request.wish.declared (served_by reply)
 
@@ -46,9 +49,15 @@ open_lines id now heard = lines_of id Unseal now None (served_in heard)
 
 -- ---- what a call leaves
 
--- The desk after a call of this session, which came to this turn and added these lines. Every other session is worth what it was.
+-- The desk after a call of this session, which came to this turn and added these lines. Every other
+-- session is worth what it was.
 abbrev pub after_turn : {A : Type 0} → DeskValue → ℕ → List JournalLine → Turn A → DeskValue
-after_turn v id lines turn = record { live = update nat_eq v.live id turn.left; last = v.last; journal = v.journal ++ lines; out = turn.out }
+after_turn v id lines turn = record {
+  live = update nat_eq v.live id turn.left;
+  last = v.last;
+  journal = v.journal ++ lines;
+  out = turn.out;
+}
 
 -- the next number is drawn
 abbrev pub drawn : DeskValue → DeskValue
@@ -56,7 +65,8 @@ drawn v = record v { last = v.last + 1 }
 
 -- ---- calls in a row
 
--- A call: a session is opened, to seal or to open a message; a piece is fed; the session is ended, or dropped. With each comes what the manager said in it.
+-- A call: a session is opened, to seal or to open a message; a piece is fed; the session is ended,
+-- or dropped. With each comes what the manager said in it.
 pub data Call : Type 0 where
   OpenSeal : (request : SealRequestValue) (now : ℕ) (random : List ℕ) (reply : Reply) → Call
   OpenOpen : (settings : Settings) (given : List KeyValue) → Call
@@ -70,7 +80,8 @@ pub record Event : Type 0 where
   pub call : Call
   pub short : Bool
 
--- What a call answers: a number, which is that of the session opened or of the bytes used; or nothing more.
+-- What a call answers: a number, which is that of the session opened or of the bytes used; or
+-- nothing more.
 pub data Answer : Type 0 where
   Number : (result : Result ℕ DeskError) → Answer
   Plain : (result : Result (Unit {0}) DeskError) → Answer
@@ -88,7 +99,8 @@ plain turn = record { answer = Plain turn.answer; out = turn.out }
 
 -- what a call hands out, by what its session was worth before
 abbrev pub handed_in : ℕ → Bool → Option SessionValue → Call → Handed
-handed_in id short live (OpenSeal request now random reply) = numbered (seal_opened request random reply short id)
+handed_in id short live (OpenSeal request now random reply) =
+    numbered (seal_opened request random reply short id)
 handed_in id short live (OpenOpen settings given) = numbered (open_opened settings given short id)
 handed_in id short live (Feed now piece heard) = numbered (fed live piece heard short)
 handed_in id short live End = plain (ended live)
@@ -99,9 +111,13 @@ handed_by v e = handed_in e.session e.short (v.live e.session) e.call
 
 -- the desk after it
 abbrev pub after_call : DeskValue → ℕ → Bool → Call → DeskValue
-after_call v id short (OpenSeal request now random reply) = after_turn (drawn v) id (seal_lines id now request reply) (seal_opened request random reply short id)
-after_call v id short (OpenOpen settings given) = after_turn (drawn v) id [] (open_opened settings given short id)
-after_call v id short (Feed now piece heard) = after_turn v id (open_lines id now heard) (fed (v.live id) piece heard short)
+after_call v id short (OpenSeal request now random reply) =
+    after_turn (drawn v) id (seal_lines id now request reply)
+    (seal_opened request random reply short id)
+after_call v id short (OpenOpen settings given) =
+    after_turn (drawn v) id [] (open_opened settings given short id)
+after_call v id short (Feed now piece heard) =
+    after_turn v id (open_lines id now heard) (fed (v.live id) piece heard short)
 after_call v id short End = after_turn v id [] (ended (v.live id))
 after_call v id short DropSession = after_turn v id [] (dropped (v.live id))
 
@@ -120,4 +136,5 @@ own s events = filter (λ e. nat_eq e.session s) events
 -- what this session was handed in these calls, one after another
 unfoldable pub handed : ℕ → List Event → DeskValue → List Handed
 handed s [] v = []
-handed s (e ∷ es) v = (if nat_eq e.session s then handed_by v e ∷ [] else []) ++ handed s es (after_event v e)
+handed s (e ∷ es) v = (if nat_eq e.session s then handed_by v e ∷ [] else [])
+    ++ handed s es (after_event v e)

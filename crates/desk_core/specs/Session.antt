@@ -1,6 +1,7 @@
--- One session of a desk, and what each call makes of it: what it answers, what it gives, and what the session is worth then. Nothing but the session's own worth, and what
--- the manager said in that call, plays a part.
--- Standard: AWS Encryption SDK Specification, "Encrypt" and "Decrypt", of which each session is one.
+-- One session of a desk, and what each call makes of it: what it answers, what it gives, and what
+-- the session is worth then. Nothing but the session's own worth, and what the manager said in that
+-- call, plays a part. Standard: AWS Encryption SDK Specification, "Encrypt" and "Decrypt", of which
+-- each session is one.
 use Rattle.std.specs.Prelude.{ℕ, List, [], take, drop, Bool, Option, Some, None, Result, Ok, Err, if◌then◌else◌}
 use Rattle.esdk_fields.specs.declared.refusals.Refusal.{Refusal}
 use Rattle.context_codec.specs.Context.{KeyValue}
@@ -18,7 +19,7 @@ use Rattle.stream_open.specs.declared.errors.OpenError.{OpenError}
 use Rattle.stream_open.specs.declared.errors.OpenError.TheVariants as opens
 use Rattle.stream_open.specs.Asking.{Heard}
 use Rattle.stream_open.specs.Session as open_session
-use Rattle.stream_open.specs.Session.{OpeningValue, asked_of, whole_context}
+use Rattle.stream_open.specs.Session.{OpeningValue, asked_header, whole_context}
 use Rattle.desk_core.specs.declared.errors.DeskError.{DeskError}
 use Rattle.desk_core.specs.declared.errors.DeskError.TheVariants as errors
 use Rattle.desk_core.specs.SealRequest.{SealRequestValue}
@@ -47,7 +48,7 @@ context_of (Opening v) = whole_context v
 abbrev pub asked_by : Option SessionValue → List ℕ → Option HeaderValue
 asked_by None piece = None
 asked_by (Some (Sealing v)) piece = None
-asked_by (Some (Opening v)) piece = asked_of v piece
+asked_by (Some (Opening v)) piece = asked_header v piece
 
 -- ---- errors
 
@@ -82,7 +83,8 @@ open_answer (Err error) = Err (open_error error)
 
 -- ---- turns
 
--- What a call comes to for its session: what it answers, what it gives, and what the session is worth then, where it is live.
+-- What a call comes to for its session: what it answers, what it gives, and what the session is
+-- worth then, where it is live.
 pub record Turn (A : Type 0) : Type 0 where
   pub answer : Result A DeskError
   pub out : List ℕ
@@ -92,8 +94,10 @@ pub record Turn (A : Type 0) : Type 0 where
 abbrev pub failed : {A : Type 0} → DeskError → Turn A
 failed error = record { answer = Err error; out = []; left = None }
 
--- the session answered so, and is worth this; `left` says whether it is live where it answered no error
-abbrev pub answered : {A : Type 0} → Result A DeskError → SessionValue → Option SessionValue → Turn A
+-- the session answered so, and is worth this; `left` says whether it is live where it answered no
+-- error
+abbrev pub answered : {A : Type 0} → Result A DeskError → SessionValue → Option SessionValue
+    → Turn A
 answered (Ok value) s left = record { answer = Ok value; out = out_of s; left = left }
 answered (Err error) s left = failed error
 
@@ -101,7 +105,8 @@ answered (Err error) s left = failed error
 
 -- what an opener answers: `short` says that memory ran out
 abbrev pub opener_answer : OpeningValue → List ℕ → Heard → Bool → Result ℕ OpenError
-opener_answer v piece heard short = if short then Err opens.Memory else open_session.step_answer v piece heard
+opener_answer v piece heard short =
+    if short then Err opens.Memory else open_session.step_answer v piece heard
 
 -- what a step answers
 abbrev pub step_answer : SessionValue → List ℕ → Heard → Bool → Result ℕ DeskError
@@ -111,12 +116,16 @@ step_answer (Opening v) piece heard short = open_answer (opener_answer v piece h
 -- the session after it
 abbrev pub stepped : SessionValue → List ℕ → Heard → Bool → SessionValue
 stepped (Sealing v) piece heard short = Sealing (seal.stepped v piece)
-stepped (Opening v) piece heard short = Opening (open_session.stepped v piece heard (opener_answer v piece heard short))
+stepped (Opening v) piece heard short =
+    Opening (open_session.stepped v piece heard (opener_answer v piece heard short))
 
--- A step of the session, where there is one, in which this was heard: it stays live, unless it answers an error.
+-- A step of the session, where there is one, in which this was heard: it stays live, unless it
+-- answers an error.
 abbrev pub fed : Option SessionValue → List ℕ → Heard → Bool → Turn ℕ
 fed None piece heard short = failed errors.NotLive
-fed (Some s) piece heard short = answered (step_answer s piece heard short) (stepped s piece heard short) (Some (stepped s piece heard short))
+fed (Some s) piece heard short =
+    answered (step_answer s piece heard short) (stepped s piece heard short)
+    (Some (stepped s piece heard short))
 
 -- ---- the end
 
@@ -149,7 +158,8 @@ id_in random = take 32 random
 abbrev pub rest_in : List ℕ → List ℕ
 rest_in random = drop 32 random
 
--- What the manager says to a request for materials: nothing, where it wasn't heard for want of memory; the materials that it gives; why it refuses; or that it failed.
+-- What the manager says to a request for materials: nothing, where it wasn't heard for want of
+-- memory; the materials that it gives; why it refuses; or that it failed.
 pub data Reply : Type 0 where
   NoReply : Reply
   Gives : (materials : EncMaterialsValue) → Reply
@@ -158,18 +168,29 @@ pub data Reply : Type 0 where
 
 -- a session of this number, where no header of these materials is refused
 abbrev pub begun : SealRequestValue → List ℕ → EncMaterialsValue → ℕ → Option Refusal → Turn ℕ
-begun request random m id None = record { answer = Ok id; out = []; left = Some (Sealing (seal.opened m request.wish.declared request.size (id_in random))) }
+begun request random m id None =
+    record {
+      answer = Ok id;
+      out = [];
+      left = Some (Sealing (seal.new_session m request.wish.declared request.size (id_in random)));
+    }
 begun request random m id (Some refusal) = failed (errors.Refusal refusal)
 
 -- A message that is to be sealed: its session begins with the materials given, or there is none.
 abbrev pub seal_opened : SealRequestValue → List ℕ → Reply → Bool → ℕ → Turn ℕ
 seal_opened request random NoReply short id = failed errors.Memory
 seal_opened request random (Gives m) short id =
-    if short then failed errors.Memory else begun request random m id (start_refusal m request.max_keys (id_in random))
+    if short then failed errors.Memory
+    else begun request random m id (start_refusal m request.max_keys (id_in random))
 seal_opened request random (Refuses refusal) short id = failed (errors.Refusal refusal)
 seal_opened request random Fails short id = failed errors.KeyringFault
 
 -- A message that is to be opened.
 abbrev pub open_opened : Settings → List KeyValue → Bool → ℕ → Turn ℕ
 open_opened settings given short id =
-    if short then failed errors.Memory else record { answer = Ok id; out = []; left = Some (Opening (open_session.opened settings given)) }
+    if short then failed errors.Memory
+    else record {
+      answer = Ok id;
+      out = [];
+      left = Some (Opening (open_session.new_session settings given));
+    }

@@ -56,13 +56,16 @@ journal_of desk = desk.journal.items
 abbrev pub last_of : {M : Type 0} → Desk M → ℕ
 last_of desk = desk.last_id
 
--- What was given last: nothing, what a live session gave, or what a session gave when it was ended, which is kept.
+-- What was given last: nothing, what a live session gave, or what a session gave when it was ended,
+-- which is kept.
 abbrev pub Lends : Lent → (ℕ → Option SessionValue) → List ℕ → Type 0
 Lends lents.Nothing live out = out ≡ []
 Lends (lents.Live id) live out = (s : SessionValue) × (live id ≡ Some s) × (out ≡ out_of s)
-Lends (lents.Ended machine) live out = (s : SessionValue) × StandsFor machine.value s × (out ≡ out_of s)
+Lends (lents.Ended machine) live out =
+    (s : SessionValue) × StandsFor machine.value s × (out ≡ out_of s)
 
--- Its machines stand for the sessions that are live, none of whose numbers wasn't drawn; and its last number, its journal and what it gave last are those.
+-- Its machines stand for the sessions that are live, none of whose numbers wasn't drawn; and its
+-- last number, its journal and what it gave last are those.
 pub record Stands {M : Type 0} (desk : Desk M) (v : DeskValue) : Type 0 where
   pub sessions : AreLive desk.sessions v.live
   pub undrawn : (id : ℕ) → v.last < id → v.live id ≡ None

@@ -1,20 +1,21 @@
 //! The beginning of a session that seals a message.
 
-ghost use Rattle.std.specs.Prelude.{◌≡◌, ◌+◌, ◌*◌, ◌<◌, ◌++◌, true, List, length, vec_len, vec_capacity, Some, None, IfOk, IfErr, OnOk};
-ghost use Rattle.keyring_trait.specs.declared.journal.JournalLine.{JournalLine};
+ghost use Rattle.std.specs.Prelude.{◌≡◌, ◌+◌, ◌*◌, ◌<◌, ◌++◌, length, vec_len, vec_capacity, Some, None, IfOk, IfErr, OnOk};
 ghost use Rattle.keyring_trait.specs.declared.journal.Kind.TheVariants.{Seal};
-ghost use Rattle.keyring_trait.specs.Manager.{ManagerGoes, TellsOn};
+ghost use Rattle.keyring_trait.specs.Manager.{Went};
+ghost use Rattle.keyring_trait.specs.Saying.{said_last};
 ghost use Rattle.stream_seal.specs.Start.{start_refusal};
-ghost use Rattle.desk_core.specs.Session.{manager_error, rest_in};
+ghost use Rattle.desk_core.specs.Session.{manager_error};
 ghost use Rattle.desk_core.specs.Desk.{lines_of};
 ghost use Rattle.desk_core.specs.Stands.{StandsFor};
 ghost use Rattle.desk_core.specs.Beginning.{Begins, NotBegun, begun_value};
-ghost use Rattle.desk_core.specs.Calls.{IsWritable, giving_of};
+ghost use Rattle.desk_core.specs.Calls.{IsWritable};
 
 use crate::errors::DeskError;
 use crate::seal_request::SealRequest;
 use crate::session::{Session, boxed, sealer_failed};
 use edk_codec::are_entries;
+use esdk_fields::array_of;
 use keyring_trait::{EncMaterials, JournalLine, Kind, Manager, ManagerError};
 use std::alloc::Global;
 use stream_seal::Sealer;
@@ -30,21 +31,14 @@ pub(crate) fn begin_sealing<M: Manager>(
     now: u64,
     random: &[u8],
 ) -> Result<Box<Session>, DeskError>
-    requires { length random.now ≡ 64 + 12 * (M.meaning manager.old).wraps }
-    ensures begins { Begins
-        (giving_of (M.meaning manager.old) (M.meaning manager.new) (M.tells manager.old)
-        (M.exact manager.old) (M.gave manager.new) request.now.wish now (rest_in random.now))
+    requires { length random.now ≡ 64 + 12 * (M.state manager.old).meaning.wraps }
+    ensures begins { Begins (said_last (M.state manager.old) (M.state manager.new))
         request.now id now random.now result journal.old.items journal.new.items }
-    ensures goes { ManagerGoes (M.meaning manager.old) (M.meaning manager.new) }
-    ensures tells { TellsOn (M.tells manager.old) (M.tells manager.new) }
-    ensures same { (M.meaning manager.old).plain ≡ true
-        → TellsOn (M.tells manager.new) (M.tells manager.old) }
-    ensures exact { M.exact manager.old → M.exact manager.new }
-    ensures bears { M.bears manager.old journal.old.items → M.bears manager.new journal.new.items }
-    ensures limits { (lines : List JournalLine) → M.within manager.new lines
-        → M.within manager.old lines }
+    ensures went { Went (M.state manager.old) (M.state manager.new) }
+    ensures bears { (M.state manager.old).bears journal.old.items
+        → (M.state manager.new).bears journal.new.items }
 {
-    // Where the manager isn't asked, it stays as it is: `wraps` says so of a steady one's count.
+    // Where the manager isn't asked, it stays as it is: `wraps` says what that keeps.
     let _wraps = manager.wraps();
     match journal.try_reserve(1) {
         Ok(()) => begin_recorded(alloc, manager, journal, request, id, now, random),
@@ -62,20 +56,13 @@ fn begin_recorded<M: Manager>(
     now: u64,
     random: &[u8],
 ) -> Result<Box<Session>, DeskError>
-    requires drawn { length random.now ≡ 64 + 12 * (M.meaning manager.old).wraps }
+    requires drawn { length random.now ≡ 64 + 12 * (M.state manager.old).meaning.wraps }
     requires room { vec_len journal.old < vec_capacity journal.old }
-    ensures begins { Begins
-        (giving_of (M.meaning manager.old) (M.meaning manager.new) (M.tells manager.old)
-        (M.exact manager.old) (M.gave manager.new) request.now.wish now (rest_in random.now))
+    ensures begins { Begins (said_last (M.state manager.old) (M.state manager.new))
         request.now id now random.now result journal.old.items journal.new.items }
-    ensures goes { ManagerGoes (M.meaning manager.old) (M.meaning manager.new) }
-    ensures tells { TellsOn (M.tells manager.old) (M.tells manager.new) }
-    ensures same { (M.meaning manager.old).plain ≡ true
-        → TellsOn (M.tells manager.new) (M.tells manager.old) }
-    ensures exact { M.exact manager.old → M.exact manager.new }
-    ensures bears { M.bears manager.old journal.old.items → M.bears manager.new journal.new.items }
-    ensures limits { (lines : List JournalLine) → M.within manager.new lines
-        → M.within manager.old lines }
+    ensures went { Went (M.state manager.old) (M.state manager.new) }
+    ensures bears { (M.state manager.old).bears journal.old.items
+        → (M.state manager.new).bears journal.new.items }
 {
     let (message_id, rest) = random.split_at(32);
     match manager.for_encryption(alloc, request.wish(), now, rest) {
@@ -150,16 +137,6 @@ fn are_writable(materials: &EncMaterials)
 {
     let _length = materials.context().length();
     are_entries(materials.entries());
-}
-
-/// The bytes as an array of their number.
-fn array_of<const N: usize>(bytes: &[u8]) -> [u8; N]
-    requires { length bytes.now ≡ N }
-    ensures { result ≡ bytes.now }
-{
-    let mut array = [0; N];
-    array.copy_from_slice(bytes);
-    array
 }
 
 /// What the desk calls a manager's reason to give no materials.

@@ -2,8 +2,8 @@
 
 ghost use Rattle.std.specs.Prelude.{◌≡◌, ℕ, true, List};
 ghost use Rattle.keyring_trait.specs.Manager.{ManagerGoes};
+ghost use Rattle.keyring_trait.specs.Saying.{said_last};
 ghost use Rattle.keyring_trait.specs.Wrapping.{WrapKeyValue};
-ghost use Rattle.stream_open.specs.Asking.{asking_of};
 ghost use Rattle.desk_core.specs.Laws.{ActsAlone, FeedsMachines, FindsItsOwn, HandsItsOwn};
 
 use keyring_trait::Manager;
@@ -27,9 +27,8 @@ pub fn sessions_are_fed_as_their_machines()
 /// and given pairs say, whatever other sessions asked: the whole context, the pairs that are only
 /// authenticated, and the key that the told keys find.
 pub fn messages_are_unlocked_by_their_own<M: Manager>(before: &M, after: &M)
-    ensures { (keys : List WrapKeyValue) (now : ℕ) → M.tells before.now keys
-        → (M.meaning before.now).steady ≡ true → ManagerGoes (M.meaning before.now)
-        (M.meaning after.now)
-        → FindsItsOwn (asking_of (M.meaning before.now) (M.meaning after.now) (M.tells before.now)
-        (M.exact before.now) (M.found after.now) (M.bears before.now) (M.bears after.now) now) keys }
+    ensures { (keys : List WrapKeyValue) (now : ℕ) → (M.state before.now).tells keys
+        → (M.state before.now).meaning.steady ≡ true
+        → ManagerGoes (M.state before.now).meaning (M.state after.now).meaning
+        → FindsItsOwn (said_last (M.state before.now) (M.state after.now)) now keys }
 {}

@@ -1,16 +1,15 @@
 //! Sessions side by side over one materials manager.
 
-ghost use Rattle.std.specs.Prelude.{◌≡◌, ◌↔◌, ℕ, Option, OnOk, OnErr, nat_eq, ◌+◌, ◌-◌, ◌*◌, ◌^◌, ◌<◌, ◌≤◌, true, false, List, [], length, Some, None, IfOk, IfErr, option_map};
+ghost use Rattle.std.specs.Prelude.{◌≡◌, ◌↔◌, ℕ, Option, OnOk, OnErr, nat_eq, ◌+◌, ◌-◌, ◌*◌, ◌^◌, ◌<◌, ◌≤◌, false, [], length, Some, None, IfOk, IfErr, option_map};
 ghost use Rattle.std.specs.Map.{update};
 ghost use Rattle.std.specs.Option.{option_copied};
-ghost use Rattle.keyring_trait.specs.declared.journal.JournalLine.{JournalLine};
-ghost use Rattle.keyring_trait.specs.Manager.{ManagerGoes, TellsOn};
-ghost use Rattle.stream_open.specs.Asking.{asking_of};
+ghost use Rattle.keyring_trait.specs.Manager.{Went};
+ghost use Rattle.keyring_trait.specs.Saying.{said_last};
 ghost use Rattle.desk_core.specs.declared.errors.DeskError.TheVariants.{NotLive, Memory};
-ghost use Rattle.desk_core.specs.Session.{SessionValue, header_of, context_of, asked_by, rest_in, ended, dropped, finish_answer, finished};
+ghost use Rattle.desk_core.specs.Session.{SessionValue, header_of, context_of, asked_by, ended, dropped, finish_answer, finished};
 ghost use Rattle.desk_core.specs.Desk.{DeskValue, empty_desk, after_call, End, DropSession};
 ghost use Rattle.desk_core.specs.Stands.{Stands, StandsFor, IsLive, AreLive, manager_of, journal_of, last_of, work_at};
-ghost use Rattle.desk_core.specs.Calls.{giving_of, OpensSeal, OpensOpen, Feeds};
+ghost use Rattle.desk_core.specs.Calls.{OpensSeal, OpensOpen, Feeds};
 
 use crate::beginning::begin_sealing;
 use crate::errors::DeskError;
@@ -56,7 +55,7 @@ impl<M: Manager> Desk<M> {
     pub fn new(alloc: Global, manager: M) -> Desk<M>
         ensures stands { Stands result empty_desk }
         ensures manager { manager_of result ≡ manager }
-        ensures bears { M.bears (manager_of result) (journal_of result) }
+        ensures bears { (M.state (manager_of result)).bears (journal_of result) }
     {
         // Every manager bears the empty journal: `wraps` says so.
         let _wraps = manager.wraps();
@@ -80,10 +79,9 @@ impl<M: Manager> Desk<M> {
     /// How many random bytes `open_seal` takes: 32 of message id, 32 of data key, and 12 of IV for
     /// each of the manager's wraps.
     pub fn draws(&self) -> u64
-        ensures draws { result ≡ 64 + 12 * (M.meaning (manager_of self.now)).wraps }
+        ensures draws { result ≡ 64 + 12 * (M.state (manager_of self.now)).meaning.wraps }
         ensures most { result ≤ 832 }
-        ensures goes { ManagerGoes (M.meaning (manager_of self.now))
-            (M.meaning (manager_of self.now)) }
+        ensures went { Went (M.state (manager_of self.now)) (M.state (manager_of self.now)) }
     {
         64 + 12 * u64::from(self.manager.wraps())
     }
@@ -108,25 +106,16 @@ impl<M: Manager> Desk<M> {
         now: u64,
         random: &[u8],
     ) -> Result<u64, DeskError>
-        requires drawn { length random.now ≡ 64 + 12 * (M.meaning (manager_of self.old)).wraps }
+        requires drawn { length random.now ≡
+            64 + 12 * (M.state (manager_of self.old)).meaning.wraps }
         requires room { last_of self.old < 2 ^ 64 - 1 }
         ensures opens { (v : DeskValue) → Stands self.old v → OpensSeal
-            (giving_of (M.meaning (manager_of self.old)) (M.meaning (manager_of self.new))
-            (M.tells (manager_of self.old)) (M.exact (manager_of self.old))
-            (M.gave (manager_of self.new)) request.now.wish now
-            (rest_in random.now))
+            (said_last (M.state (manager_of self.old)) (M.state (manager_of self.new)))
             v request.now now random.now result self.new }
         ensures last { last_of self.new ≡ last_of self.old + 1 }
-        ensures goes { ManagerGoes (M.meaning (manager_of self.old))
-            (M.meaning (manager_of self.new)) }
-        ensures tells { TellsOn (M.tells (manager_of self.old)) (M.tells (manager_of self.new)) }
-        ensures same { (M.meaning (manager_of self.old)).plain ≡ true
-            → TellsOn (M.tells (manager_of self.new)) (M.tells (manager_of self.old)) }
-        ensures exact { M.exact (manager_of self.old) → M.exact (manager_of self.new) }
-        ensures bears { M.bears (manager_of self.old) (journal_of self.old)
-            → M.bears (manager_of self.new) (journal_of self.new) }
-        ensures limits { (lines : List JournalLine) → M.within (manager_of self.new) lines
-            → M.within (manager_of self.old) lines }
+        ensures went { Went (M.state (manager_of self.old)) (M.state (manager_of self.new)) }
+        ensures bears { (M.state (manager_of self.old)).bears (journal_of self.old)
+            → (M.state (manager_of self.new)).bears (journal_of self.new) }
     {
         self.lent = Lent::Nothing;
         self.last_id += 1;
@@ -209,10 +198,7 @@ impl<M: Manager> Desk<M> {
         piece: &[u8],
     ) -> Result<usize, DeskError>
         ensures feeds { (v : DeskValue) → Stands self.old v → Feeds
-            (asking_of (M.meaning (manager_of self.old)) (M.meaning (manager_of self.new))
-            (M.tells (manager_of self.old)) (M.exact (manager_of self.old))
-            (M.found (manager_of self.new))
-            (M.bears (manager_of self.old)) (M.bears (manager_of self.new)) now)
+            (M.state (manager_of self.old)) (M.state (manager_of self.new))
             v id now piece.now result self.new }
         ensures not_live { (v : DeskValue) → Stands self.old v → (result ≡ Err NotLive)
             ↔ (v.live id ≡ None) }
@@ -222,17 +208,10 @@ impl<M: Manager> Desk<M> {
             → IfOk result (λ used. 1 ≤ length piece.now
             → work_at self.new id (length piece.now - used) < work_at self.old id
             (length piece.now)) }
-        ensures goes { ManagerGoes (M.meaning (manager_of self.old))
-            (M.meaning (manager_of self.new)) }
-        ensures tells { TellsOn (M.tells (manager_of self.old)) (M.tells (manager_of self.new)) }
-        ensures same { (M.meaning (manager_of self.old)).plain ≡ true
-            → TellsOn (M.tells (manager_of self.new)) (M.tells (manager_of self.old)) }
-        ensures exact { M.exact (manager_of self.old) → M.exact (manager_of self.new) }
+        ensures went { Went (M.state (manager_of self.old)) (M.state (manager_of self.new)) }
         ensures bears { (v : DeskValue) → Stands self.old v
-            → M.bears (manager_of self.old) (journal_of self.old)
-            → M.bears (manager_of self.new) (journal_of self.new) }
-        ensures limits { (lines : List JournalLine) → M.within (manager_of self.new) lines
-            → M.within (manager_of self.old) lines }
+            → (M.state (manager_of self.old)).bears (journal_of self.old)
+            → (M.state (manager_of self.new)).bears (journal_of self.new) }
         ensures unasked { (v : DeskValue) → Stands self.old v
             → asked_by (v.live id) piece.now ≡ None → manager_of self.new ≡ manager_of self.old }
     {
@@ -342,8 +321,8 @@ impl<M: Manager> Desk<M> {
     pub fn journal(&self) -> &[JournalLine]
         ensures lines { (v : DeskValue) → Stands self.now v → result.now ≡ v.journal }
         ensures journal { result.now ≡ journal_of self.now }
-        ensures within { M.bears (manager_of self.now) (journal_of self.now)
-            → M.within (manager_of self.now) result.now }
+        ensures within { (M.state (manager_of self.now)).bears (journal_of self.now)
+            → (M.state (manager_of self.now)).within result.now }
     {
         // What a manager bears is within its limits: `wraps` says so.
         let _wraps = self.manager.wraps();

@@ -1,11 +1,9 @@
 //! A step of one session, which is recorded where the manager answered in it.
 
-ghost use Rattle.std.specs.Prelude.{◌≡◌, ℕ, ◌++◌, ◌-◌, ◌<◌, ◌≤◌, true, List, length, vec_len, vec_capacity, Option, Some, None, IfOk};
-ghost use Rattle.keyring_trait.specs.declared.journal.JournalLine.{JournalLine};
+ghost use Rattle.std.specs.Prelude.{◌≡◌, ℕ, ◌++◌, ◌-◌, ◌<◌, ◌≤◌, length, vec_len, vec_capacity, Option, Some, None, IfOk};
 ghost use Rattle.keyring_trait.specs.declared.journal.Kind.TheVariants.{Unseal};
-ghost use Rattle.keyring_trait.specs.Manager.{ManagerGoes, TellsOn};
-ghost use Rattle.stream_open.specs.Asking.{asking_of};
-ghost use Rattle.stream_open.specs.Session.{OpeningValue, asked_of};
+ghost use Rattle.keyring_trait.specs.Manager.{Went};
+ghost use Rattle.stream_open.specs.Session.{OpeningValue, asked_header};
 ghost use Rattle.stream_open.specs.Stands.{Stands};
 ghost use Rattle.desk_core.specs.Session.{SessionValue, Opening, asked_by};
 ghost use Rattle.desk_core.specs.Desk.{lines_of};
@@ -30,27 +28,20 @@ pub(crate) fn step_at<M: Manager>(
     now: u64,
     piece: &[u8],
 ) -> Result<usize, DeskError>
-    ensures steps { (live : ℕ → Option SessionValue) → AreLive sessions.old live → StepsAt
-        (asking_of (M.meaning manager.old) (M.meaning manager.new) (M.tells manager.old)
-        (M.exact manager.old) (M.found manager.new) (M.bears manager.old) (M.bears manager.new) now)
-        live id now piece.now result sessions.new journal.old.items journal.new.items }
+    ensures steps { (live : ℕ → Option SessionValue) → AreLive sessions.old live
+        → StepsAt (M.state manager.old) (M.state manager.new) live id now piece.now result
+        sessions.new journal.old.items journal.new.items }
     ensures within { (live : ℕ → Option SessionValue) → AreLive sessions.old live
         → IfOk result (λ used. used ≤ length piece.now) }
     ensures falls { (live : ℕ → Option SessionValue) → AreLive sessions.old live
         → IfOk result (λ used. 1 ≤ length piece.now
         → work_in (machine_at sessions.new id) (length piece.now - used) < work_in
         (machine_at sessions.old id) (length piece.now)) }
-    ensures goes { ManagerGoes (M.meaning manager.old) (M.meaning manager.new) }
-    ensures tells { TellsOn (M.tells manager.old) (M.tells manager.new) }
-    ensures same { (M.meaning manager.old).plain ≡ true
-        → TellsOn (M.tells manager.new) (M.tells manager.old) }
-    ensures exact { M.exact manager.old → M.exact manager.new }
-    ensures limits { (lines : List JournalLine) → M.within manager.new lines
-        → M.within manager.old lines }
+    ensures went { Went (M.state manager.old) (M.state manager.new) }
     ensures unasked { (live : ℕ → Option SessionValue) → AreLive sessions.old live
         → asked_by (live id) piece.now ≡ None → manager.new ≡ manager.old }
 {
-    // Where the manager isn't asked, it stays as it is: `wraps` says so of a steady one's count.
+    // Where the manager isn't asked, it stays as it is: `wraps` says what that keeps.
     let _wraps = manager.wraps();
     let answer = match sessions.get_mut(&id) {
         Some(session) => step(alloc, session, manager, journal, id, now, piece),
@@ -76,24 +67,17 @@ fn step<M: Manager>(
     now: u64,
     piece: &[u8],
 ) -> Result<usize, DeskError>
-    requires { ManagerGoes (M.meaning manager.old) (M.meaning manager.old) }
-    ensures steps { (s : SessionValue) → StandsFor session.old s → IsLive s → Steps
-        (asking_of (M.meaning manager.old) (M.meaning manager.new) (M.tells manager.old)
-        (M.exact manager.old) (M.found manager.new) (M.bears manager.old) (M.bears manager.new) now)
-        s id now piece.now result session.new journal.old.items journal.new.items }
+    requires { Went (M.state manager.old) (M.state manager.old) }
+    ensures steps { (s : SessionValue) → StandsFor session.old s → IsLive s
+        → Steps (M.state manager.old) (M.state manager.new) s id now piece.now result session.new
+        journal.old.items journal.new.items }
     ensures within { (s : SessionValue) → StandsFor session.old s
         → IfOk result (λ used. used ≤ length piece.now) }
     ensures falls { (s : SessionValue) → StandsFor session.old s
         → IfOk result (λ used. 1 ≤ length piece.now
         → work_in (Some session.new) (length piece.now - used) < work_in (Some session.old)
         (length piece.now)) }
-    ensures goes { ManagerGoes (M.meaning manager.old) (M.meaning manager.new) }
-    ensures tells { TellsOn (M.tells manager.old) (M.tells manager.new) }
-    ensures same { (M.meaning manager.old).plain ≡ true
-        → TellsOn (M.tells manager.new) (M.tells manager.old) }
-    ensures exact { M.exact manager.old → M.exact manager.new }
-    ensures limits { (lines : List JournalLine) → M.within manager.new lines
-        → M.within manager.old lines }
+    ensures went { Went (M.state manager.old) (M.state manager.new) }
     ensures unasked { (s : SessionValue) → StandsFor session.old s
         → asked_by (Some s) piece.now ≡ None → manager.new ≡ manager.old }
 {
@@ -117,24 +101,16 @@ fn step_opener<M: Manager>(
     now: u64,
     piece: &[u8],
 ) -> Result<usize, DeskError>
-    requires { ManagerGoes (M.meaning manager.old) (M.meaning manager.old) }
-    ensures steps { (v : OpeningValue) → Stands opener.old v → IsLive (Opening v) → Steps
-        (asking_of (M.meaning manager.old) (M.meaning manager.new) (M.tells manager.old)
-        (M.exact manager.old) (M.found manager.new) (M.bears manager.old) (M.bears manager.new) now)
-        (Opening v) id now piece.now result (Session.Opening opener.new) journal.old.items
-        journal.new.items }
+    requires { Went (M.state manager.old) (M.state manager.old) }
+    ensures steps { (v : OpeningValue) → Stands opener.old v → IsLive (Opening v)
+        → Steps (M.state manager.old) (M.state manager.new) (Opening v) id now piece.now result
+        (Session.Opening opener.new) journal.old.items journal.new.items }
     ensures within { (v : OpeningValue) → Stands opener.old v
         → IfOk result (λ used. used ≤ length piece.now) }
     ensures some { (v : OpeningValue) → Stands opener.old v
         → IfOk result (λ used. 1 ≤ length piece.now → 1 ≤ used) }
-    ensures goes { ManagerGoes (M.meaning manager.old) (M.meaning manager.new) }
-    ensures tells { TellsOn (M.tells manager.old) (M.tells manager.new) }
-    ensures same { (M.meaning manager.old).plain ≡ true
-        → TellsOn (M.tells manager.new) (M.tells manager.old) }
-    ensures exact { M.exact manager.old → M.exact manager.new }
-    ensures limits { (lines : List JournalLine) → M.within manager.new lines
-        → M.within manager.old lines }
-    ensures unasked { (v : OpeningValue) → Stands opener.old v → asked_of v piece.now ≡ None
+    ensures went { Went (M.state manager.old) (M.state manager.new) }
+    ensures unasked { (v : OpeningValue) → Stands opener.old v → asked_header v piece.now ≡ None
         → manager.new ≡ manager.old }
 {
     match opener.context() {
@@ -154,23 +130,16 @@ fn step_unrecorded<M: Manager>(
     now: u64,
     piece: &[u8],
 ) -> Result<usize, DeskError>
-    requires { ManagerGoes (M.meaning manager.old) (M.meaning manager.old) }
-    ensures steps { (v : OpeningValue) → Stands opener.old v → StepsOpener
-        (asking_of (M.meaning manager.old) (M.meaning manager.new) (M.tells manager.old)
-        (M.exact manager.old) (M.found manager.new) (M.bears manager.old) (M.bears manager.new) now)
-        v piece.now result opener.new }
+    requires { Went (M.state manager.old) (M.state manager.old) }
+    ensures steps { (v : OpeningValue) → Stands opener.old v
+        → StepsOpener (M.state manager.old) (M.state manager.new) now v piece.now result
+        opener.new }
     ensures within { (v : OpeningValue) → Stands opener.old v
         → IfOk result (λ used. used ≤ length piece.now) }
     ensures some { (v : OpeningValue) → Stands opener.old v
         → IfOk result (λ used. 1 ≤ length piece.now → 1 ≤ used) }
-    ensures goes { ManagerGoes (M.meaning manager.old) (M.meaning manager.new) }
-    ensures tells { TellsOn (M.tells manager.old) (M.tells manager.new) }
-    ensures same { (M.meaning manager.old).plain ≡ true
-        → TellsOn (M.tells manager.new) (M.tells manager.old) }
-    ensures exact { M.exact manager.old → M.exact manager.new }
-    ensures limits { (lines : List JournalLine) → M.within manager.new lines
-        → M.within manager.old lines }
-    ensures unasked { (v : OpeningValue) → Stands opener.old v → asked_of v piece.now ≡ None
+    ensures went { Went (M.state manager.old) (M.state manager.new) }
+    ensures unasked { (v : OpeningValue) → Stands opener.old v → asked_header v piece.now ≡ None
         → manager.new ≡ manager.old }
 {
     match opener.step(alloc, manager, now, piece) {
@@ -190,26 +159,17 @@ fn step_locked<M: Manager>(
     now: u64,
     piece: &[u8],
 ) -> Result<usize, DeskError>
-    requires manager { ManagerGoes (M.meaning manager.old) (M.meaning manager.old) }
+    requires manager { Went (M.state manager.old) (M.state manager.old) }
     requires room { vec_len journal.old < vec_capacity journal.old }
     ensures steps { (v : OpeningValue) → Stands opener.old v → IsLive (Opening v) → v.served ≡ None
-        → Steps
-        (asking_of (M.meaning manager.old) (M.meaning manager.new) (M.tells manager.old)
-        (M.exact manager.old) (M.found manager.new) (M.bears manager.old) (M.bears manager.new) now)
-        (Opening v) id now piece.now result (Session.Opening opener.new) journal.old.items
-        journal.new.items }
+        → Steps (M.state manager.old) (M.state manager.new) (Opening v) id now piece.now result
+        (Session.Opening opener.new) journal.old.items journal.new.items }
     ensures within { (v : OpeningValue) → Stands opener.old v
         → IfOk result (λ used. used ≤ length piece.now) }
     ensures some { (v : OpeningValue) → Stands opener.old v
         → IfOk result (λ used. 1 ≤ length piece.now → 1 ≤ used) }
-    ensures goes { ManagerGoes (M.meaning manager.old) (M.meaning manager.new) }
-    ensures tells { TellsOn (M.tells manager.old) (M.tells manager.new) }
-    ensures same { (M.meaning manager.old).plain ≡ true
-        → TellsOn (M.tells manager.new) (M.tells manager.old) }
-    ensures exact { M.exact manager.old → M.exact manager.new }
-    ensures limits { (lines : List JournalLine) → M.within manager.new lines
-        → M.within manager.old lines }
-    ensures unasked { (v : OpeningValue) → Stands opener.old v → asked_of v piece.now ≡ None
+    ensures went { Went (M.state manager.old) (M.state manager.new) }
+    ensures unasked { (v : OpeningValue) → Stands opener.old v → asked_header v piece.now ≡ None
         → manager.new ≡ manager.old }
 {
     let answer = step_unrecorded(alloc, opener, manager, now, piece);

@@ -1,6 +1,6 @@
 -- A batch none of whose jobs had a turn yet.
-use Rattle.std.proofs.Common.{◌≡◌, ◌≢◌, ◌<◌, ◌≤◌, ◌+◌, ℕ, zero, suc, true, List, [], ◌∷◌, ◌++◌, length, map, get_or, replicate, refl, sym, ap, subst, ◌∙◌, inl, arith, append-nil}
-use Rattle.std.specs.Prelude.{All, Option, Some, None, zip, filter_map, sum_by}
+use Rattle.std.proofs.Common.{◌≡◌, ◌≤◌, ◌+◌, ℕ, zero, suc, List, [], ◌∷◌, length, get_or, replicate, refl, sym, ap, subst, ◌∙◌, inl, arith, append-nil}
+use Rattle.std.specs.Prelude.{All, Option, Some, zip, filter_map}
 use Rattle.std.specs.List.{concat}
 use Rattle.std.specs.List.Sorted.{IsPermutation}
 use Rattle.std.specs.Io.KnownBytes.{Consumes}
@@ -18,11 +18,10 @@ use Rattle.desk_core.specs.Desk.{DeskValue}
 use Rattle.job_file.specs.declared.job.Job.{Job}
 use Rattle.esdk_batch.specs.declared.progress.Progress.{Progress}
 use Rattle.esdk_batch.specs.declared.progress.Progress.TheVariants as stages
-use Rattle.esdk_batch.specs.Batch.{SealsFirst, in_line}
-use Rattle.esdk_batch.specs.Managing.{Managing}
+use Rattle.keyring_trait.specs.Saying.{Saying}
 use Rattle.esdk_batch.specs.Underway.{HasSession, IsAt}
 use Rattle.esdk_batch.specs.Turns.{HasKind, Knows, answered_so_far, waits}
-use Rattle.esdk_batch.specs.Rounds.{AreAt, Beginning, HasOwn, HaveDrawn, HaveSealed, HaveSessions, Stand, all_waits}
+use Rattle.esdk_batch.specs.Rounds.{AreAt, Beginning, HasOwn, HaveSessions, Stand, all_waits}
 use Rattle.esdk_batch.proofs.Beside.{rest_waits}
 
 -- ---- lists of jobs that wait
@@ -62,7 +61,7 @@ sessions_wait jobs progress live wait = record {
 begun_at : Option Files → EntropyState → DeskValue → Beginning
 begun_at files entropy v = record { live = v.live; files = files; entropy = entropy; journal = v.journal; last = v.last }
 
-all_at : (manager : Managing) (jobs : List Job) (progress : List Progress) (now : Option Files) (live : ℕ → Option SessionValue) → AllWait progress
+all_at : (manager : Saying) (jobs : List Job) (progress : List Progress) (now : Option Files) (live : ℕ → Option SessionValue) → AllWait progress
     → (files left : Files) → now ≡ Some files → now ≡ Some left → AreAt manager jobs files left (replicate (length progress) []) live progress
 all_at manager jobs progress now live wait files left was is = λ k job drawn one below.
     let to = (get_or jobs k job).to in
@@ -70,7 +69,7 @@ all_at manager jobs progress now live wait files left was is = λ k job drawn on
     subst (λ one. IsAt manager (get_or jobs k job) files left (get_or (replicate (length progress) []) k drawn) live one) (sym (wait k one below))
     (get_or-replicate (length progress) k [] drawn below, same)
 
-pub stand_begins : (manager : Managing) (jobs : List Job) (width : ℕ) (files : Option Files) (entropy : EntropyState) (v : DeskValue) (progress : List Progress) → AllWait progress
+pub stand_begins : (manager : Saying) (jobs : List Job) (width : ℕ) (files : Option Files) (entropy : EntropyState) (v : DeskValue) (progress : List Progress) → AllWait progress
     → Stand manager jobs width (record { live = v.live; files = files; entropy = entropy; journal = v.journal; last = v.last }) files entropy v progress
 stand_begins manager jobs width files entropy v progress wait = record {
   sessions = sessions_wait jobs progress v.live wait;

@@ -1,32 +1,30 @@
 -- A batch all of whose jobs ended.
-use Rattle.std.proofs.Common.{◌≡◌, ◌<◌, ◌≤◌, ◌+◌, ℕ, zero, suc, List, [], ◌∷◌, ◌++◌, length, map, get_or, refl, sym, ap, subst, ◌∙◌, arith}
-use Rattle.std.specs.Prelude.{Option, Some, None, zip, filter_map, option_map, Result, Ok, Err, OnOk}
-use Rattle.std.specs.List.{concat, cons_option}
+use Rattle.std.proofs.Common.{◌≡◌, ◌<◌, ℕ, zero, suc, List, [], ◌∷◌, ◌++◌, length, map, get_or, refl, sym, ap, subst, ◌∙◌, arith}
+use Rattle.std.specs.Prelude.{Option, zip, filter_map, option_map, Result, Ok, Err, OnOk}
+use Rattle.std.specs.List.{cons_option}
 use Rattle.std.specs.List.Sorted.{IsPermutation}
 use Rattle.std.proofs.lemmas.List.{length-map}
-use Rattle.esdk_fields.specs.Counts.{Stayed}
 use Rattle.esdk_base.specs.Shelf.{Files}
 use Rattle.esdk_base.specs.Streams.{EntropyState, ShelfState}
 use Rattle.keyring_trait.specs.declared.journal.JournalLine.{JournalLine}
 use Rattle.keyring_trait.specs.declared.journal.Kind.{Kind}
-use Rattle.desk_core.specs.Session.{SessionValue}
 use Rattle.desk_core.specs.Desk.{DeskValue}
 use Rattle.job_file.specs.declared.job.Job.{Job}
 use Rattle.job_file.specs.JobFile.{JobFile}
 use Rattle.batch_report.specs.declared.job_lines.JobLine.{JobLine}
 use Rattle.esdk_batch.specs.declared.progress.Progress.{Progress}
 use Rattle.esdk_batch.specs.declared.progress.Progress.TheVariants as stages
-use Rattle.esdk_batch.specs.Batch.{AllCome, Answered, ComesTo, RunsBatch, WorksSo, in_line, in_report, kind_of, length_of, seen_of}
+use Rattle.esdk_batch.specs.Batch.{AllCome, Answered, ComesTo, RunsBatch, in_line, in_report, kind_of, length_of}
 use Rattle.esdk_batch.specs.Failures.{CountsFailures, Tally, tally_of}
-use Rattle.esdk_batch.specs.Managing.{Managing}
+use Rattle.keyring_trait.specs.Saying.{Saying}
 use Rattle.esdk_batch.specs.Underway.{IsAt}
 use Rattle.esdk_batch.specs.Turns.{HasKind, answered_so_far}
-use Rattle.esdk_batch.specs.Rounds.{AreAt, Beginning, Stand}
+use Rattle.esdk_batch.specs.Rounds.{Beginning, Stand}
 
 -- ---- each job
 
 -- all jobs, by what is so of each
-all_come : (manager : Managing) (before after : Option Files) (jobs : List Job) (draws : List (List ℕ)) (lines : List JobLine) → length draws ≡ length lines → length lines ≡ length jobs
+all_come : (manager : Saying) (before after : Option Files) (jobs : List Job) (draws : List (List ℕ)) (lines : List JobLine) → length draws ≡ length lines → length lines ≡ length jobs
     → ((k : ℕ) (job : Job) (drawn : List ℕ) (line : JobLine) → k < length lines → ComesTo manager (get_or jobs k job) before after (get_or draws k drawn) (get_or lines k line))
     → AllCome manager before after jobs draws lines
 all_come manager before after [] [] [] count each come = tt
@@ -46,7 +44,7 @@ ended_at [] k line = refl
 ended_at (l ∷ lines) zero line = refl
 ended_at (l ∷ lines) (suc k) line = ended_at lines k line
 
-comes_at : (manager : Managing) (jobs : List Job) (width : ℕ) (began : Beginning) (now : Option Files) (spent : EntropyState) (w : DeskValue) (lines : List JobLine)
+comes_at : (manager : Saying) (jobs : List Job) (width : ℕ) (began : Beginning) (now : Option Files) (spent : EntropyState) (w : DeskValue) (lines : List JobLine)
     → (s : Stand manager jobs width began now spent w (map stages.Ended lines))
     → (k : ℕ) (job : Job) (drawn : List ℕ) (line : JobLine) → k < length lines → ComesTo manager (get_or jobs k job) began.files now (get_or s.draws k drawn) (get_or lines k line)
 comes_at manager jobs width began now spent w lines s k job drawn line below =
@@ -73,7 +71,7 @@ same_answers (job ∷ jobs) (line ∷ lines) kinds =
 
 -- ---- the batch
 
-pub batch_ends : (manager : Managing) (file : JobFile) (v w : DeskValue) (before after : ShelfState) (entropy spent : EntropyState) (lines_before lines_after : List JournalLine) (lines : List JobLine)
+pub batch_ends : (manager : Saying) (file : JobFile) (v w : DeskValue) (before after : ShelfState) (entropy spent : EntropyState) (lines_before lines_after : List JournalLine) (lines : List JobLine)
     → length lines ≡ length file.jobs → lines_before ≡ v.journal → lines_after ≡ w.journal
     → Stand manager file.jobs file.width (record { live = v.live; files = before.files; entropy = entropy; journal = v.journal; last = v.last }) after.files spent w (map stages.Ended lines)
     → RunsBatch manager file v.last before after entropy spent lines_before lines_after lines
@@ -92,7 +90,7 @@ batch_ends manager file v w before after entropy spent lines_before lines_after 
     }
 
 -- the same of the jobs and the progress that a call was handed
-pub batch_ends_at : (manager : Managing) (file : JobFile) (v w : DeskValue) (before after : ShelfState) (entropy spent : EntropyState) (lines_before lines_after : List JournalLine) (lines : List JobLine)
+pub batch_ends_at : (manager : Saying) (file : JobFile) (v w : DeskValue) (before after : ShelfState) (entropy spent : EntropyState) (lines_before lines_after : List JournalLine) (lines : List JobLine)
     (jobs : List Job) (width : ℕ) (progress : List Progress) → jobs ≡ file.jobs → width ≡ file.width → progress ≡ map stages.Ended lines → length progress ≡ length jobs
     → lines_before ≡ v.journal → lines_after ≡ w.journal
     → Stand manager jobs width (record { live = v.live; files = before.files; entropy = entropy; journal = v.journal; last = v.last }) after.files spent w progress
@@ -108,7 +106,7 @@ batch_ends_at manager file v w before after entropy spent lines_before lines_aft
 -- ---- as the code says it
 
 -- the shelf was only told what is read
-pub begun_as : (manager : Managing) (file : JobFile) (last : ℕ) (before mid after : ShelfState) (entropy spent : EntropyState) (lines_before lines_after : List JournalLine) (lines : List JobLine) → mid ≡ before
+pub begun_as : (manager : Saying) (file : JobFile) (last : ℕ) (before mid after : ShelfState) (entropy spent : EntropyState) (lines_before lines_after : List JournalLine) (lines : List JobLine) → mid ≡ before
     → RunsBatch manager file last mid after entropy spent lines_before lines_after lines → RunsBatch manager file last before after entropy spent lines_before lines_after lines
 begun_as manager file last before mid after entropy spent lines_before lines_after lines same runs =
     subst (λ (s : ShelfState). RunsBatch manager file last s after entropy spent lines_before lines_after lines) same runs

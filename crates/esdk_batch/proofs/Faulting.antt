@@ -9,20 +9,19 @@ use Rattle.context_codec.specs.Context.{KeyValue}
 use Rattle.header_codec.specs.Header.{HeaderValue}
 use Rattle.header_codec.specs.declared.settings.Settings.{Settings}
 use Rattle.keyring_trait.specs.declared.manager_errors.ManagerError.TheVariants as managers
-use Rattle.keyring_trait.specs.Manager.{ManagerMeaning}
-use Rattle.keyring_trait.specs.Materials.{DecMaterialsValue, EncMaterialsValue}
-use Rattle.keyring_trait.specs.Requests.{DecRequestValue, EncRequestValue}
-use Rattle.keyring_trait.specs.Wrapping.{WrapKeyValue}
-use Rattle.keyring_trait.specs.declared.journal.JournalLine.{JournalLine}
+use Rattle.keyring_trait.specs.Manager.{ManagerNow}
+use Rattle.keyring_trait.specs.Materials.{EncMaterialsValue}
+use Rattle.keyring_trait.specs.Requests.{DecRequestValue}
+use Rattle.keyring_trait.specs.Saying.{Saying, said_last}
 use Rattle.stream_seal.specs.Session as seal
 use Rattle.stream_seal.specs.Start.{start_refusal}
-use Rattle.stream_open.specs.Asking.{Asking, Failed, Found, Heard, IsHeard, Named, Nothing, asking_of}
-use Rattle.stream_open.specs.Session.{asked_of}
+use Rattle.stream_open.specs.Asking.{Failed, Found, Heard, IsHeard, Named, Nothing}
+use Rattle.stream_open.specs.Session.{asked_header}
 use Rattle.desk_core.proofs.Fed.{feeds_machines}
-use Rattle.desk_core.specs.Calls.{Feeds, Giving, IsReply, MayHear, OpensSeal, giving_of}
+use Rattle.desk_core.specs.Calls.{Feeds, IsReply, MayHear, OpensSeal}
 use Rattle.desk_core.specs.Desk.{DeskValue}
 use Rattle.desk_core.specs.SealRequest.{SealRequestValue}
-use Rattle.desk_core.specs.Session.{Fails, Gives, NoReply, Opening, Refuses, Reply, Sealing, SessionValue, begun, fed, finish_answer, id_in, open_opened, rest_in, seal_answer, seal_opened}
+use Rattle.desk_core.specs.Session.{Fails, Gives, NoReply, Opening, Refuses, Reply, Sealing, SessionValue, begun, fed, finish_answer, id_in, open_opened, seal_answer, seal_opened}
 use Rattle.desk_core.specs.declared.errors.DeskError.{DeskError}
 use Rattle.desk_core.specs.declared.errors.DeskError.TheVariants as errors
 use Rattle.desk_core.specs.declared.live_sessions.Desk.{Desk}
@@ -62,27 +61,29 @@ keyring_counted errors.NotLive end before now is later rose = absurd is
 
 -- ---- a piece
 
-failed_asked : (asking : Asking) (given : List KeyValue) (asked : Option HeaderValue) (short : Type 0) (heard : Heard) → heard ≡ Failed → IsHeard asking given asked short heard
+failed_asked : (asking : Saying) (moment : ℕ) (given : List KeyValue) (asked : Option HeaderValue) (short : Type 0) (heard : Heard) → heard ≡ Failed → IsHeard asking moment given asked short heard
     → (request : DecRequestValue) × asking.finds_none request managers.KeyringFault
-failed_asked asking given asked short Nothing is hears = absurd cc
-failed_asked asking given asked short (Found m) is hears = absurd cc
-failed_asked asking given asked short (Named fault) is hears = absurd cc
-failed_asked asking given asked short Failed is (h, same, none) = (_, none)
+failed_asked asking moment given asked short Nothing is hears = absurd cc
+failed_asked asking moment given asked short (Found m) is hears = absurd cc
+failed_asked asking moment given asked short (Named fault) is hears = absurd cc
+failed_asked asking moment given asked short Failed is (h, same, none) = (_, none)
 
 -- a step answers that the manager failed only where that says so
-feed_failed : (asking : Asking) (session : Option SessionValue) (piece : List ℕ) (heard : Heard) (short : Bool) → MayHear asking session piece heard short → (fed session piece heard short).answer ≡ Err errors.KeyringFault
+feed_failed : (asking : Saying) (moment : ℕ) (session : Option SessionValue) (piece : List ℕ) (heard : Heard) (short : Bool) → MayHear asking moment session piece heard short → (fed session piece heard short).answer ≡ Err errors.KeyringFault
     → (request : DecRequestValue) × asking.finds_none request managers.KeyringFault
-feed_failed asking None piece heard short hears is = absurd cc
-feed_failed asking (Some (Sealing v)) piece heard short hears is =
+feed_failed asking moment None piece heard short hears is = absurd cc
+feed_failed asking moment (Some (Sealing v)) piece heard short hears is =
     absurd (no_seal_failure (seal.step_answer v piece) (sym (answer_same (seal_answer (seal.step_answer v piece)) (Sealing (seal.stepped v piece))) ∙ is))
-feed_failed asking (Some (Opening v)) piece heard short hears is =
-    failed_asked asking v.given (asked_of v piece) (short ≡ true) heard (failing_heard v piece heard (feeds_machines.failed v piece heard short is)) hears.0
+feed_failed asking moment (Some (Opening v)) piece heard short hears is =
+    failed_asked asking moment v.given (asked_header v piece) (short ≡ true) heard (failing_heard v piece heard (feeds_machines.failed v piece heard short is)) hears.0
 
-pub feed_rose : {M : Type 0} (old new : ManagerMeaning) (tells : List WrapKeyValue → Type 0) (exact : Type 0) (found : DecRequestValue → ℕ → DecMaterialsValue → Type 0) (bore bears : List JournalLine → Type 0) (now : ℕ)
-    (v : DeskValue) (session : ℕ) (piece : List ℕ) (error : DeskError) (desk : Desk M) → Feeds (asking_of old new tells exact found bore bears now) v session now piece (Err error) desk → error ≡ errors.KeyringFault
-    → Rose old.faults new.faults
-feed_rose old new tells exact found bore bears now v session piece error desk feeds is =
-    let (request, none) = feed_failed (asking_of old new tells exact found bore bears now) (v.live session) piece feeds.heard feeds.short feeds.hears (sym feeds.answer ∙ ap (λ (e : DeskError). Err e) is) in none.0
+pub feed_rose : {M : Type 0} (old new : ManagerNow) (now : ℕ) (v : DeskValue) (session : ℕ)
+    (piece : List ℕ) (error : DeskError) (desk : Desk M)
+    → Feeds old new v session now piece (Err error) desk → error ≡ errors.KeyringFault
+    → Rose old.meaning.faults new.meaning.faults
+feed_rose old new now v session piece error desk feeds is =
+    let (request, none) = feed_failed (said_last old new) now (v.live session) piece feeds.heard
+    feeds.short feeds.hears (sym feeds.answer ∙ ap (λ (e : DeskError). Err e) is) in none.0
 
 -- ---- the beginning
 
@@ -90,19 +91,24 @@ begun_soundly : (request : SealRequestValue) (random : List ℕ) (m : EncMateria
 begun_soundly request random m id None is = absurd cc
 begun_soundly request random m id (Some refusal) is = absurd cc
 
-seal_failed : (manager : Giving) (request : SealRequestValue) (random : List ℕ) (reply : Reply) (short : Bool) (id : ℕ) → IsReply manager short reply
-    → Err errors.KeyringFault ≡ (seal_opened request random reply short id).answer → manager.gives_none managers.KeyringFault
-seal_failed manager request random NoReply short id replies is = absurd cc
-seal_failed manager request random (Gives m) true id replies is = absurd cc
-seal_failed manager request random (Gives m) false id replies is = absurd (begun_soundly request random m id (start_refusal m request.max_keys (id_in random)) is)
-seal_failed manager request random (Refuses refusal) short id replies is = absurd cc
-seal_failed manager request random Fails short id replies is = replies.0
+seal_failed : (manager : Saying) (request : SealRequestValue) (now : ℕ) (random : List ℕ)
+    (reply : Reply) (short : Bool) (id : ℕ) → IsReply manager request now random short reply
+    → Err errors.KeyringFault ≡ (seal_opened request random reply short id).answer
+    → manager.gives_none request.wish managers.KeyringFault
+seal_failed manager request now random NoReply short id replies is = absurd cc
+seal_failed manager request now random (Gives m) true id replies is = absurd cc
+seal_failed manager request now random (Gives m) false id replies is =
+    absurd (begun_soundly request random m id (start_refusal m request.max_keys (id_in random)) is)
+seal_failed manager request now random (Refuses refusal) short id replies is = absurd cc
+seal_failed manager request now random Fails short id replies is = replies.0
 
-pub seal_rose : {M : Type 0} (old new : ManagerMeaning) (tells : List WrapKeyValue → Type 0) (exact : Type 0) (gave : EncRequestValue → ℕ → List ℕ → EncMaterialsValue → Type 0) (wish : EncRequestValue) (now : ℕ) (v : DeskValue)
-    (request : SealRequestValue) (random : List ℕ) (error : DeskError) (desk : Desk M) → OpensSeal (giving_of old new tells exact gave wish now (rest_in random)) v request now random (Err error) desk
-    → error ≡ errors.KeyringFault → Rose old.faults new.faults
-seal_rose old new tells exact gave wish now v request random error desk opens is =
-    (seal_failed (giving_of old new tells exact gave wish now (rest_in random)) request random opens.reply opens.short (v.last + 1) opens.replies (ap (λ (e : DeskError). Err e) (sym is) ∙ opens.answer)).0
+pub seal_rose : {M : Type 0} (old new : ManagerNow) (now : ℕ) (v : DeskValue)
+    (request : SealRequestValue) (random : List ℕ) (error : DeskError) (desk : Desk M)
+    → OpensSeal (said_last old new) v request now random (Err error) desk
+    → error ≡ errors.KeyringFault → Rose old.meaning.faults new.meaning.faults
+seal_rose old new now v request random error desk opens is =
+    (seal_failed (said_last old new) request now random opens.reply opens.short (v.last + 1)
+    opens.replies (ap (λ (e : DeskError). Err e) (sym is) ∙ opens.answer)).0
 
 pub open_soundly : (settings : Settings) (given : List KeyValue) (short : Bool) (id : ℕ) (error : DeskError) → Err error ≡ (open_opened settings given short id).answer → error ≡ errors.KeyringFault → ⊥
 open_soundly settings given true id error is failed = absurd cc

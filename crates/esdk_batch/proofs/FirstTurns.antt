@@ -19,7 +19,7 @@ use Rattle.esdk_batch.specs.declared.progress.Progress.{Progress}
 use Rattle.esdk_batch.specs.declared.progress.Progress.TheVariants as stages
 use Rattle.esdk_batch.specs.Ending.{KeepsDesk}
 use Rattle.esdk_batch.specs.Files.{Holding, KeepsOthers}
-use Rattle.esdk_batch.specs.Managing.{Managing}
+use Rattle.keyring_trait.specs.Saying.{Saying}
 use Rattle.esdk_batch.specs.Opening.{BeginsFile}
 use Rattle.esdk_batch.specs.Underway.{HasSession, IsAt, TakesTurn, beside}
 use Rattle.esdk_batch.proofs.Beside.{rest_begun, rest_never}
@@ -138,7 +138,7 @@ served_behind id kind now size served before after count counted grown =
 -- ---- the turn
 
 -- A job that waited drew nothing before, and its file was as before the batch.
-pub takes_first : (manager : Managing) (job : Job) (next : Progress) (v w : DeskValue) (lines : List JournalLine) (files left : Option Files) (entropy spent : EntropyState) (more : List ℕ)
+pub takes_first : (manager : Saying) (job : Job) (next : Progress) (v w : DeskValue) (lines : List JournalLine) (files left : Option Files) (entropy spent : EntropyState) (more : List ℕ)
     → DrawsAtMost v w lines → ((session : ℕ) → beside next w.live session ≡ v.live session) → Consumes entropy.to_come spent.to_come more → KeepsOthers files left job.to
     → HasSession w.live next
     → ((before now then_held : Files) → files ≡ Some now → left ≡ Some then_held → file_of (Some now) job.to ≡ file_of (Some before) job.to → IsAt manager job before then_held more w.live next)

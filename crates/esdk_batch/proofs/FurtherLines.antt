@@ -20,7 +20,7 @@ use Rattle.esdk_batch.specs.declared.progress.Progress.{Progress}
 use Rattle.esdk_batch.specs.declared.progress.Progress.TheVariants as stages
 use Rattle.esdk_batch.specs.Batch.{Answered, in_line, kind_of, length_of}
 use Rattle.esdk_batch.specs.Ending.{FeedsPiece, GoesOnAs, ServedOnce, ServesSo}
-use Rattle.esdk_batch.specs.Managing.{Managing}
+use Rattle.keyring_trait.specs.Saying.{Saying}
 use Rattle.esdk_batch.specs.Turns.{AddsLines, DrawsNumber, Knows, either}
 use Rattle.esdk_batch.proofs.FurtherTurns.{ended_as}
 use Rattle.esdk_batch.proofs.FedTurns.{served_first, served_now, served_still}
@@ -77,30 +77,30 @@ opened_lines work kind size session told before after reported gained is reports
     one_came work kind size session new.1.0 new.1.1 told reported gained new.1.2 (is ∙ new.0) (reports ∙ served_now session told before after gained is (inr new) ∙ new.1.3)
 
 are_lines : (work : Work) (live : Live) (sessions : ℕ → Option SessionValue) (knows : Knows work (stages.Live live) sessions) (gained : List JournalLine) (left : Option SessionValue) (end : Option JobEnd)
-    (reported : Option Served) → ServesSo live.session (known work live sessions knows).0 gained left end → reported ≡ either live.served (served_first gained) → AreLines work live.served reported gained
-are_lines (Encrypt length frame context required) live sessions knows gained left end reported serves reports =
+    (reported behind : Option Served) → ServesSo live.session (known work live sessions knows).0 gained left behind end → reported ≡ either live.served (served_first gained) → AreLines work live.served reported gained
+are_lines (Encrypt length frame context required) live sessions knows gained left end reported behind serves reports =
     none_came (Encrypt length frame context required) live.served reported gained serves (reports ∙ served_still live.served gained serves)
-are_lines (Decrypt given required) live sessions knows gained left end reported serves reports =
-    opened_lines (Decrypt given required) refl refl live.session live.served knows.0.served serves.served reported gained knows.2 reports serves.once
+are_lines (Decrypt given required) live sessions knows gained left end reported behind serves reports =
+    opened_lines (Decrypt given required) refl refl live.session live.served knows.0.served behind reported gained knows.2 reports serves.once
 
-knows_on : (work : Work) (live next : Live) (sessions later : ℕ → Option SessionValue) (knows : Knows work (stages.Live live) sessions) (gained : List JournalLine)
-    → next.session ≡ live.session → next.served ≡ either live.served (served_first gained) → ServesSo live.session (known work live sessions knows).0 gained (later live.session) None
+knows_on : (work : Work) (live next : Live) (sessions later : ℕ → Option SessionValue) (knows : Knows work (stages.Live live) sessions) (gained : List JournalLine) (behind : Option Served)
+    → next.session ≡ live.session → next.served ≡ either live.served (served_first gained) → ServesSo live.session (known work live sessions knows).0 gained (later live.session) behind None
     → GoesOnAs (known work live sessions knows).0 (later live.session) → Knows work (stages.Live next) later
-knows_on (Encrypt length frame context required) live next sessions later knows gained same served serves goes = (goes.0, ap later same ∙ goes.1)
-knows_on (Decrypt given required) live next sessions later knows gained same served serves goes = (
+knows_on (Encrypt length frame context required) live next sessions later knows gained behind same served serves goes = (goes.0, ap later same ∙ goes.1)
+knows_on (Decrypt given required) live next sessions later knows gained behind same served serves goes = (
   goes.0,
   ap later same ∙ goes.1,
-  served ∙ served_now live.session live.served knows.0.served serves.served gained knows.2 serves.once ∙ sym (serves.kept goes.0 goes.1),
+  served ∙ served_now live.session live.served knows.0.served behind gained knows.2 serves.once ∙ sym (serves.kept goes.0 goes.1),
 )
 
 -- the piece was fed to its end
-pub fed_lines : (manager : Managing) (job : Job) (live next : Live) (v w : DeskValue) (piece : List ℕ) (files after : Option Files) (knows : Knows job.work (stages.Live live) v.live)
+pub fed_lines : (manager : Saying) (job : Job) (live next : Live) (v w : DeskValue) (piece : List ℕ) (files after : Option Files) (knows : Knows job.work (stages.Live live) v.live)
     → (fed : FeedsPiece manager live.session (known job.work live v.live knows).0 piece v w job.to files after None)
     → next.session ≡ live.session → next.served ≡ either live.served (served_first fed.gained) → AddsLines job (stages.Live live) (stages.Live next) v w
 fed_lines manager job live next v w piece files after knows fed same served =
-    let are = are_lines job.work live v.live knows fed.gained (w.live live.session) None next.served fed.serves served in
+    let are = are_lines job.work live v.live knows fed.gained (w.live live.session) None next.served fed.served fed.serves served in
     record {
-      knows = knows_on job.work live next v.live w.live knows fed.gained same served fed.serves (fed.lives refl);
+      knows = knows_on job.work live next v.live w.live knows fed.gained fed.served same served fed.serves (fed.lives refl);
       gained = fed.gained;
       journal = fed.desk.journal;
       lines = are.lines;
@@ -108,11 +108,11 @@ fed_lines manager job live next v w piece files after knows fed same served =
     }
 
 -- or it wasn't
-pub broken_lines : (manager : Managing) (job : Job) (live : Live) (line : JobLine) (v w : DeskValue) (piece : List ℕ) (files after : Option Files) (end : JobEnd)
+pub broken_lines : (manager : Saying) (job : Job) (live : Live) (line : JobLine) (v w : DeskValue) (piece : List ℕ) (files after : Option Files) (end : JobEnd)
     (knows : Knows job.work (stages.Live live) v.live) → (fed : FeedsPiece manager live.session (known job.work live v.live knows).0 piece v w job.to files after (Some end))
     → line.served ≡ either live.served (served_first fed.gained) → AddsLines job (stages.Live live) (stages.Ended line) v w
 broken_lines manager job live line v w piece files after end knows fed served =
-    let are = are_lines job.work live v.live knows fed.gained (w.live live.session) (Some end) line.served fed.serves served in
+    let are = are_lines job.work live v.live knows fed.gained (w.live live.session) (Some end) line.served fed.served fed.serves served in
     record { knows = tt; gained = fed.gained; journal = fed.desk.journal; lines = are.lines; served = are.served }
 
 -- ---- as the code says it
@@ -123,7 +123,7 @@ no_lines_so job live next kind end v w next_is journal =
     subst (λ (n : Progress). AddsLines job (stages.Live live) n v w) (sym next_is)
     (no_lines job live (record { kind = kind; end = end; served = live.served }) v w refl journal)
 
-pub broken_lines_so : (manager : Managing) (job : Job) (live : Live) (next : Progress) (kind : Kind) (served : Option Served) (v w : DeskValue) (piece : List ℕ) (files after : Option Files) (end : JobEnd)
+pub broken_lines_so : (manager : Saying) (job : Job) (live : Live) (next : Progress) (kind : Kind) (served : Option Served) (v w : DeskValue) (piece : List ℕ) (files after : Option Files) (end : JobEnd)
     (knows : Knows job.work (stages.Live live) v.live) → (fed : FeedsPiece manager live.session (known job.work live v.live knows).0 piece v w job.to files after (Some end))
     → next ≡ ended_as kind end served → served ≡ either live.served (served_first fed.gained) → AddsLines job (stages.Live live) next v w
 broken_lines_so manager job live next kind served v w piece files after end knows fed next_is reports =

@@ -21,7 +21,7 @@ use Rattle.esdk_batch.specs.declared.progress.Progress.TheVariants as stages
 use Rattle.esdk_batch.specs.Batch.{WorksSo, kind_of}
 use Rattle.esdk_batch.specs.Ending.{EndsSession, FinishesSo}
 use Rattle.esdk_batch.specs.Files.{KeepsOthers, ReadsNone, ReadsPiece}
-use Rattle.esdk_batch.specs.Managing.{Managing}
+use Rattle.keyring_trait.specs.Saying.{Saying}
 use Rattle.esdk_batch.specs.Underway.{FurtherTurn, IsLive, Took}
 use Rattle.esdk_batch.proofs.Beside.{rest_over}
 use Rattle.esdk_batch.proofs.FirstTurns.{dropped_left}
@@ -31,16 +31,16 @@ use Rattle.esdk_batch.proofs.Took.{keeps_all, took_all}
 
 -- ---- no piece was read
 
-works_unread : (manager : Managing) (work : Work) (from before to : Option (List ℕ)) (drawn : List ℕ) (live : Live) (s : SessionValue) (old new : ShelfState) (name : List ℕ) (outside : Outside)
+works_unread : (manager : Saying) (work : Work) (from before to : Option (List ℕ)) (drawn : List ℕ) (live : Live) (s : SessionValue) (old new : ShelfState) (name : List ℕ) (outside : Outside)
     → IsLive manager work from to drawn live (Some s) → ReadsNone old new name live.at outside → WorksSo manager work (seen_with from before to drawn live.served) (ends.Outside outside)
 works_unread manager (Encrypt length frame context required) from before to drawn live (Sealing s) old new name outsides.ShelfFault at none =
     seal_unread manager (record { declared = length; frame = frame; context = context; required = required }) from before to drawn live s at
 works_unread manager (Encrypt length frame context required) from before to drawn live (Sealing s) old new name outsides.InputTooLong at none =
     seal_too_long manager (record { declared = length; frame = frame; context = context; required = required }) from before to drawn live s none.0 at
 works_unread manager (Decrypt given required) from before to drawn live (Opening s) old new name outsides.ShelfFault at none =
-    (at.0, open_unread manager given from before to drawn live.served live s at.1)
+    (at.0, open_unread manager given from before to drawn live s at.1)
 works_unread manager (Decrypt given required) from before to drawn live (Opening s) old new name outsides.InputTooLong at none =
-    (at.0, open_too_long manager given from before to drawn live.served live s none.0 at.1)
+    (at.0, open_too_long manager given from before to drawn live s none.0 at.1)
 works_unread manager (Encrypt length frame context required) from before to drawn live (Opening s) old new name outside at none = absurd at
 works_unread manager (Decrypt given required) from before to drawn live (Sealing s) old new name outside at none = absurd at
 works_unread manager (Encrypt length frame context required) from before to drawn live (Sealing s) old new name outside at none = absurd none
@@ -51,7 +51,7 @@ same_file : (files after : Option Files) (now left : Files) (name : List ℕ) �
 same_file files after now left name is later same = ap (λ (o : Option Files). file_of o name) (sym is ∙ sym same ∙ later)
 
 -- the session is dropped
-pub unread_turn : (manager : Managing) (job : Job) (live : Live) (s : SessionValue) (v : DeskValue) (old new : ShelfState) (outside : Outside) → v.live live.session ≡ Some s
+pub unread_turn : (manager : Saying) (job : Job) (live : Live) (s : SessionValue) (v : DeskValue) (old new : ShelfState) (outside : Outside) → v.live live.session ≡ Some s
     → ReadsNone old new job.from live.at outside → new.files ≡ old.files
     → FurtherTurn manager job live (stages.Ended (record { kind = kind_of job.work; end = ends.Outside outside; served = live.served })) v (after_call v live.session false DropSession) old.files new.files
 unread_turn manager job live s v old new outside lives none same = record {
@@ -82,18 +82,18 @@ keeps_finished (Opening s) to files after ends.Done whole = whole.1.keeps
 keeps_finished (Opening s) to files after (ends.Fault fault) same = keeps_all files after to same.1
 keeps_finished (Opening s) to files after end none = absurd none
 
-works_finished : (manager : Managing) (work : Work) (from before : Option (List ℕ)) (to drawn : List ℕ) (live : Live) (s : SessionValue) (files after : Option Files) (now left : Files) (end : JobEnd)
+works_finished : (manager : Saying) (work : Work) (from before : Option (List ℕ)) (to drawn : List ℕ) (live : Live) (s : SessionValue) (files after : Option Files) (now left : Files) (end : JobEnd)
     → IsLive manager work from (file_of (Some now) to) drawn live (Some s) → ((taken : List ℕ) → Took taken live.at from → from ≡ Some taken)
     → files ≡ Some now → after ≡ Some left → FinishesSo s to files after end → WorksSo manager work (seen_with from before (file_of (Some left) to) drawn live.served) end
 works_finished manager (Encrypt length frame context required) from before to drawn live (Sealing s) files after now left end at whole is later finishes =
     seal_finishes manager (record { declared = length; frame = frame; context = context; required = required }) from before drawn live s to files after now left end at
     (whole s.taken at.took) is later finishes
 works_finished manager (Decrypt given required) from before to drawn live (Opening s) files after now left end at whole is later finishes =
-    (at.0, open_finishes manager given from before drawn live.served live s to files after now left end at.1 (whole s.taken at.1.took) is later finishes)
+    (at.0, open_finishes manager given from before drawn live s to files after now left end at.1 (whole s.taken at.1.took) is later finishes)
 works_finished manager (Encrypt length frame context required) from before to drawn live (Opening s) files after now left end at whole is later finishes = absurd at
 works_finished manager (Decrypt given required) from before to drawn live (Sealing s) files after now left end at whole is later finishes = absurd at
 
-pub finished_turn : (manager : Managing) (job : Job) (live : Live) (s : SessionValue) (v w : DeskValue) (files after : Option Files) (buffer : List ℕ) (count : ℕ) (end : JobEnd)
+pub finished_turn : (manager : Saying) (job : Job) (live : Live) (s : SessionValue) (v w : DeskValue) (files after : Option Files) (buffer : List ℕ) (count : ℕ) (end : JobEnd)
     → v.live live.session ≡ Some s → ReadsPiece files job.from live.at count buffer → count ≡ 0 → EndsSession live.session s v w job.to files after end
     → FurtherTurn manager job live (stages.Ended (record { kind = kind_of job.work; end = end; served = live.served })) v w files after
 finished_turn manager job live s v w files after buffer count end lives reads none finished = record {
@@ -118,7 +118,7 @@ finished_turn manager job live s v w files after buffer count end lives reads no
 abbrev pub ended_as : Kind → JobEnd → Option Served → Progress
 ended_as kind end served = stages.Ended (record { kind = kind; end = end; served = served })
 
-pub unread_so : (manager : Managing) (job : Job) (live : Live) (next : Progress) (kind : Kind) (name : List ℕ) (s : SessionValue) (v : DeskValue) (old new : ShelfState) (outside : Outside)
+pub unread_so : (manager : Saying) (job : Job) (live : Live) (next : Progress) (kind : Kind) (name : List ℕ) (s : SessionValue) (v : DeskValue) (old new : ShelfState) (outside : Outside)
     → kind ≡ kind_of job.work → next ≡ ended_as kind (ends.Outside outside) live.served → name ≡ job.from → v.live live.session ≡ Some s
     → ReadsNone old new name live.at outside → new.files ≡ old.files → FurtherTurn manager job live next v (after_call v live.session false DropSession) old.files new.files
 unread_so manager job live next kind name s v old new outside kind_is next_is name_is lives none same =
@@ -126,7 +126,7 @@ unread_so manager job live next kind name s v old new outside kind_is next_is na
     (sym (next_is ∙ ap (λ (k : Kind). ended_as k (ends.Outside outside) live.served) kind_is))
     (unread_turn manager job live s v old new outside lives (subst (λ (n : List ℕ). ReadsNone old new n live.at outside) name_is none) same)
 
-pub finished_so : (manager : Managing) (job : Job) (live : Live) (next : Progress) (kind : Kind) (name to : List ℕ) (s : SessionValue) (v w : DeskValue) (files mid after : Option Files) (buffer : List ℕ) (count : ℕ) (end : JobEnd)
+pub finished_so : (manager : Saying) (job : Job) (live : Live) (next : Progress) (kind : Kind) (name to : List ℕ) (s : SessionValue) (v w : DeskValue) (files mid after : Option Files) (buffer : List ℕ) (count : ℕ) (end : JobEnd)
     → kind ≡ kind_of job.work → next ≡ ended_as kind end live.served → name ≡ job.from → to ≡ job.to → mid ≡ files → v.live live.session ≡ Some s
     → ReadsPiece files name live.at count buffer → count ≡ 0 → EndsSession live.session s v w to mid after end → FurtherTurn manager job live next v w files after
 finished_so manager job live next kind name to s v w files mid after buffer count end kind_is next_is name_is to_is same lives reads none finished =

@@ -1,5 +1,5 @@
 -- By which answer bytes are judged, of which a session keeps the manager's.
-use Rattle.std.proofs.Common.{◌≡◌, ◌∙◌, ℕ, List, ◌++◌, Option, Some, None, take, refl, sym, ap, subst}
+use Rattle.std.proofs.Common.{◌≡◌, ◌∙◌, ℕ, List, ◌++◌, Option, Some, None, take, inl, refl, sym, ap, subst}
 use Rattle.std.specs.Prelude.{option_map}
 use Rattle.esdk_fields.specs.declared.faults.Fault.TheVariants.{Truncated}
 use Rattle.esdk_fields.specs.Place.{start}
@@ -8,44 +8,39 @@ use Rattle.context_codec.specs.Context.{KeyValue}
 use Rattle.header_codec.specs.declared.settings.Settings.{Settings}
 use Rattle.header_codec.specs.Header.{HeaderValue}
 use Rattle.header_codec.specs.Table.{Head, header}
-use Rattle.keyring_trait.specs.declared.journal.JournalLine.{JournalLine}
-use Rattle.keyring_trait.specs.declared.manager_errors.ManagerError.{ManagerError}
 use Rattle.keyring_trait.specs.declared.manager_errors.ManagerError.TheVariants.{KeyringFault}
-use Rattle.keyring_trait.specs.Materials.{DecMaterialsValue}
-use Rattle.keyring_trait.specs.Requests.{DecRequestValue}
+use Rattle.keyring_trait.specs.declared.served.Served.{Served}
+use Rattle.keyring_trait.specs.Saying.{Admits, Saying}
 use Rattle.keyring_trait.specs.Unlocking.{Unlocking, Refuses, Unlocks}
 use Rattle.message_format.specs.Judgement.{content, header_of, judged}
 use Rattle.message_format.proofs.Judging.{judged_refused, judged_wanting}
-use Rattle.stream_open.specs.Asking.{Asking, Heard, Nothing, Found, Named, Failed, IsHeard, asking_of, request_of}
-use Rattle.stream_open.specs.Feeding.{Keeps, KeepsAnswer, header_in}
-use Rattle.stream_open.specs.Session.{OpeningValue, answer_kept, judged_now, keeping}
+use Rattle.stream_open.specs.Asking.{Heard, Nothing, Found, Named, Failed, IsHeard, request_of}
+use Rattle.stream_open.specs.Feeding.{KeepsAnswer, KeepsOn, GoesOn, header_in}
+use Rattle.stream_open.specs.Session.{OpeningValue, answer_kept, asked_header, judged_now, keeping}
+use Rattle.stream_open.proofs.FoundFaults.{nothing_heard}
+use Rattle.stream_open.proofs.Feeding.{may_hear}
+use Rattle.stream_open.proofs.Keeping.{keeps_answers}
 use Rattle.esdk_base.specs.Shelf.{Files}
-use Rattle.esdk_decrypt.specs.Decrypt.{Answering, AnswersReading, AnswersTo, FailsReading, FailsTo}
-use Rattle.esdk_decrypt.specs.Underway.{asking_in}
+use Rattle.esdk_decrypt.specs.Decrypt.{Answering, AnswersReading, FailsReading, FailsTo, answers_at}
+use Rattle.esdk_batch.specs.Answering.{HasAnswer, IsUnserved, KeepsServed, serving}
 use Rattle.esdk_batch.specs.Ending.{Judges}
 use Rattle.esdk_batch.specs.Files.{Gains}
-use Rattle.esdk_batch.specs.Managing.{Admits, ManagerNow, Managing}
 
 -- ---- what is heard
 
--- Whatever is answered when the first is asked, the other may answer.
-pub record AnswersAs (asking : Asking) (manager : Answering) : Type 0 where
-  pub finds : (request : DecRequestValue) (materials : DecMaterialsValue) → asking.finds request materials → manager.finds request materials
-  pub finds_none : (request : DecRequestValue) (error : ManagerError) → asking.finds_none request error → manager.finds_none request error
-
-pub answers_admitted : (manager : Managing) (old new : ManagerNow) (found : DecRequestValue → ℕ → DecMaterialsValue → Type 0) (bore bears : List JournalLine → Type 0) (now : ℕ) → Admits manager old new
-    → AnswersAs (asking_of old.meaning new.meaning old.tells old.exact found bore bears now) manager.answering
-answers_admitted manager old new found bore bears now admits = record {
-  finds = λ request materials finds. admits.finds request materials finds.0;
-  finds_none = λ request error none. admits.finds_none request error none;
-}
-
-pub hears_as : (asking : Asking) (manager : Answering) (given : List KeyValue) (asked : Option HeaderValue) (short : Type 0) (heard : Heard) → AnswersAs asking manager
-    → IsHeard asking given asked short heard → IsHeard (asking_in manager) given asked short heard
-hears_as asking manager given asked short Nothing answers is = is
-hears_as asking manager given asked short (Found m) answers (h, same, finds) = (h, same, answers.finds (request_of given h) m finds)
-hears_as asking manager given asked short (Named fault) answers (h, same, none) = (h, same, answers.finds_none (request_of given h) _ none)
-hears_as asking manager given asked short Failed answers (h, same, none) = (h, same, answers.finds_none (request_of given h) _ none)
+-- what is heard of the manager in a step is what it may say, with materials that are served as the
+-- session keeps
+pub hears_as : (asking manager : Saying) (moment : ℕ) (v : OpeningValue) (asked : Option HeaderValue)
+    (short : Type 0) (heard : Heard) → Admits manager asking
+    → IsHeard asking moment v.given asked short heard
+    → IsHeard (serving manager (keeping v heard).served) moment v.given asked short heard
+hears_as asking manager moment v asked short Nothing admits is = is
+hears_as asking manager moment v asked short (Found m) admits (h, same, finds) =
+    (h, same, (admits.finds (request_of v.given h) moment m finds, refl))
+hears_as asking manager moment v asked short (Named fault) admits (h, same, none) =
+    (h, same, admits.finds_none (request_of v.given h) _ none)
+hears_as asking manager moment v asked short Failed admits (h, same, none) =
+    (h, same, admits.finds_none (request_of v.given h) _ none)
 
 -- ---- the answer that is kept
 
@@ -69,33 +64,103 @@ pub judged_for : (settings : Settings) (b : List ℕ) (kept : Option Unlocking) 
 unfolding answer_for
 judged_for settings b kept = judged_by settings b kept (header settings (start b)) refl
 
-answered_by : (manager : Answering) (given : List KeyValue) (b : List ℕ) (kept : Option Unlocking) (r : Reading Head) → KeepsAnswer (asking_in manager) given (option_map (header_of b) (value_of r)) kept
-    → AnswersReading manager given b r (answer_by kept r)
+answered_by : (manager : Saying) (moment : ℕ) (given : List KeyValue) (b : List ℕ)
+    (kept : Option Unlocking) (r : Reading Head)
+    → KeepsAnswer manager moment given (option_map (header_of b) (value_of r)) kept
+    → AnswersReading (answers_at manager moment) given b r (answer_by kept r)
 unfolding answer_by
-answered_by manager given b None (Read parts p) keeps = absurd keeps
-answered_by manager given b (Some (Unlocks whole only key)) (Read parts p) keeps = keeps
-answered_by manager given b (Some (Refuses fault)) (Read parts p) keeps = keeps
-answered_by manager given b kept (Refused fault at) keeps = refl
-answered_by manager given b kept Wanting keeps = refl
+answered_by manager moment given b None (Read parts p) keeps = absurd keeps
+answered_by manager moment given b (Some (Unlocks whole only key)) (Read parts p) keeps = keeps
+answered_by manager moment given b (Some (Refuses fault)) (Read parts p) keeps = keeps
+answered_by manager moment given b kept (Refused fault at) keeps = refl
+answered_by manager moment given b kept Wanting keeps = refl
+
+unserved_by : (manager : Saying) (moment : ℕ) (given : List KeyValue) (b : List ℕ)
+    (kept : Option Unlocking) (served : Option Served) (r : Reading Head)
+    → KeepsAnswer manager moment given (option_map (header_of b) (value_of r)) kept
+    → IsUnserved (answer_kept kept) served → IsUnserved (answer_by kept r) served
+unfolding answer_by
+unserved_by manager moment given b kept served (Read parts p) keeps unserved = unserved
+unserved_by manager moment given b kept served (Refused fault at) keeps unserved =
+    subst (λ (o : Option Unlocking). IsUnserved (answer_kept o) served) keeps unserved
+unserved_by manager moment given b kept served Wanting keeps unserved =
+    subst (λ (o : Option Unlocking). IsUnserved (answer_kept o) served) keeps unserved
+
+-- This answer is kept to the header that is whole in these bytes, with materials that were served so.
+pub record IsKept (manager : Saying) (settings : Settings) (given : List KeyValue) (b : List ℕ)
+    (served : Option Served) (kept : Option Unlocking) : Type 0 where
+  pub moment : ℕ
+  pub keeps : KeepsAnswer (serving manager served) moment given (header_in settings b) kept
+  pub unserved : IsUnserved (answer_kept kept) served
 
 -- and it is the manager's, where that one is
-pub answered_for : (manager : Answering) (settings : Settings) (given : List KeyValue) (b : List ℕ) (kept : Option Unlocking) → KeepsAnswer (asking_in manager) given (header_in settings b) kept
-    → AnswersTo manager settings given b (answer_for settings b kept)
+pub answered_for : (manager : Saying) (settings : Settings) (given : List KeyValue) (b : List ℕ)
+    (served : Option Served) (kept : Option Unlocking) → IsKept manager settings given b served kept
+    → HasAnswer manager settings given b served (answer_for settings b kept)
 unfolding answer_for
-answered_for manager settings given b kept keeps = answered_by manager given b kept (header settings (start b)) keeps
+answered_for manager settings given b served kept is = record {
+  moment = is.moment;
+  answered = answered_by (serving manager served) is.moment given b kept
+      (header settings (start b)) is.keeps;
+  unserved = unserved_by (serving manager served) is.moment given b kept served
+      (header settings (start b)) is.keeps is.unserved;
+}
 
 -- what a session keeps of these bytes is kept with these limits and pairs
-pub keeps_as : (asking : Asking) (v : OpeningValue) (heard : Heard) (b : List ℕ) → Keeps asking (keeping v heard) b → KeepsAnswer asking v.given (header_in v.settings b) (keeping v heard).answer
-keeps_as asking v Nothing b keeps = keeps
-keeps_as asking v (Found m) b keeps = keeps
-keeps_as asking v (Named fault) b keeps = keeps
-keeps_as asking v Failed b keeps = keeps
+pub kept_with : (manager : Saying) (v : OpeningValue) (limits : Settings) (pairs : List KeyValue)
+    (b : List ℕ) → v.settings ≡ limits → v.given ≡ pairs → KeepsServed manager v b
+    → IsKept manager limits pairs b v.served v.answer
+kept_with manager v limits pairs b same_limits same_pairs kept =
+    subst (λ (x : Settings). IsKept manager x pairs b v.served v.answer) same_limits
+    (subst (λ (x : List KeyValue). IsKept manager v.settings x b v.served v.answer) same_pairs
+    (record { moment = kept.moment; keeps = kept.keeps; unserved = kept.unserved }))
 
-pub keeps_with : (asking : Asking) (settings limits : Settings) (given pairs : List KeyValue) (b : List ℕ) (kept : Option Unlocking) → settings ≡ limits → given ≡ pairs
-    → KeepsAnswer asking given (header_in settings b) kept → KeepsAnswer asking pairs (header_in limits b) kept
-keeps_with asking settings limits given pairs b kept same_limits same_pairs keeps =
-    subst (λ (x : Settings). KeepsAnswer asking pairs (header_in x b) kept) same_limits
-    (subst (λ (x : List KeyValue). KeepsAnswer asking x (header_in settings b) kept) same_pairs keeps)
+-- ---- a step
+
+-- where an answer that refuses is heard, none was kept, and nothing was served
+unserved_on : (asking : Saying) (moment : ℕ) (v : OpeningValue) (piece : List ℕ) (heard : Heard)
+    → ((h : HeaderValue) → asked_header v piece ≡ Some h → v.answer ≡ None)
+    → IsHeard asking moment v.given (asked_header v piece) ⊥ heard
+    → IsUnserved (answer_kept v.answer) v.served
+    → IsUnserved (answer_kept (keeping v heard).answer) (keeping v heard).served
+unserved_on asking moment v piece Nothing unheard hears was = was
+unserved_on asking moment v piece (Found m) unheard hears was = tt
+unserved_on asking moment v piece (Named fault) unheard (h, asked, none) was =
+    subst (λ (o : Option Unlocking). IsUnserved (answer_kept o) v.served) (unheard h asked) was
+unserved_on asking moment v piece Failed unheard hears was = was
+
+module _ (manager : Saying) (moment : ℕ) (v : OpeningValue) (piece : List ℕ) (heard : Heard)
+    (goes : GoesOn v)
+    (hears : IsHeard (serving manager (keeping v heard).served) moment v.given (asked_header v piece) ⊥
+    heard) (was : KeepsServed manager v v.taken) where
+  -- where nothing is asked about, what was kept is kept of more bytes
+  pub served_still : (b : List ℕ) → asked_header v piece ≡ None
+      → (KeepsOn (serving manager v.served) was.moment v piece Nothing
+      → KeepsAnswer (serving manager v.served) was.moment v.given (header_in v.settings b) v.answer)
+      → KeepsServed manager (keeping v heard) b
+  served_still b none keeps =
+      let still : KeepsServed manager v b = record {
+        moment = was.moment;
+        keeps = keeps (keeps_answers (serving manager v.served) was.moment v piece Nothing goes
+            (inl none));
+        unserved = was.unserved;
+      } in
+      let nothing : heard ≡ Nothing = nothing_heard (asked_header v piece) heard none
+      (may_hear (serving manager (keeping v heard).served) moment v.given (asked_header v piece) ⊥ heard
+      hears) in
+      subst (λ (o : Heard). KeepsServed manager (keeping v o) b) (sym nothing) still
+
+  -- where a header is, what was heard of it is kept
+  pub served_now : (b : List ℕ) → ((h : HeaderValue) → asked_header v piece ≡ Some h → v.answer ≡ None)
+      → KeepsAnswer (serving manager (keeping v heard).served) moment (keeping v heard).given
+      (header_in (keeping v heard).settings b) (keeping v heard).answer
+      → KeepsServed manager (keeping v heard) b
+  served_now b unheard keeps = record {
+    moment = moment;
+    keeps = keeps;
+    unserved = unserved_on (serving manager (keeping v heard).served) moment v piece heard unheard
+        hears was.unserved;
+  }
 
 -- ---- a failure
 
@@ -116,10 +181,14 @@ fails_for manager settings given b h parts whole is failed =
 
 -- ---- what is released
 
--- These bytes were taken with a front of the piece, and this answer to them is kept. They release so much more than was before, of which the file gained so many bytes.
-pub record Releases (manager : Managing) (s : OpeningValue) (piece to : List ℕ) (files after : Option Files) (bytes : List ℕ) (kept : Option Unlocking) (used count : ℕ) (released : List ℕ) : Type 0 where
+-- These bytes were taken with a front of the piece, and this answer to them is kept, with materials
+-- that were served so. They release so much more than was before, of which the file gained so many
+-- bytes.
+pub record Releases (manager : Saying) (s : OpeningValue) (piece to : List ℕ)
+    (files after : Option Files) (bytes : List ℕ) (served : Option Served) (kept : Option Unlocking)
+    (used count : ℕ) (released : List ℕ) : Type 0 where
   pub bytes_are : bytes ≡ s.taken ++ take used piece
-  pub keeps : Keeps (asking_in manager.answering) s s.taken → KeepsAnswer (asking_in manager.answering) s.given (header_in s.settings bytes) kept
+  pub keeps : KeepsServed manager s s.taken → IsKept manager s.settings s.given bytes served kept
   pub more : content (judged bytes s.settings (answer_kept kept)) ≡ content (judged_now s) ++ released
   pub gains : Gains files after to (take count released)
 
@@ -128,12 +197,17 @@ pub same_judged : (s : OpeningValue) (piece bytes : List ℕ) (kept : Option Unl
     → judged (s.taken ++ take used piece) s.settings (answer_for s.settings bytes kept) ≡ judged bytes s.settings (answer_kept kept)
 same_judged s piece bytes kept used is = ap (λ (b : List ℕ). judged b s.settings (answer_for s.settings bytes kept)) (sym is) ∙ judged_for s.settings bytes kept
 
-abbrev pub judges_so : (manager : Managing) (s : OpeningValue) (piece to : List ℕ) (files after : Option Files) (bytes : List ℕ) (kept : Option Unlocking) (used count : ℕ) (released : List ℕ)
-    → Releases manager s piece to files after bytes kept used count released → Judges manager s piece to files after (answer_for s.settings bytes kept) used count
-judges_so manager s piece to files after bytes kept used count released r = record {
+abbrev pub judges_so : (manager : Saying) (s : OpeningValue) (piece to : List ℕ)
+    (files after : Option Files) (bytes : List ℕ) (served : Option Served) (kept : Option Unlocking)
+    (used count : ℕ) (released : List ℕ)
+    → Releases manager s piece to files after bytes served kept used count released
+    → Judges manager s piece to files after served (answer_for s.settings bytes kept) used count
+judges_so manager s piece to files after bytes served kept used count released r = record {
   released = released;
-  answered = λ keeps. subst (λ (b : List ℕ). AnswersTo manager.answering s.settings s.given b (answer_for s.settings bytes kept)) r.bytes_are
-      (answered_for manager.answering s.settings s.given bytes kept (r.keeps keeps));
+  answered = λ keeps.
+      subst (λ (b : List ℕ). HasAnswer manager s.settings s.given b served
+      (answer_for s.settings bytes kept)) r.bytes_are
+      (answered_for manager s.settings s.given bytes served kept (r.keeps keeps));
   content = ap content (same_judged s piece bytes kept used r.bytes_are) ∙ r.more;
   gains = r.gains;
 }

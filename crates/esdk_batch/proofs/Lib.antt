@@ -17,7 +17,6 @@ pub mod Gaining
 pub mod Judgements
 pub mod Judging
 pub mod Lines
-pub mod ManagerViews
 pub mod Managers
 pub mod Moments
 pub mod Named

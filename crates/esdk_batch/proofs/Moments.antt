@@ -10,14 +10,16 @@ use Rattle.keyring_trait.specs.declared.journal.JournalLine.{JournalLine}
 use Rattle.keyring_trait.specs.declared.journal.Kind.{Kind}
 use Rattle.keyring_trait.specs.declared.journal.Kind.TheVariants.{Seal, Unseal}
 use Rattle.keyring_trait.specs.declared.served.Served.{Served}
-use Rattle.stream_open.specs.Asking.{Asking, served_in}
+use Rattle.keyring_trait.specs.Manager.{ManagerNow}
+use Rattle.keyring_trait.specs.Saying.{Saying}
+use Rattle.stream_open.specs.Asking.{served_in}
 use Rattle.desk_core.specs.declared.errors.DeskError.{DeskError}
 use Rattle.desk_core.specs.declared.live_sessions.Desk.{Desk}
-use Rattle.desk_core.specs.Calls.{Feeds, Giving, OpensSeal}
+use Rattle.desk_core.specs.Calls.{Feeds, OpensSeal}
 use Rattle.desk_core.specs.Desk.{DeskValue, lines_of, served_by}
 use Rattle.desk_core.specs.SealRequest.{SealRequestValue}
 use Rattle.desk_core.specs.Stands.{Stands, journal_of}
-use Rattle.esdk_batch.specs.Moments.{Answers, BearsMoment, GainsAt, ReadsClock, TakesMoment, Turn}
+use Rattle.esdk_batch.specs.Moments.{ClockAnswers, BearsMoment, GainsAt, ReadsClock, TakesMoment, Turn}
 
 -- ---- lines at one moment
 
@@ -45,15 +47,15 @@ gains_same moment before mid after first same = subst (λ (l : List JournalLine)
 
 -- ---- the calls of the desk
 
-pub fed_gains : {M : Type 0} (asking : Asking) (old new : Desk M) (v : DeskValue) (id now : ℕ) (piece : List ℕ) (result : Result ℕ DeskError) → Stands old v → Feeds asking v id now piece result new
+pub fed_gains : {M : Type 0} (older newer : ManagerNow) (old new : Desk M) (v : DeskValue) (id now : ℕ) (piece : List ℕ) (result : Result ℕ DeskError) → Stands old v → Feeds older newer v id now piece result new
     → GainsAt now (journal_of old) (journal_of new)
-fed_gains asking old new v id now piece result stands feeds = record {
+fed_gains older newer old new v id now piece result stands feeds = record {
   gained = lines_of id Unseal now None (served_in feeds.heard);
   journal = feeds.stands.journal ∙ ap (λ (l : List JournalLine). l ++ lines_of id Unseal now None (served_in feeds.heard)) (sym stands.journal);
   bears = lines_bear id Unseal now None (served_in feeds.heard);
 }
 
-pub sealed_gains : {M : Type 0} (manager : Giving) (old new : Desk M) (v : DeskValue) (request : SealRequestValue) (now : ℕ) (random : List ℕ) (result : Result ℕ DeskError) → Stands old v
+pub sealed_gains : {M : Type 0} (manager : Saying) (old new : Desk M) (v : DeskValue) (request : SealRequestValue) (now : ℕ) (random : List ℕ) (result : Result ℕ DeskError) → Stands old v
     → OpensSeal manager v request now random result new → GainsAt now (journal_of old) (journal_of new)
 sealed_gains manager old new v request now random result stands opens = record {
   gained = lines_of (v.last + 1) Seal now request.wish.declared (served_by opens.reply);
@@ -63,8 +65,8 @@ sealed_gains manager old new v request now random result stands opens = record {
 
 -- ---- turns
 
-answers_more : (before mid after : Option Moments) (first later : List ℕ) → Answers before first mid → Answers mid later after → Answers before (first ++ later) after
-answers_more before mid after [] later one two = subst (λ (told : Option Moments). Answers told later after) one two
+answers_more : (before mid after : Option Moments) (first later : List ℕ) → ClockAnswers before first mid → ClockAnswers mid later after → ClockAnswers before (first ++ later) after
+answers_more before mid after [] later one two = subst (λ (told : Option Moments). ClockAnswers told later after) one two
 answers_more before mid after (moment ∷ first) later one two = (one.0, answers_more (option_map after_now before) mid after first later one.1 two)
 
 -- no turn
@@ -78,7 +80,7 @@ reads_more before mid after lines lines_mid lines_after first later =
     let two : List JournalLine = flat_map (λ (turn : Turn). turn.lines) later.turns in
     record {
       turns = first.turns ++ later.turns;
-      answers = subst (λ (moments : List ℕ). Answers before moments after) (sym (map-append (λ (turn : Turn). turn.moment) first.turns later.turns))
+      answers = subst (λ (moments : List ℕ). ClockAnswers before moments after) (sym (map-append (λ (turn : Turn). turn.moment) first.turns later.turns))
           (answers_more before mid after (map (λ (turn : Turn). turn.moment) first.turns) (map (λ (turn : Turn). turn.moment) later.turns) first.answers later.answers);
       journal = later.journal ∙ ap (λ (l : List JournalLine). l ++ two) first.journal ∙ append_assoc lines one two
           ∙ ap (λ (l : List JournalLine). lines ++ l) (sym (flat_map-append (λ (turn : Turn). turn.lines) first.turns later.turns));

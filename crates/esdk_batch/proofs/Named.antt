@@ -1,10 +1,10 @@
 -- Files by their names: what one changed name leaves.
 use Rattle.std.proofs.Common.{◌≡◌, ◌≢◌, ◌∙◌, ℕ, Bool, true, false, cond, List, [], ◌∷◌, ◌++◌, length, take, refl, sym, ap, subst, inl, inr, arith, append-nil}
-use Rattle.std.specs.Prelude.{bytes_eq, ◌⊎◌, is_some, Result, Ok, Err}
+use Rattle.std.specs.Prelude.{bytes_eq, Result, Ok, Err}
 use Rattle.std.specs.declared.option.Option.{Option}
 use Rattle.std.specs.declared.option.Option.TheVariants.{None, Some}
 use Rattle.std.specs.Option.{option_map, option_map_or}
-use Rattle.std.specs.Cmp.Lexicographic.{slice_cmp, nat_list_cmp_total, texts_ties, bytes_decides}
+use Rattle.std.specs.Cmp.Lexicographic.{nat_list_cmp_total, texts_ties, bytes_decides}
 use Rattle.std.specs.FinMap.{get, insert, get-insert}
 use Rattle.esdk_base.specs.Shelf.{AppendsTo, Creates, Files, appended, created, file_of}
 use Rattle.esdk_batch.specs.Files.{Empties, Gains, KeepsOthers, Makes, Puts}

@@ -14,11 +14,10 @@ use Rattle.keyring_trait.specs.declared.journal.JournalLine.{JournalLine}
 use Rattle.keyring_trait.specs.declared.journal.Kind.TheVariants.{Unseal}
 use Rattle.message_format.specs.Judgement.{content}
 use Rattle.stream_open.specs.Session as open_session
-use Rattle.stream_open.specs.Session.{OpeningValue, answer_kept, judged_now}
+use Rattle.stream_open.specs.Session.{OpeningValue, judged_now}
 use Rattle.stream_open.proofs.AnyCut.{kept_none}
 use Rattle.stream_open.proofs.Feeding.{opened_goes}
 use Rattle.stream_open.proofs.Keeping.{opened_keeps}
-use Rattle.esdk_decrypt.specs.Underway.{asking_in}
 use Rattle.desk_core.specs.Session.{Opening, SessionValue, Turn, open_opened}
 use Rattle.desk_core.specs.Desk.{DeskValue}
 use Rattle.job_file.specs.declared.job.Job.{Job}
@@ -31,7 +30,8 @@ use Rattle.esdk_batch.specs.declared.progress.Live.{Live}
 use Rattle.esdk_batch.specs.declared.progress.Progress.{Progress}
 use Rattle.esdk_batch.specs.declared.progress.Progress.TheVariants as stages
 use Rattle.esdk_batch.specs.Batch.{WorksSo, kind_of, seen_of}
-use Rattle.esdk_batch.specs.Managing.{Managing, no_limits}
+use Rattle.keyring_trait.specs.Saying.{Saying}
+use Rattle.esdk_batch.specs.Answering.{no_limits, serving}
 use Rattle.esdk_batch.specs.OpenStory.{OpensSo}
 use Rattle.esdk_batch.specs.Opening.{BeginsFile}
 use Rattle.esdk_batch.specs.SealStory.{Seen, held}
@@ -40,7 +40,7 @@ use Rattle.esdk_batch.proofs.FirstTurns.{DrawsAtMost, draws_on, holds_now, left_
 
 -- the session of a job that gives these pairs
 abbrev pub opening_of : List KeyValue → OpeningValue
-opening_of given = open_session.opened no_limits given
+opening_of given = open_session.new_session no_limits given
 
 -- The session that begins, and its number.
 pub record HasBegun (given : List KeyValue) (turn : Turn ℕ) (id session : ℕ) : Type 0 where
@@ -52,7 +52,7 @@ pub has_begun : (settings : Settings) (pairs given : List KeyValue) (short : Boo
 has_begun settings pairs given true id session limits same is = absurd cc
 has_begun settings pairs given false id session limits same is = record {
   same = cc;
-  left = ap (λ (s : Settings). Some (Opening (open_session.opened s pairs))) limits ∙ ap (λ (p : List KeyValue). Some (Opening (open_session.opened no_limits p))) same;
+  left = ap (λ (s : Settings). Some (Opening (open_session.new_session s pairs))) limits ∙ ap (λ (p : List KeyValue). Some (Opening (open_session.new_session no_limits p))) same;
 }
 
 -- it is live
@@ -64,33 +64,37 @@ opening_live v given turn session begun = ap (update nat_eq v.live (v.last + 1) 
 nothing_released : (given : List KeyValue) → content (judged_now (opening_of given)) ≡ []
 nothing_released given = sym (kept_none no_limits given).released
 
-is_opening : (manager : Managing) (given : List KeyValue) (from to : Option (List ℕ)) (live : Live) → live.at ≡ 0 → live.served ≡ None → to ≡ Some []
+is_opening : (manager : Saying) (given : List KeyValue) (from to : Option (List ℕ)) (live : Live) → live.at ≡ 0 → live.served ≡ None → to ≡ Some []
     → IsOpening manager given from to live (opening_of given)
 is_opening manager given from to live none unserved holds = record {
   settings = refl;
   pairs = refl;
   goes = opened_goes no_limits given;
-  keeps = opened_keeps (asking_in manager.answering) no_limits given;
+  keeps = record {
+    moment = 0;
+    keeps = opened_keeps (serving manager None) 0 no_limits given;
+    unserved = refl;
+  };
   served = unserved;
   took = record { count = sym none; most = omega (arith, none); front = ap (λ (n : ℕ). drop n (held from)) (sym none) };
   holds = holds ∙ ap (λ (l : List ℕ). Some l) (sym (nothing_released given));
 }
 
 -- the file wasn't made, or holds nothing
-fails_so : (manager : Managing) (given : List KeyValue) (seen : Seen) → (seen.to ≡ seen.before) ⊎ ((n : ℕ) × (seen.to ≡ Some (take n []))) → OpensSo manager given seen (ends.Outside outsides.ShelfFault)
+fails_so : (manager : Saying) (given : List KeyValue) (seen : Seen) → (seen.to ≡ seen.before) ⊎ ((n : ℕ) × (seen.to ≡ Some (take n []))) → OpensSo manager given seen (ends.Outside outsides.ShelfFault)
 fails_so manager given seen left = elim left [
   | inl same ↦ inl same
   | inr front ↦ inr (inl (front.1 ∙ ap (λ (l : List ℕ). Some l) (take-nil front.0)))
 ]
 
 -- what is said of a decrypt job that ended
-opened_line : (manager : Managing) (job : Job) (given : List KeyValue) (required : List (List ℕ)) (seen : Seen) (line : JobLine) → job.work ≡ Decrypt given required → line.kind ≡ Unseal
+opened_line : (manager : Saying) (job : Job) (given : List KeyValue) (required : List (List ℕ)) (seen : Seen) (line : JobLine) → job.work ≡ Decrypt given required → line.kind ≡ Unseal
     → seen.drawn ≡ [] → OpensSo manager given seen line.end → (line.kind ≡ kind_of job.work) × WorksSo manager job.work seen line.end
 opened_line manager job given required seen line work kind drawn opens =
     subst (λ (w : Work). (line.kind ≡ kind_of w) × WorksSo manager w seen line.end) (sym work) (kind, (drawn, opens))
 
 -- by what became of the file
-open_begins : (manager : Managing) (job : Job) (given : List KeyValue) (required : List (List ℕ)) (v u w : DeskValue) (lines : List JournalLine) (files left : Option Files) (entropy : EntropyState)
+open_begins : (manager : Saying) (job : Job) (given : List KeyValue) (required : List (List ℕ)) (v u w : DeskValue) (lines : List JournalLine) (files left : Option Files) (entropy : EntropyState)
     (session : ℕ) (next : Progress) → job.work ≡ Decrypt given required → DrawsAtMost v u lines → session ≡ v.last + 1
     → v.live (v.last + 1) ≡ None → BeginsFile session Unseal None (Opening (opening_of given)) u w files left job.to next → TakesTurn manager job stages.Waiting next v w files left entropy entropy
 open_begins manager job given required v u w lines files left entropy session stages.Waiting work draws is undrawn file = absurd file.begins
@@ -116,7 +120,7 @@ open_begins manager job given required v u w lines files left entropy session (s
     (subst (λ (e : JobEnd). OpensSo manager given (seen_of job before then_held [] line) e) (sym (ap (λ (l : JobLine). l.end) file.begins.0)) fails))
 
 -- the same of the file that the desk and the shelf were given by its name
-pub open_begins_at : (manager : Managing) (job : Job) (given : List KeyValue) (required : List (List ℕ)) (v u w : DeskValue) (lines : List JournalLine) (files left : Option Files) (entropy : EntropyState)
+pub open_begins_at : (manager : Saying) (job : Job) (given : List KeyValue) (required : List (List ℕ)) (v u w : DeskValue) (lines : List JournalLine) (files left : Option Files) (entropy : EntropyState)
     (session : ℕ) (to : List ℕ) (next : Progress) → job.work ≡ Decrypt given required → job.to ≡ to → DrawsAtMost v u lines → session ≡ v.last + 1
     → v.live (v.last + 1) ≡ None → BeginsFile session Unseal None (Opening (opening_of given)) u w files left to next → TakesTurn manager job stages.Waiting next v w files left entropy entropy
 open_begins_at manager job given required v u w lines files left entropy session to next work at draws is undrawn file =

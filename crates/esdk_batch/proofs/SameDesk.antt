@@ -1,5 +1,5 @@
 -- Two values that one desk is worth: what a job knows of its session at one it knows at the other.
-use Rattle.std.proofs.Common.{◌≡◌, ◌++◌, ℕ, List, refl, sym, ap, subst, ◌∙◌}
+use Rattle.std.proofs.Common.{◌≡◌, refl, sym, subst, ◌∙◌}
 use Rattle.std.specs.Prelude.{Option, Some, None}
 use Rattle.keyring_trait.specs.declared.served.Served.{Served}
 use Rattle.stream_seal.specs.Session.{SealingValue}

@@ -34,7 +34,7 @@ use Rattle.esdk_batch.specs.declared.progress.Progress.{Progress}
 use Rattle.esdk_batch.specs.declared.progress.Progress.TheVariants as stages
 use Rattle.esdk_batch.specs.Batch.{WorksSo, kind_of, seen_of}
 use Rattle.esdk_batch.specs.Ending.{EndsFor}
-use Rattle.esdk_batch.specs.Managing.{Managing}
+use Rattle.keyring_trait.specs.Saying.{Saying}
 use Rattle.esdk_batch.specs.Opening.{BeginsFile, request_of}
 use Rattle.esdk_batch.specs.SealStory.{IsGiven, SealAsked, SealsSo, Seen, held, sealed_text, wish_of}
 use Rattle.esdk_batch.specs.Underway.{IsLive, IsSealing, TakesTurn}
@@ -46,14 +46,14 @@ abbrev work_of : SealAsked → Work
 work_of asked = Encrypt asked.declared asked.frame asked.context asked.required
 
 -- what is said of an encrypt job that ended
-sealed_line : (manager : Managing) (job : Job) (asked : SealAsked) (seen : Seen) (line : JobLine) → job.work ≡ work_of asked → line.kind ≡ Seal → SealsSo manager asked seen line.end
+sealed_line : (manager : Saying) (job : Job) (asked : SealAsked) (seen : Seen) (line : JobLine) → job.work ≡ work_of asked → line.kind ≡ Seal → SealsSo manager asked seen line.end
     → (line.kind ≡ kind_of job.work) × WorksSo manager job.work seen line.end
 sealed_line manager job asked seen line work kind seals = subst (λ (w : Work). (line.kind ≡ kind_of w) × WorksSo manager w seen line.end) (sym work) (kind, seals)
 
 -- ---- no session began
 
 -- no byte was drawn
-pub draws_nothing : (manager : Managing) (job : Job) (asked : SealAsked) (v : DeskValue) (files : Option Files) (entropy spent : EntropyState) (next : Progress)
+pub draws_nothing : (manager : Saying) (job : Job) (asked : SealAsked) (v : DeskValue) (files : Option Files) (entropy spent : EntropyState) (next : Progress)
     → job.work ≡ work_of asked → Keeps entropy.to_come spent.to_come
     → next ≡ stages.Ended (record { kind = Seal; end = ends.Outside outsides.EntropyFault; served = None })
     → TakesTurn manager job stages.Waiting next v v files files entropy spent
@@ -66,7 +66,7 @@ draws_nothing manager job asked v files entropy spent next work kept ends_so =
     sealed_line manager job asked _ (record { kind = Seal; end = ends.Outside outsides.EntropyFault; served = None }) work refl (record { drawn = refl; unserved = refl; same = same })))
 
 -- the desk answered an error
-pub opens_none : (manager : Managing) (job : Job) (asked : SealAsked) (v w : DeskValue) (lines : List JournalLine) (files : Option Files) (entropy spent : EntropyState) (random : List ℕ)
+pub opens_none : (manager : Saying) (job : Job) (asked : SealAsked) (v w : DeskValue) (lines : List JournalLine) (files : Option Files) (entropy spent : EntropyState) (random : List ℕ)
     (reply : Reply) (short : Bool) (id wraps : ℕ) (error : DeskError) (end : JobEnd) (served : Option Served) (next : Progress) → job.work ≡ work_of asked → DrawsAtMost v w lines
     → v.live (v.last + 1) ≡ None → w.live (v.last + 1) ≡ None → Consumes entropy.to_come spent.to_come random → length random ≡ draws wraps → wraps ≡ manager.wraps → Says manager asked random reply
     → served ≡ served_by reply → Err error ≡ (seal_opened (request_of asked) random reply short id).answer → EndsFor error (Ok end)
@@ -88,35 +88,38 @@ begins_front n first more whole is =
     sym (take_min n first) ∙ sym (take-append-le (min n (length first)) first more (omega arith)) ∙ ap (λ (l : List ℕ). take (min n (length first)) l) (sym is)
 
 -- What was drawn, given and begun with.
-pub record IsBegun (manager : Managing) (asked : SealAsked) (random : List ℕ) (m : EncMaterialsValue) (served : Option Served) : Type 0 where
+pub record IsBegun (manager : Saying) (asked : SealAsked) (random : List ℕ) (m : EncMaterialsValue) (served : Option Served) : Type 0 where
   pub wide : 1 ≤ asked.frame
   pub count : length random ≡ draws manager.wraps
-  pub gives : manager.gives (wish_of asked) (drawn_rest random) m
+  pub moment : ℕ
+  pub gives : manager.gives (wish_of asked) moment (drawn_rest random) m
   pub begins : start_refusal m None (id_in random) ≡ None
   pub serves : served ≡ Some m.served
 
-pub is_begun : (manager : Managing) (asked : SealAsked) (request : SealRequestValue) (random : List ℕ) (reply : Reply) (short : Bool) (id session wraps : ℕ) (served : Option Served)
+pub is_begun : (manager : Saying) (asked : SealAsked) (request : SealRequestValue) (random : List ℕ) (reply : Reply) (short : Bool) (id session wraps : ℕ) (served : Option Served)
     (b : HasBegun asked random reply short id session) → request ≡ request_of asked → 1 ≤ request.size → length random ≡ draws wraps → wraps ≡ manager.wraps → Says manager asked random reply
     → served ≡ served_by reply → IsBegun manager asked random b.materials served
 is_begun manager asked request random reply short id session wraps served b same wide count same_wraps says serves = record {
   wide = subst (λ (r : SealRequestValue). 1 ≤ r.size) same wide;
   count = count ∙ ap draws same_wraps;
-  gives = (subst (λ (r : Reply). Says manager asked random r) b.gives says).0;
+  moment = (subst (λ (r : Reply). Says manager asked random r) b.gives says).0.0;
+  gives = (subst (λ (r : Reply). Says manager asked random r) b.gives says).0.1;
   begins = b.begins;
   serves = serves ∙ ap (λ (r : Reply). served_by r) b.gives;
 }
 
 -- the session
 abbrev pub sealing_of : SealAsked → List ℕ → EncMaterialsValue → SealingValue
-sealing_of asked random m = seal.opened m asked.declared asked.frame (id_in random)
+sealing_of asked random m = seal.new_session m asked.declared asked.frame (id_in random)
 
-is_sealing : (manager : Managing) (asked : SealAsked) (from to : Option (List ℕ)) (random : List ℕ) (m : EncMaterialsValue) (served : Option Served) (live : Live)
+is_sealing : (manager : Saying) (asked : SealAsked) (from to : Option (List ℕ)) (random : List ℕ) (m : EncMaterialsValue) (served : Option Served) (live : Live)
     → IsBegun manager asked random m served → live.at ≡ 0 → live.served ≡ served → to ≡ Some (beginning (sealing_of asked random m))
     → IsSealing manager asked from to random live (sealing_of asked random m)
 is_sealing manager asked from to random m served live begun none serves holds =
     let fed : BeginsFed (sealing_of asked random m) = begin_fed m asked.declared asked.frame (id_in random) begun.wide in
     record {
       count = begun.count;
+      moment = begun.moment;
       given = begun.gives;
       served = serves ∙ begun.serves;
       begins = begun.begins;
@@ -129,10 +132,10 @@ is_sealing manager asked from to random m served live begun none serves holds =
     }
 
 -- the file wasn't made, or not whole
-fails_so : (manager : Managing) (asked : SealAsked) (seen : Seen) (random : List ℕ) (m : EncMaterialsValue) (served : Option Served) → IsBegun manager asked random m served → seen.drawn ≡ random
+fails_so : (manager : Saying) (asked : SealAsked) (seen : Seen) (random : List ℕ) (m : EncMaterialsValue) (served : Option Served) → IsBegun manager asked random m served → seen.drawn ≡ random
     → seen.served ≡ served → (seen.to ≡ seen.before) ⊎ ((n : ℕ) × (seen.to ≡ Some (take n (beginning (sealing_of asked random m))))) → SealsSo manager asked seen (ends.Outside outsides.ShelfFault)
 fails_so manager asked seen random m served begun drawn serves left =
-    let given : IsGiven manager asked seen m = is_given manager asked seen random m drawn begun.count begun.gives (serves ∙ begun.serves) in
+    let given : IsGiven manager asked seen m = is_given manager asked seen random m begun.moment drawn begun.count begun.gives (serves ∙ begun.serves) in
     let first : List ℕ = beginning (sealing_of asked random m) in
     let text : List ℕ = sealed_text asked seen in
     record {
@@ -154,7 +157,7 @@ fails_so manager asked seen random m served begun drawn serves left =
     }
 
 -- by what became of the file
-seal_begins : (manager : Managing) (job : Job) (asked : SealAsked) (v u w : DeskValue) (lines : List JournalLine) (files left : Option Files) (entropy spent : EntropyState) (random : List ℕ)
+seal_begins : (manager : Saying) (job : Job) (asked : SealAsked) (v u w : DeskValue) (lines : List JournalLine) (files left : Option Files) (entropy spent : EntropyState) (random : List ℕ)
     (m : EncMaterialsValue) (session : ℕ) (served : Option Served) (next : Progress) → job.work ≡ work_of asked → DrawsAtMost v u lines → session ≡ v.last + 1
     → v.live (v.last + 1) ≡ None → Consumes entropy.to_come spent.to_come random → IsBegun manager asked random m served → BeginsFile session Seal served (Sealing (sealing_of asked random m)) u w files left job.to next
     → TakesTurn manager job stages.Waiting next v w files left entropy spent
@@ -182,7 +185,7 @@ seal_begins manager job asked v u w lines files left entropy spent random m sess
     (subst (λ (e : JobEnd). SealsSo manager asked (seen_of job before then_held random line) e) (sym (ap (λ (l : JobLine). l.end) file.begins.0)) fails))
 
 -- the same of the file that the desk and the shelf were given by its name
-pub seal_begins_at : (manager : Managing) (job : Job) (asked : SealAsked) (v u w : DeskValue) (lines : List JournalLine) (files left : Option Files) (entropy spent : EntropyState) (random : List ℕ)
+pub seal_begins_at : (manager : Saying) (job : Job) (asked : SealAsked) (v u w : DeskValue) (lines : List JournalLine) (files left : Option Files) (entropy spent : EntropyState) (random : List ℕ)
     (m : EncMaterialsValue) (session : ℕ) (served : Option Served) (to : List ℕ) (next : Progress) → job.work ≡ work_of asked → job.to ≡ to → DrawsAtMost v u lines → session ≡ v.last + 1
     → v.live (v.last + 1) ≡ None → Consumes entropy.to_come spent.to_come random → IsBegun manager asked random m served → BeginsFile session Seal served (Sealing (sealing_of asked random m)) u w files left to next
     → TakesTurn manager job stages.Waiting next v w files left entropy spent

@@ -12,9 +12,9 @@ use Rattle.keyring_trait.specs.declared.journal.Kind.TheVariants.{Seal}
 use Rattle.keyring_trait.specs.declared.manager_errors.ManagerError.{ManagerError}
 use Rattle.keyring_trait.specs.declared.manager_errors.ManagerError.TheVariants as managers
 use Rattle.keyring_trait.specs.declared.served.Served.{Served}
-use Rattle.keyring_trait.specs.Manager.{ManagerMeaning, RefusalStands}
+use Rattle.keyring_trait.specs.Manager.{ManagerMeaning, ManagerNow, RefusalStands}
 use Rattle.keyring_trait.specs.Materials.{EncMaterialsValue}
-use Rattle.keyring_trait.specs.Requests.{EncRequestValue}
+use Rattle.keyring_trait.specs.Saying.{Admits, Saying, said_between, said_last}
 use Rattle.stream_seal.specs.Session as seal
 use Rattle.stream_seal.specs.Start.{start_refusal}
 use Rattle.esdk_encrypt.specs.Encrypt.{draws, drawn_rest}
@@ -22,18 +22,16 @@ use Rattle.esdk_encrypt.proofs.Fitting.{few_begin}
 use Rattle.desk_core.specs.declared.errors.DeskError.{DeskError}
 use Rattle.desk_core.specs.declared.errors.DeskError.TheVariants as errors
 use Rattle.desk_core.specs.SealRequest.{SealRequestValue}
-use Rattle.desk_core.specs.Session.{Fails, Gives, NoReply, Refuses, Reply, Sealing, SessionValue, begun, id_in, rest_in, seal_opened}
+use Rattle.desk_core.specs.Session.{Fails, Gives, NoReply, Refuses, Reply, Sealing, SessionValue, begun, id_in, seal_opened}
 use Rattle.desk_core.specs.Desk.{DeskValue, after_turn, drawn, lines_of, served_by}
-use Rattle.desk_core.specs.Stands.{Stands, journal_of, manager_of}
-use Rattle.desk_core.specs.Calls.{Giving, IsReply, IsWritable, OpensSeal, giving_of}
+use Rattle.desk_core.specs.Stands.{Stands, journal_of}
+use Rattle.desk_core.specs.Calls.{IsReply, IsWritable, OpensSeal}
 use Rattle.desk_core.specs.declared.live_sessions.Desk.{Desk}
 use Rattle.batch_report.specs.declared.job_lines.JobEnd.{JobEnd}
 use Rattle.batch_report.specs.declared.job_lines.JobEnd.TheVariants as ends
 use Rattle.esdk_batch.specs.Ending.{EndsFor}
-use Rattle.esdk_batch.specs.Managing.{Admits, ManagerNow, Managing}
 use Rattle.esdk_batch.specs.Opening.{request_of}
 use Rattle.esdk_batch.specs.SealStory.{IsGiven, IsGivenNone, SealAsked, SealsSo, Seen, wish_of}
-use Rattle.esdk_batch.proofs.ManagerViews.{Views, desk_moment}
 use Rattle.esdk_batch.proofs.FirstTurns.{served_behind}
 
 -- ---- what the manager said
@@ -46,10 +44,12 @@ IsOfManager refusals.NoGenerator = ⊤
 IsOfManager refusals.GeneratorHasKey = ⊤
 IsOfManager refusal = ⊥
 
--- it was said to the job's request, with these bytes; of what was given a header can be made
-abbrev pub Says : Managing → SealAsked → List ℕ → Reply → Type 0
+-- it was said to the job's request, at some moment, with these bytes; of what was given a header can
+-- be made
+abbrev pub Says : Saying → SealAsked → List ℕ → Reply → Type 0
 Says manager asked random NoReply = ⊤
-Says manager asked random (Gives m) = manager.gives (wish_of asked) (drawn_rest random) m × IsWritable m
+Says manager asked random (Gives m) =
+    ((moment : ℕ) × manager.gives (wish_of asked) moment (drawn_rest random) m) × IsWritable m
 Says manager asked random (Refuses refusal) = IsOfManager refusal × manager.gives_none (wish_of asked) (managers.Refusal refusal)
 Says manager asked random Fails = manager.gives_none (wish_of asked) managers.KeyringFault
 
@@ -60,33 +60,43 @@ of_manager meaning context refusals.NoGenerator stands = tt
 of_manager meaning context refusals.GeneratorHasKey stands = tt
 of_manager meaning context refusal stands = absurd stands
 
-pub says : (manager : Managing) (old new : ManagerNow) (gave : EncRequestValue → ℕ → List ℕ → EncMaterialsValue → Type 0) (asked : SealAsked) (now : ℕ) (random : List ℕ) (short : Bool) (reply : Reply)
-    → Admits manager old new → IsReply (giving_of old.meaning new.meaning old.tells old.exact gave (wish_of asked) now (rest_in random)) short reply → Says manager asked random reply
-says manager old new gave asked now random short NoReply admits replies = tt
-says manager old new gave asked now random short (Gives m) admits replies = (admits.gives (wish_of asked) (drawn_rest random) m replies.0.0, replies.1)
-says manager old new gave asked now random short (Refuses refusal) admits replies =
-    (of_manager old.meaning asked.context refusal replies.0.0, admits.gives_none (wish_of asked) (managers.Refusal refusal) replies.0)
-says manager old new gave asked now random short Fails admits replies = admits.gives_none (wish_of asked) managers.KeyringFault replies.0
+pub says : (manager : Saying) (old new : ManagerNow) (asked : SealAsked) (now : ℕ)
+    (random : List ℕ) (short : Bool) (reply : Reply) → Admits manager (said_between old new)
+    → IsReply (said_last old new) (request_of asked) now random short reply
+    → Says manager asked random reply
+says manager old new asked now random short NoReply admits replies = tt
+says manager old new asked now random short (Gives m) admits replies =
+    ((now, admits.gives (wish_of asked) now (drawn_rest random) m replies.0.0), replies.1)
+says manager old new asked now random short (Refuses refusal) admits replies = (
+  of_manager old.meaning asked.context refusal replies.0.0,
+  admits.gives_none (wish_of asked) (managers.Refusal refusal) replies.0,
+)
+says manager old new asked now random short Fails admits replies =
+    admits.gives_none (wish_of asked) managers.KeyringFault replies.0
 
 -- ---- no session began
 
 -- Bytes were drawn and the manager said this; the file is as before the batch.
-pub record IsAnswered (manager : Managing) (asked : SealAsked) (seen : Seen) (random : List ℕ) (reply : Reply) : Type 0 where
+pub record IsAnswered (manager : Saying) (asked : SealAsked) (seen : Seen) (random : List ℕ) (reply : Reply) : Type 0 where
   pub drawn : seen.drawn ≡ random
   pub count : length random ≡ draws manager.wraps
   pub says : Says manager asked random reply
   pub served : seen.served ≡ served_by reply
   pub same : seen.to ≡ seen.before
 
-pub is_given : (manager : Managing) (asked : SealAsked) (seen : Seen) (random : List ℕ) (m : EncMaterialsValue) → seen.drawn ≡ random → length random ≡ draws manager.wraps
-    → manager.gives (wish_of asked) (drawn_rest random) m → seen.served ≡ Some m.served → IsGiven manager asked seen m
-is_given manager asked seen random m drawn count gives served = record {
+pub is_given : (manager : Saying) (asked : SealAsked) (seen : Seen) (random : List ℕ)
+    (m : EncMaterialsValue) (moment : ℕ) → seen.drawn ≡ random → length random ≡ draws manager.wraps
+    → manager.gives (wish_of asked) moment (drawn_rest random) m → seen.served ≡ Some m.served
+    → IsGiven manager asked seen m
+is_given manager asked seen random m moment drawn count gives served = record {
   count = ap (λ (d : List ℕ). length d) drawn ∙ count;
-  given = subst (λ (d : List ℕ). manager.gives (wish_of asked) (drawn_rest d) m) (sym drawn) gives;
+  moment = moment;
+  given = subst (λ (d : List ℕ). manager.gives (wish_of asked) moment (drawn_rest d) m) (sym drawn)
+      gives;
   served = served;
 }
 
-given_none : (manager : Managing) (asked : SealAsked) (seen : Seen) (refusal : Refusal) → IsOfManager refusal → IsGivenNone manager asked seen (managers.Refusal refusal)
+given_none : (manager : Saying) (asked : SealAsked) (seen : Seen) (refusal : Refusal) → IsOfManager refusal → IsGivenNone manager asked seen (managers.Refusal refusal)
     → SealsSo manager asked seen (ends.Refusal refusal)
 given_none manager asked seen (refusals.ReservedPrefix key) of none = none
 given_none manager asked seen (refusals.RequiredAbsent key) of none = none
@@ -112,7 +122,7 @@ none_began : (asked : SealAsked) (random : List ℕ) (m : EncMaterialsValue) (id
 none_began asked random m id error None begins is = absurd cc
 none_began asked random m id error (Some refusal) begins is = absurd cc
 
-none_given : (manager : Managing) (asked : SealAsked) (seen : Seen) (random : List ℕ) (reply : Reply) (error : ManagerError) → IsAnswered manager asked seen random reply → served_by reply ≡ None
+none_given : (manager : Saying) (asked : SealAsked) (seen : Seen) (random : List ℕ) (reply : Reply) (error : ManagerError) → IsAnswered manager asked seen random reply → served_by reply ≡ None
     → manager.gives_none (wish_of asked) error → IsGivenNone manager asked seen error
 none_given manager asked seen random reply error answered none gives_none = record {
   count = ap (λ (d : List ℕ). length d) answered.drawn ∙ answered.count;
@@ -122,7 +132,7 @@ none_given manager asked seen random reply error answered none gives_none = reco
 }
 
 -- whatever error the desk answered
-pub seals_none : (manager : Managing) (asked : SealAsked) (seen : Seen) (random : List ℕ) (reply : Reply) (short : Bool) (id : ℕ) (error : DeskError) (end : JobEnd)
+pub seals_none : (manager : Saying) (asked : SealAsked) (seen : Seen) (random : List ℕ) (reply : Reply) (short : Bool) (id : ℕ) (error : DeskError) (end : JobEnd)
     → IsAnswered manager asked seen random reply → Err error ≡ (seal_opened (request_of asked) random reply short id).answer → EndsFor error (Ok end) → SealsSo manager asked seen end
 seals_none manager asked seen random NoReply short id error end answered is ends_for = absurd (no_memory error end (cc) ends_for)
 seals_none manager asked seen random (Gives m) true id error end answered is ends_for = absurd (no_memory error end (cc) ends_for)
@@ -148,7 +158,7 @@ pub record HasBegun (asked : SealAsked) (random : List ℕ) (reply : Reply) (sho
   pub gives : reply ≡ Gives materials
   pub begins : start_refusal materials None (id_in random) ≡ None
   pub same : session ≡ id
-  pub left : (seal_opened (request_of asked) random reply short id).left ≡ Some (Sealing (seal.opened materials asked.declared asked.frame (id_in random)))
+  pub left : (seal_opened (request_of asked) random reply short id).left ≡ Some (Sealing (seal.new_session materials asked.declared asked.frame (id_in random)))
 
 begun_with : (asked : SealAsked) (random : List ℕ) (m : EncMaterialsValue) (id session : ℕ) (refusal : Option Refusal) → start_refusal m None (id_in random) ≡ refusal
     → Ok session ≡ (begun (request_of asked) random m id refusal).answer → HasBegun asked random (Gives m) false id session
@@ -172,7 +182,7 @@ has_begun asked random Fails short id session is = absurd cc
 -- it is live
 pub sealing_live : (v : DeskValue) (asked : SealAsked) (random : List ℕ) (reply : Reply) (short : Bool) (session : ℕ) (b : HasBegun asked random reply short (v.last + 1) session)
     → update nat_eq v.live (v.last + 1) (seal_opened (request_of asked) random reply short (v.last + 1)).left session
-    ≡ Some (Sealing (seal.opened b.materials asked.declared asked.frame (id_in random)))
+    ≡ Some (Sealing (seal.new_session b.materials asked.declared asked.frame (id_in random)))
 sealing_live v asked random reply short session b =
     let left : Option SessionValue = (seal_opened (request_of asked) random reply short (v.last + 1)).left in
     ap (update nat_eq v.live (v.last + 1) left) b.same ∙ update_here v.live (v.last + 1) left ∙ b.left
@@ -180,38 +190,34 @@ sealing_live v asked random reply short session b =
 -- ---- what the desk did
 
 -- The next number was drawn, and the manager said this to the request; the journal has its line, and so the materials were served.
-pub record Opened {M : Type 0} (manager : Giving) (asked : SealAsked) (now : ℕ) (random : List ℕ) (v : DeskValue) (result : Result ℕ DeskError) (served : Option Served) (desk : Desk M) : Type 0 where
+pub record Opened {M : Type 0} (manager : Saying) (asked : SealAsked) (now : ℕ) (random : List ℕ) (v : DeskValue) (result : Result ℕ DeskError) (served : Option Served) (desk : Desk M) : Type 0 where
   pub reply : Reply
   pub short : Bool
-  pub replies : IsReply manager short reply
+  pub replies : IsReply manager (request_of asked) now random short reply
   pub answer : result ≡ (seal_opened (request_of asked) random reply short (v.last + 1)).answer
   pub serves : served ≡ served_by reply
   pub stands : Stands desk
       (after_turn (drawn v) (v.last + 1) (lines_of (v.last + 1) Seal now asked.declared (served_by reply)) (seal_opened (request_of asked) random reply short (v.last + 1)))
 
--- what the manager may say to the job's request in a call between these desks
-abbrev pub giving_at : {M : Type 0} → Views M → Desk M → Desk M → EncRequestValue → ℕ → List ℕ → Giving
-giving_at views old new wish now random =
-    giving_of (views.meaning (manager_of old)) (views.meaning (manager_of new)) (views.tells (manager_of old)) (views.exact (manager_of old)) (views.gave (manager_of new)) wish now (rest_in random)
-
-pub opened_so : {M : Type 0} (views : Views M) (old new : Desk M) (asked : SealAsked) (request : SealRequestValue) (now : ℕ) (random : List ℕ) (v : DeskValue) (result : Result ℕ DeskError)
-    (served : Option Served) (lines : List JournalLine) → request ≡ request_of asked → OpensSeal (giving_at views old new request.wish now random) v request now random result new → lines ≡ v.journal
-    → served ≡ option_map (λ (line : JournalLine). line.served) (slice_get (journal_of new) (length lines))
-    → Opened (giving_at views old new (wish_of asked) now random) asked now random v result served new
-opened_so views old new asked request now random v result served lines same opens were is =
-    let o : OpensSeal (giving_at views old new (wish_of asked) now random) v (request_of asked) now random result new =
-    subst (λ (r : SealRequestValue). OpensSeal (giving_at views old new r.wish now random) v r now random result new) same opens in
+pub opened_so : {M : Type 0} (manager : Saying) (new : Desk M) (asked : SealAsked)
+    (request : SealRequestValue) (now : ℕ) (random : List ℕ) (v : DeskValue)
+    (result : Result ℕ DeskError) (served : Option Served) (lines : List JournalLine)
+    → request ≡ request_of asked → OpensSeal manager v request now random result new
+    → lines ≡ v.journal
+    → served ≡ option_map (λ (line : JournalLine). line.served)
+    (slice_get (journal_of new) (length lines))
+    → Opened manager asked now random v result served new
+opened_so manager new asked request now random v result served lines same opens were is =
+    let o : OpensSeal manager v (request_of asked) now random result new =
+    subst (λ (r : SealRequestValue). OpensSeal manager v r now random result new) same opens in
     record {
       reply = o.reply;
       short = o.short;
       replies = o.replies;
       answer = o.answer;
       serves = is
-          ∙ served_behind (v.last + 1) Seal now asked.declared (served_by o.reply) v.journal (journal_of new) (length lines) (ap (λ (l : List JournalLine). length l) were) o.stands.journal;
+          ∙ served_behind (v.last + 1) Seal now asked.declared (served_by o.reply) v.journal
+          (journal_of new) (length lines) (ap (λ (l : List JournalLine). length l) were)
+          o.stands.journal;
       stands = o.stands;
     }
-
-pub says_at : {M : Type 0} (views : Views M) (manager : Managing) (old new : Desk M) (asked : SealAsked) (now : ℕ) (random : List ℕ) (short : Bool) (reply : Reply)
-    → Admits manager (desk_moment views old) (desk_moment views new) → IsReply (giving_at views old new (wish_of asked) now random) short reply → Says manager asked random reply
-says_at views manager old new asked now random short reply admits replies =
-    says manager (desk_moment views old) (desk_moment views new) (views.gave (manager_of new)) asked now random short reply admits replies

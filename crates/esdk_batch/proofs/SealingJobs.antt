@@ -21,7 +21,7 @@ use Rattle.desk_core.specs.Session.{SessionValue, Sealing}
 use Rattle.esdk_batch.specs.Ending.{FinishesSo, SealsPiece}
 use Rattle.esdk_batch.specs.Files.{most_input}
 use Rattle.esdk_base.specs.Shelf.{Files, file_of}
-use Rattle.esdk_batch.specs.Managing.{Managing}
+use Rattle.keyring_trait.specs.Saying.{Saying}
 use Rattle.esdk_batch.specs.SealStory as story
 use Rattle.esdk_batch.specs.SealStory.{IsGiven, SealAsked, SealsFront, SealsSo, SealsTooMuch, Seen, most_sealed, wish_of}
 use Rattle.esdk_batch.specs.Underway.{IsSealing, Took}
@@ -107,9 +107,9 @@ begins_finished v bytes is e = ap (λ (t : List ℕ). message_of v.materials v.s
 abbrev pub seen_with : Option (List ℕ) → Option (List ℕ) → Option (List ℕ) → List ℕ → Option Served → Seen
 seen_with from before to drawn served = record { from = from; before = before; to = to; drawn = drawn; served = served }
 
-is_given : (manager : Managing) (asked : SealAsked) (from before to after : Option (List ℕ)) (drawn : List ℕ) (live : Live) (s : SealingValue) → IsSealing manager asked from to drawn live s
+is_given : (manager : Saying) (asked : SealAsked) (from before to after : Option (List ℕ)) (drawn : List ℕ) (live : Live) (s : SealingValue) → IsSealing manager asked from to drawn live s
     → IsGiven manager asked (seen_with from before after drawn live.served) s.materials
-is_given manager asked from before to after drawn live s at = record { count = at.count; given = at.given; served = at.served }
+is_given manager asked from before to after drawn live s at = record { count = at.count; moment = at.moment; given = at.given; served = at.served }
 
 -- the job's message is that of its session
 asked_message : (asked : SealAsked) (v : SealingValue) (id bytes : List ℕ) → v.declared ≡ asked.declared → v.size ≡ asked.frame → v.id ≡ id
@@ -121,7 +121,7 @@ asked_message asked v id bytes d s i = by_parts v.declared asked.declared v.size
     by_parts a b m n x y e f g = cc
 
 -- the file holds bytes with which the message begins
-pub seals_front : (manager : Managing) (asked : SealAsked) (from before to after : Option (List ℕ)) (drawn : List ℕ) (live : Live) (s : SealingValue) (bytes : List ℕ)
+pub seals_front : (manager : Saying) (asked : SealAsked) (from before to after : Option (List ℕ)) (drawn : List ℕ) (live : Live) (s : SealingValue) (bytes : List ℕ)
     → IsSealing manager asked from to drawn live s → after ≡ Some bytes → Begins bytes (message_in s (story.held from)) → SealsFront manager asked (seen_with from before after drawn live.served)
 seals_front manager asked from before to after drawn live s bytes at holds begins =
     let message : message_in s (story.held from) ≡ message_of s.materials asked.frame (drawn_id drawn) (take (most_sealed asked) (story.held from)) =
@@ -135,7 +135,7 @@ seals_front manager asked from before to after drawn live s bytes at holds begin
     }
 
 -- all that was given before
-pub unfed : (manager : Managing) (asked : SealAsked) (from before to : Option (List ℕ)) (drawn : List ℕ) (live : Live) (s : SealingValue)
+pub unfed : (manager : Saying) (asked : SealAsked) (from before to : Option (List ℕ)) (drawn : List ℕ) (live : Live) (s : SealingValue)
     → IsSealing manager asked from to drawn live s → SealsFront manager asked (seen_with from before to drawn live.served)
 unfed manager asked from before to drawn live s at =
     seals_front manager asked from before to to drawn live s (given_so_far s) at at.holds
@@ -149,7 +149,7 @@ begins_cut n bytes out message begins = record {
       ∙ append_assoc (bytes ++ take n out) (drop n out) begins.more;
 }
 
-shelf_fails : (manager : Managing) (asked : SealAsked) (from before to after : Option (List ℕ)) (drawn : List ℕ) (live : Live) (s : SealingValue) (bytes : List ℕ)
+shelf_fails : (manager : Saying) (asked : SealAsked) (from before to after : Option (List ℕ)) (drawn : List ℕ) (live : Live) (s : SealingValue) (bytes : List ℕ)
     → IsSealing manager asked from to drawn live s → after ≡ Some bytes → Begins bytes (message_in s (story.held from))
     → SealsSo manager asked (seen_with from before after drawn live.served) (ends.Outside outsides.ShelfFault)
 shelf_fails manager asked from before to after drawn live s bytes at holds begins = record {
@@ -161,13 +161,13 @@ shelf_fails manager asked from before to after drawn live s bytes at holds begin
 -- ---- how it ends early
 
 -- no piece was read
-pub seal_unread : (manager : Managing) (asked : SealAsked) (from before to : Option (List ℕ)) (drawn : List ℕ) (live : Live) (s : SealingValue)
+pub seal_unread : (manager : Saying) (asked : SealAsked) (from before to : Option (List ℕ)) (drawn : List ℕ) (live : Live) (s : SealingValue)
     → IsSealing manager asked from to drawn live s → SealsSo manager asked (seen_with from before to drawn live.served) (ends.Outside outsides.ShelfFault)
 seal_unread manager asked from before to drawn live s at =
     record { materials = s.materials; given = is_given manager asked from before to to drawn live s at; left = inr (unfed manager asked from before to drawn live s at) }
 
 -- too many bytes came
-pub seal_too_long : (manager : Managing) (asked : SealAsked) (from before to : Option (List ℕ)) (drawn : List ℕ) (live : Live) (s : SealingValue) → live.at ≡ most_input
+pub seal_too_long : (manager : Saying) (asked : SealAsked) (from before to : Option (List ℕ)) (drawn : List ℕ) (live : Live) (s : SealingValue) → live.at ≡ most_input
     → IsSealing manager asked from to drawn live s → SealsSo manager asked (seen_with from before to drawn live.served) (ends.Outside outsides.InputTooLong)
 seal_too_long manager asked from before to drawn live s most at = record {
   front = unfed manager asked from before to drawn live s at;
@@ -177,7 +177,7 @@ seal_too_long manager asked from before to drawn live s most at = record {
 -- ---- a piece
 
 -- the session goes on
-pub seal_goes : (manager : Managing) (asked : SealAsked) (from to after : Option (List ℕ)) (drawn : List ℕ) (live next : Live) (s : SealingValue) (piece : List ℕ) (count : ℕ)
+pub seal_goes : (manager : Saying) (asked : SealAsked) (from to after : Option (List ℕ)) (drawn : List ℕ) (live next : Live) (s : SealingValue) (piece : List ℕ) (count : ℕ)
     → next.at ≡ live.at + count → next.served ≡ live.served → IsSealing manager asked from to drawn live s → TookPiece s.taken piece live.at count from
     → feed_refusal s piece ≡ None → after ≡ Some (given_so_far s ++ fed_out s piece) → IsSealing manager asked from after drawn next (fed s piece)
 seal_goes manager asked from to after drawn live next s piece count further served at took none holds =
@@ -185,7 +185,8 @@ seal_goes manager asked from to after drawn live next s piece count further serv
     let whole = one.whole none in
     record {
       count = at.count;
-      given = subst (λ (m : EncMaterialsValue). manager.gives (wish_of asked) (drawn_rest drawn) m) (sym one.same.materials) at.given;
+      moment = at.moment;
+      given = subst (λ (m : EncMaterialsValue). manager.gives (wish_of asked) at.moment (drawn_rest drawn) m) (sym one.same.materials) at.given;
       served = served ∙ at.served ∙ ap (λ (m : EncMaterialsValue). Some m.served) (sym one.same.materials);
       begins = ap (λ (m : EncMaterialsValue). start_refusal m None (drawn_id drawn)) one.same.materials ∙ at.begins;
       declared = one.same.declared ∙ at.declared;
@@ -211,7 +212,7 @@ cause_is v piece refusal why = by_test (nat_le (length (v.taken ++ piece)) (most
     by_test false cause e = cc
 
 -- the two refusals of a session that is fed
-too_much_at : (manager : Managing) (asked : SealAsked) (seen : Seen) (declared : Option ℕ) (room : ℕ) → SealsTooMuch manager asked seen (over_of declared room)
+too_much_at : (manager : Saying) (asked : SealAsked) (seen : Seen) (declared : Option ℕ) (room : ℕ) → SealsTooMuch manager asked seen (over_of declared room)
     → SealsSo manager asked seen (ends.Refusal (over_of declared room))
 too_much_at manager asked seen None room over = over
 too_much_at manager asked seen (Some whole) room over = by_test (nat_le whole room) over
@@ -221,7 +222,7 @@ too_much_at manager asked seen (Some whole) room over = by_test (nat_le whole ro
     by_test true over = over
     by_test false over = over
 
-too_much : (manager : Managing) (asked : SealAsked) (seen : Seen) (declared : Option ℕ) (room : ℕ) (refusal : Refusal) → over_of declared room ≡ refusal
+too_much : (manager : Saying) (asked : SealAsked) (seen : Seen) (declared : Option ℕ) (room : ℕ) (refusal : Refusal) → over_of declared room ≡ refusal
     → SealsTooMuch manager asked seen refusal → SealsSo manager asked seen (ends.Refusal refusal)
 too_much manager asked seen declared room refusal cause over =
     subst (λ (r : Refusal). SealsTooMuch manager asked seen r → SealsSo manager asked seen (ends.Refusal r)) cause (too_much_at manager asked seen declared room) over
@@ -239,7 +240,7 @@ begins_piece : (from : Option (List ℕ)) (s : SealingValue) (piece : List ℕ) 
 begins_piece from s piece at count is took =
     subst (λ (l : List ℕ). Begins (given_so_far s ++ fed_out s piece) (message_in s l)) (sym took.took.front) (begins s piece (drop (at + count) (story.held from)) is)
 
-seal_refused : (manager : Managing) (asked : SealAsked) (from before to after : Option (List ℕ)) (drawn : List ℕ) (live : Live) (s : SealingValue) (piece : List ℕ) (count : ℕ) (refusal : Refusal)
+seal_refused : (manager : Saying) (asked : SealAsked) (from before to after : Option (List ℕ)) (drawn : List ℕ) (live : Live) (s : SealingValue) (piece : List ℕ) (count : ℕ) (refusal : Refusal)
     → IsSealing manager asked from to drawn live s → TookPiece s.taken piece live.at count from → feed_refusal s piece ≡ Some refusal
     → after ≡ Some (given_so_far s ++ fed_out s piece) → SealsSo manager asked (seen_with from before after drawn live.served) (ends.Refusal refusal)
 seal_refused manager asked from before to after drawn live s piece count refusal at took why holds =
@@ -258,7 +259,7 @@ seal_refused manager asked from before to after drawn live s piece count refusal
     })
 
 -- how a job ends whose piece was fed
-pub seal_ends : (manager : Managing) (asked : SealAsked) (from before : Option (List ℕ)) (drawn : List ℕ) (live : Live) (s : SealingValue) (piece to : List ℕ) (count : ℕ)
+pub seal_ends : (manager : Saying) (asked : SealAsked) (from before : Option (List ℕ)) (drawn : List ℕ) (live : Live) (s : SealingValue) (piece to : List ℕ) (count : ℕ)
     (session : Option SessionValue) (files after : Option Files) (now left : Files) (end : JobEnd) → IsSealing manager asked from (file_of (Some now) to) drawn live s
     → TookPiece s.taken piece live.at count from → files ≡ Some now → after ≡ Some left → SealsPiece s piece session to files after (Some end)
     → SealsSo manager asked (seen_with from before (file_of (Some left) to) drawn live.served) end
@@ -273,7 +274,7 @@ seal_ends manager asked from before drawn live s piece to count session files af
 
 -- ---- the end
 
-seal_done : (manager : Managing) (asked : SealAsked) (from before to after : Option (List ℕ)) (drawn : List ℕ) (live : Live) (s : SealingValue)
+seal_done : (manager : Saying) (asked : SealAsked) (from before to after : Option (List ℕ)) (drawn : List ℕ) (live : Live) (s : SealingValue)
     → IsSealing manager asked from to drawn live s → from ≡ Some s.taken → after ≡ Some (given_so_far s ++ (finished s).out)
     → SealsSo manager asked (seen_with from before after drawn live.served) ends.Done
 seal_done manager asked from before to after drawn live s at whole holds = record {
@@ -288,7 +289,7 @@ seal_done manager asked from before to after drawn live s at whole holds = recor
 }
 
 -- how a job ends whose file's end was seen
-pub seal_finishes : (manager : Managing) (asked : SealAsked) (from before : Option (List ℕ)) (drawn : List ℕ) (live : Live) (s : SealingValue) (to : List ℕ)
+pub seal_finishes : (manager : Saying) (asked : SealAsked) (from before : Option (List ℕ)) (drawn : List ℕ) (live : Live) (s : SealingValue) (to : List ℕ)
     (files after : Option Files) (now left : Files) (end : JobEnd) → IsSealing manager asked from (file_of (Some now) to) drawn live s
     → from ≡ Some s.taken → files ≡ Some now → after ≡ Some left → FinishesSo (Sealing s) to files after end
     → SealsSo manager asked (seen_with from before (file_of (Some left) to) drawn live.served) end

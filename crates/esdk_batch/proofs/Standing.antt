@@ -1,39 +1,35 @@
 -- A turn of one job: what all jobs come to.
-use Rattle.std.proofs.Common.{◌≡◌, ◌≢◌, ◌<◌, ◌≤◌, ◌+◌, ◌-◌, ◌^◌, ℕ, zero, suc, min, Bool, true, false, List, [], ◌∷◌, ◌++◌, length, map, take, get_or, set, refl, sym, ap, subst, ◌∙◌, inl, inr, arith, append_assoc, append-nil, length-set, get_or-set_same, get_or-set_other}
-use Rattle.std.specs.Prelude.{◌⊎◌, All, AllPairs, Option, Some, None, is_some, zip, filter_map, sum_by, bytes_eq}
-use Rattle.std.specs.List.{concat, list_any}
+use Rattle.std.proofs.Common.{◌≡◌, ◌≢◌, ◌<◌, ◌≤◌, ℕ, true, false, List, [], ◌++◌, length, map, get_or, set, refl, sym, ap, subst, ◌∙◌, inl, inr, arith, append_assoc, length-set, get_or-set_same, get_or-set_other}
+use Rattle.std.specs.Prelude.{◌⊎◌, AllPairs, Option, Some, None, is_some, zip, filter_map, bytes_eq}
+use Rattle.std.specs.List.{concat}
 use Rattle.std.specs.Option.{option_to_list}
 use Rattle.std.specs.List.Sorted.{IsPermutation}
 use Rattle.std.specs.Io.KnownBytes.{Consumes}
 use Rattle.std.specs.Cmp.Lexicographic.{bytes_decides}
 use Rattle.std.proofs.KnownBytes.{Consumes-trans}
 use Rattle.std.proofs.lemmas.Bool.{cases_eq, cases_lt}
-use Rattle.std.proofs.lemmas.List.{get_or_read, get_or_default, map-append}
-use Rattle.std.proofs.lemmas.List.Elements.{All-append, All-nil, All-head, All-tail, All-cons, All-weaker}
+use Rattle.std.proofs.lemmas.List.{get_or_read, map-append}
 use Rattle.std.proofs.lemmas.List.Folds.{list_any_at}
-use Rattle.std.proofs.lemmas.List.Sums.{sum_by-set}
 use Rattle.std.proofs.lemmas.List.Sorted.{IsPermutation-append_left, IsPermutation-sym, IsPermutation-trans}
 use Rattle.esdk_fields.specs.Counts.{Stayed}
 use Rattle.esdk_base.specs.Shelf.{Files, file_of}
 use Rattle.esdk_base.specs.Streams.{EntropyState}
 use Rattle.keyring_trait.specs.declared.journal.JournalLine.{JournalLine}
-use Rattle.keyring_trait.specs.declared.journal.Kind.TheVariants.{Seal, Unseal}
-use Rattle.desk_core.specs.Session.{SessionValue}
 use Rattle.desk_core.specs.Desk.{DeskValue}
 use Rattle.job_file.specs.declared.job.Job.{Job}
 use Rattle.job_file.specs.JobFile.{is_written}
 use Rattle.esdk_batch.specs.declared.progress.Progress.{Progress}
 use Rattle.esdk_batch.specs.declared.progress.Progress.TheVariants as stages
 use Rattle.esdk_batch.specs.Files.{KeepsOthers}
-use Rattle.esdk_batch.specs.Batch.{Answered, OnlyWritten, SealsFirst, in_line}
-use Rattle.esdk_batch.specs.Managing.{Managing}
+use Rattle.esdk_batch.specs.Batch.{OnlyWritten, in_line}
+use Rattle.keyring_trait.specs.Saying.{Saying}
 use Rattle.esdk_batch.specs.Underway.{IsAt, TakesTurn}
-use Rattle.esdk_batch.specs.Turns.{AddsLines, DrawsBytes, DrawsNumber, HasKind, answered_so_far}
-use Rattle.esdk_batch.specs.Rounds.{AreApart, AreAt, Beginning, HaveBegun, HaveDrawn, HaveSealed, HaveSessions, Stand, all_waits, has_begun}
+use Rattle.esdk_batch.specs.Turns.{AddsLines, DrawsBytes, HasKind, answered_so_far}
+use Rattle.esdk_batch.specs.Rounds.{AreApart, AreAt, Beginning, HaveBegun, HaveDrawn, HaveSessions, Stand, has_begun}
 use Rattle.esdk_batch.proofs.Beside.{rest_set}
-use Rattle.esdk_batch.proofs.Places.{at_places, concat_last, finds_more, front_at, front_set, nothing_more, taken_unknown, takes_none}
+use Rattle.esdk_batch.proofs.Places.{at_places, concat_last, finds_more, nothing_more, taken_unknown, takes_none}
 use Rattle.esdk_batch.proofs.SealedFirst.{sealed_after}
-use Rattle.esdk_batch.proofs.Turning.{KeepsSession, Turned, begun_by, begun_waits_not, kept_at, sessions_after, stays_at}
+use Rattle.esdk_batch.proofs.Turning.{Turned, begun_by, begun_waits_not, kept_at, sessions_after, stays_at}
 
 -- ---- bytes that were drawn
 
@@ -135,7 +131,7 @@ still_told now later left tells is = told now (sym tells ∙ ap is_some is)
 
 -- ---- where each job stands
 
-module _ (manager : Managing) (jobs : List Job) (progress : List Progress) (i : ℕ) (job : Job) (old new : Progress) (v w : DeskValue) (now later : Option Files) (entropy spent : EntropyState)
+module _ (manager : Saying) (jobs : List Job) (progress : List Progress) (i : ℕ) (job : Job) (old new : Progress) (v w : DeskValue) (now later : Option Files) (entropy spent : EntropyState)
     (apart : AreApart jobs) (turned : Turned jobs progress i job old new v.last w.last v.live w.live) (have : HaveSessions jobs progress v.live)
     (turn : TakesTurn manager job old new v w now later entropy spent) (before : Option Files) (others : OnlyWritten jobs before now) (draws : List (List ℕ)) (count : length draws ≡ length progress)
     (at : (files held : Files) → before ≡ Some files → now ≡ Some held → AreAt manager jobs files held draws v.live progress) where
@@ -193,7 +189,7 @@ later_by (stages.Live live) last next entropy spent bytes = omega (arith, ap (λ
 later_by (stages.Ended line) last next entropy spent bytes = omega (arith, ap (λ (s : EntropyState). s.faults) bytes)
 
 -- A turn of the job at a place, in all that it comes to.
-pub record TakesAll (manager : Managing) (jobs : List Job) (width : ℕ) (progress : List Progress) (i : ℕ) (job : Job) (old new : Progress) (v w : DeskValue) (now later : Option Files)
+pub record TakesAll (manager : Saying) (jobs : List Job) (width : ℕ) (progress : List Progress) (i : ℕ) (job : Job) (old new : Progress) (v w : DeskValue) (now later : Option Files)
     (entropy spent : EntropyState) : Type 0 where
   pub apart : AreApart jobs
   pub turned : Turned jobs progress i job old new v.last w.last v.live w.live
@@ -203,7 +199,7 @@ pub record TakesAll (manager : Managing) (jobs : List Job) (width : ℕ) (progre
   pub kind : HasKind job.work old → HasKind job.work new
   pub window : (old ≡ stages.Waiting) ⊎ HaveBegun width progress
 
-pub stand_after : (manager : Managing) (jobs : List Job) (width : ℕ) (began : Beginning) (progress : List Progress) (i : ℕ) (job : Job) (old new : Progress) (v w : DeskValue)
+pub stand_after : (manager : Saying) (jobs : List Job) (width : ℕ) (began : Beginning) (progress : List Progress) (i : ℕ) (job : Job) (old new : Progress) (v w : DeskValue)
     (now later : Option Files) (entropy spent : EntropyState) → TakesAll manager jobs width progress i job old new v w now later entropy spent
     → Stand manager jobs width began now entropy v progress → Stand manager jobs width began later spent w (set progress i new)
 stand_after manager jobs width began progress i job old new v w now later entropy spent t stand =

@@ -10,18 +10,18 @@ use Rattle.job_file.specs.declared.job.Job.{Job}
 use Rattle.esdk_batch.specs.declared.progress.Live.{Live}
 use Rattle.esdk_batch.specs.declared.progress.Progress.{Progress}
 use Rattle.esdk_batch.specs.declared.progress.Progress.TheVariants as stages
-use Rattle.esdk_batch.specs.Managing.{Managing}
+use Rattle.keyring_trait.specs.Saying.{Saying}
 use Rattle.esdk_batch.specs.Turns.{AddsLines}
 use Rattle.esdk_batch.specs.Underway.{FurtherTurn, HasSession, IsAt, TakesTurn}
 use Rattle.esdk_batch.proofs.Took.{keeps_all}
 
 -- no byte was drawn
-drawn_none : (manager : Managing) (job : Job) (before left : Files) (drawn : List ℕ) (live : ℕ → Option SessionValue) (progress : Progress) → IsAt manager job before left drawn live progress
+drawn_none : (manager : Saying) (job : Job) (before left : Files) (drawn : List ℕ) (live : ℕ → Option SessionValue) (progress : Progress) → IsAt manager job before left drawn live progress
     → IsAt manager job before left (drawn ++ []) live progress
 drawn_none manager job before left drawn live progress at = subst (λ (d : List ℕ). IsAt manager job before left d live progress) (sym (append-nil drawn)) at
 
 -- a further turn is a turn that draws no bytes
-pub further_taken : (manager : Managing) (job : Job) (live : Live) (next : Progress) (v w : DeskValue) (files left : Option Files) (entropy : EntropyState)
+pub further_taken : (manager : Saying) (job : Job) (live : Live) (next : Progress) (v w : DeskValue) (files left : Option Files) (entropy : EntropyState)
     → FurtherTurn manager job live next v w files left → TakesTurn manager job (stages.Live live) next v w files left entropy entropy
 further_taken manager job live next v w files left entropy turn = record {
   more = [];
@@ -41,7 +41,7 @@ same_files : (files : Option Files) (now left : Files) → files ≡ Some now �
 same_files files now left is later = cc
 
 -- no turn
-pub none_taken : (manager : Managing) (job : Job) (progress : Progress) (v : DeskValue) (files : Option Files) (entropy : EntropyState) → HasSession v.live progress
+pub none_taken : (manager : Saying) (job : Job) (progress : Progress) (v : DeskValue) (files : Option Files) (entropy : EntropyState) → HasSession v.live progress
     → TakesTurn manager job progress progress v v files files entropy entropy
 none_taken manager job progress v files entropy has = record {
   more = [];
@@ -60,7 +60,7 @@ none_taken manager job progress v files entropy has = record {
 
 -- ---- as the code says it
 
-pub turn_as : (manager : Managing) (job : Job) (old known new : Progress) (v w : DeskValue) (files left : Option Files) (entropy spent : EntropyState) → old ≡ known
+pub turn_as : (manager : Saying) (job : Job) (old known new : Progress) (v w : DeskValue) (files left : Option Files) (entropy spent : EntropyState) → old ≡ known
     → TakesTurn manager job known new v w files left entropy spent → TakesTurn manager job old new v w files left entropy spent
 turn_as manager job old known new v w files left entropy spent is turn = subst (λ (p : Progress). TakesTurn manager job p new v w files left entropy spent) (sym is) turn
 

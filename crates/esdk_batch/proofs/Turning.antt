@@ -1,20 +1,17 @@
 -- A turn of one job: what it leaves of the other jobs' sessions, and of their files.
-use Rattle.std.proofs.Common.{◌≡◌, ◌≢◌, ◌<◌, ◌≤◌, ◌+◌, ℕ, Bool, true, false, List, [], ◌++◌, length, take, get_or, set, refl, sym, ap, subst, ◌∙◌, inl, inr, arith}
-use Rattle.std.specs.Prelude.{◌⊎◌, All, AllPairs, Option, Some, None}
-use Rattle.std.proofs.lemmas.Bool.{cases_eq, cases_lt}
+use Rattle.std.proofs.Common.{◌≡◌, ◌≢◌, ◌<◌, ◌≤◌, ℕ, true, false, List, length, get_or, set, refl, sym, ap, subst, ◌∙◌, inl, inr, arith}
+use Rattle.std.specs.Prelude.{AllPairs, Option, Some, None}
+use Rattle.std.proofs.lemmas.Bool.{cases_lt}
 use Rattle.std.proofs.lemmas.List.{get_or_read, get_or_default}
 use Rattle.esdk_base.specs.Shelf.{Files, file_of}
-use Rattle.desk_core.specs.Session.{SessionValue, Sealing, Opening}
-use Rattle.stream_seal.specs.Session.{SealingValue}
-use Rattle.stream_open.specs.Session.{OpeningValue}
+use Rattle.desk_core.specs.Session.{SessionValue}
 use Rattle.job_file.specs.declared.job.Job.{Job}
 use Rattle.job_file.specs.declared.job.Work.{Work}
 use Rattle.job_file.specs.declared.job.Work.TheVariants.{Encrypt, Decrypt}
-use Rattle.esdk_batch.specs.declared.progress.Live.{Live}
 use Rattle.esdk_batch.specs.declared.progress.Progress.{Progress}
 use Rattle.esdk_batch.specs.declared.progress.Progress.TheVariants as stages
 use Rattle.esdk_batch.specs.Batch.{WorksSo}
-use Rattle.esdk_batch.specs.Managing.{Managing}
+use Rattle.keyring_trait.specs.Saying.{Saying}
 use Rattle.esdk_batch.specs.Underway.{HasSession, IsAt, IsLive, LacksSession}
 use Rattle.esdk_batch.specs.Turns.{DrawsNumber, Knows}
 use Rattle.esdk_batch.specs.Rounds.{HasOwn, HaveBegun, HaveSessions, has_begun}
@@ -78,7 +75,7 @@ knows_kept live left (Decrypt given required) (stages.Live now) kept knows = (kn
 knows_kept live left work (stages.Ended line) kept knows = tt
 
 -- where its session and its file are as before, it stands where it stood
-pub stays_at : (manager : Managing) (job : Job) (before now later : Files) (drawn : List ℕ) (live left : ℕ → Option SessionValue) (one : Progress)
+pub stays_at : (manager : Saying) (job : Job) (before now later : Files) (drawn : List ℕ) (live left : ℕ → Option SessionValue) (one : Progress)
     → file_of (Some later) job.to ≡ file_of (Some now) job.to → KeepsSession one live left → IsAt manager job before now drawn live one → IsAt manager job before later drawn left one
 stays_at manager job before now later drawn live left stages.Waiting same kept at = (at.0, same ∙ at.1)
 stays_at manager job before now later drawn live left (stages.Live l) same kept at =

@@ -1,6 +1,6 @@
 -- A file is put in its place: what was so of its job is so of the line that it leaves.
-use Rattle.std.proofs.Common.{◌≡◌, ◌≤◌, ◌<◌, ◌∙◌, ℕ, Bool, true, false, List, [], ◌++◌, length, take, refl, sym, ap, subst, inl, inr, arith}
-use Rattle.std.specs.Prelude.{Option, Some, None, if◌then◌else◌}
+use Rattle.std.proofs.Common.{◌≡◌, ◌≤◌, ◌<◌, ◌∙◌, ℕ, Bool, true, false, List, ◌++◌, length, take, refl, sym, ap, subst, inl, inr, arith}
+use Rattle.std.specs.Prelude.{Option, Some, if◌then◌else◌}
 use Rattle.std.proofs.lemmas.List.{take_all}
 use Rattle.esdk_fields.specs.declared.refusals.Outside.TheVariants as outsides
 use Rattle.esdk_fields.specs.Counts.{Rose, RoseBy}
@@ -10,8 +10,6 @@ use Rattle.context_codec.specs.Context.{KeyValue}
 use Rattle.stream_seal.specs.Start.{message_of}
 use Rattle.esdk_encrypt.specs.Encrypt.{drawn_id}
 use Rattle.message_format.specs.Judgement.{content}
-use Rattle.esdk_decrypt.specs.Decrypt.{AnswersTo}
-use Rattle.keyring_trait.specs.Unlocking.{Unlocking}
 use Rattle.desk_core.specs.Desk.{DeskValue}
 use Rattle.job_file.specs.declared.job.Job.{Job}
 use Rattle.job_file.specs.declared.job.Work.{Work}
@@ -21,21 +19,22 @@ use Rattle.batch_report.specs.declared.job_lines.JobEnd.{JobEnd}
 use Rattle.batch_report.specs.declared.job_lines.JobEnd.TheVariants as ends
 use Rattle.esdk_batch.specs.declared.progress.Progress.{Progress}
 use Rattle.esdk_batch.specs.declared.progress.Progress.TheVariants as stages
-use Rattle.esdk_batch.specs.Batch.{WorksSo, kind_of, seen_of}
-use Rattle.esdk_batch.specs.Failures.{HasFile, Tally, TurnCounts, entropy_fails, fails_by, keyring_fails, shelf_fails, shelf_fails_of, tally_of}
+use Rattle.esdk_batch.specs.Batch.{WorksSo, seen_of}
+use Rattle.esdk_batch.specs.Failures.{HasFile, Tally, TurnCounts, entropy_fails, fails_by, keyring_fails, shelf_fails_of, tally_of}
 use Rattle.esdk_batch.specs.Files.{KeepsOthers}
-use Rattle.esdk_batch.specs.Managing.{Managing, no_limits}
+use Rattle.keyring_trait.specs.Saying.{Saying}
+use Rattle.esdk_batch.specs.Answering.{HasAnswer, no_limits}
 use Rattle.esdk_batch.specs.OpenStory.{OpensSo, OpensWhole, judged_under}
-use Rattle.esdk_batch.specs.Placing.{IsPlaced, PutsInPlace, end_unplaced, unplaced}
+use Rattle.esdk_batch.specs.Placing.{IsPlaced, PutsInPlace, unplaced_end, unplaced_line}
 use Rattle.esdk_batch.specs.Progress.{is_ended, turns_left}
 use Rattle.esdk_batch.specs.SealStory.{SealAsked, SealsSo, SealsWhole, Seen, held, most_sealed, sealed_text}
 use Rattle.esdk_batch.specs.Turns.{AddsLines, DrawsNumber, HasKind}
-use Rattle.esdk_batch.specs.Underway.{IsAt, TakesTurn}
+use Rattle.esdk_batch.specs.Underway.{TakesTurn}
 
 -- ---- one job's story
 
 -- a whole message is a front of itself
-seals_unplaced : (manager : Managing) (asked : SealAsked) (seen : Seen) → SealsWhole manager asked seen → SealsSo manager asked seen (ends.Outside outsides.ShelfFault)
+seals_unplaced : (manager : Saying) (asked : SealAsked) (seen : Seen) → SealsWhole manager asked seen → SealsSo manager asked seen (ends.Outside outsides.ShelfFault)
 seals_unplaced manager asked seen whole =
     let text : sealed_text asked seen ≡ whole.text = ap (λ (o : Option (List ℕ)). take (most_sealed asked) (held o)) whole.from ∙ take_all (most_sealed asked) whole.text whole.short in
     let message : List ℕ = message_of whole.materials asked.frame (drawn_id seen.drawn) whole.text in
@@ -53,19 +52,19 @@ seals_unplaced manager asked seen whole =
     }
 
 -- the whole content is a front of itself
-opens_unplaced : (manager : Managing) (given : List KeyValue) (seen : Seen) → OpensWhole manager given seen → OpensSo manager given seen (ends.Outside outsides.ShelfFault)
+opens_unplaced : (manager : Saying) (given : List KeyValue) (seen : Seen) → OpensWhole manager given seen → OpensSo manager given seen (ends.Outside outsides.ShelfFault)
 opens_unplaced manager given seen whole =
     let from : held seen.from ≡ whole.bytes = ap held whole.opens.from in
     let released : List ℕ = content (judged_under whole.answer whole.bytes) in
     inr (inr (record {
       answer = whole.answer;
-      answered = subst (λ (l : List ℕ). AnswersTo manager.answering no_limits given l whole.answer) (sym from) whole.opens.answered;
+      answered = subst (λ (l : List ℕ). HasAnswer manager no_limits given l seen.served whole.answer) (sym from) whole.opens.answered;
       count = length released;
       front = whole.opens.to ∙ ap (λ (l : List ℕ). Some l) (sym (take_all (length released) released (omega arith))
           ∙ ap (λ (l : List ℕ). take (length released) (content (judged_under whole.answer l))) (sym from));
     }))
 
-works_unplaced : (manager : Managing) (work : Work) (seen : Seen) (end : JobEnd) → WorksSo manager work seen end → WorksSo manager work seen (end_unplaced end)
+works_unplaced : (manager : Saying) (work : Work) (seen : Seen) (end : JobEnd) → WorksSo manager work seen end → WorksSo manager work seen (unplaced_end end)
 works_unplaced manager (Encrypt length frame context required) seen ends.Done works =
     seals_unplaced manager (record { declared = length; frame = frame; context = context; required = required }) seen works
 works_unplaced manager (Decrypt given required) seen ends.Done works = (works.0, opens_unplaced manager given seen works.1)
@@ -77,7 +76,7 @@ works_unplaced manager work seen (ends.Outside outside) works = works
 
 -- what is so of the job's progress, if it is so of the line that a failure leaves
 placed_by : (P : Progress → Type 0) (next placed : Progress) (before after : ℕ) → IsPlaced next placed before after → P next
-    → ((line : JobLine) → P (stages.Ended line) → P (stages.Ended (unplaced line))) → P placed
+    → ((line : JobLine) → P (stages.Ended line) → P (stages.Ended (unplaced_line line))) → P placed
 placed_by P stages.Waiting placed before after is so leaves = subst P (sym is) so
 placed_by P (stages.Live now) placed before after is so leaves = subst P (sym is) so
 placed_by P (stages.Ended line) placed before after is so leaves = elim is [
@@ -85,8 +84,8 @@ placed_by P (stages.Ended line) placed before after is so leaves = elim is [
   | inr failed ↦ subst P (sym failed.0) (leaves line so)
 ]
 
-unplaced_turn : (manager : Managing) (job : Job) (old : Progress) (v w : DeskValue) (files left : Option Files) (entropy spent : EntropyState) (line : JobLine)
-    → TakesTurn manager job old (stages.Ended line) v w files left entropy spent → TakesTurn manager job old (stages.Ended (unplaced line)) v w files left entropy spent
+unplaced_turn : (manager : Saying) (job : Job) (old : Progress) (v w : DeskValue) (files left : Option Files) (entropy spent : EntropyState) (line : JobLine)
+    → TakesTurn manager job old (stages.Ended line) v w files left entropy spent → TakesTurn manager job old (stages.Ended (unplaced_line line)) v w files left entropy spent
 unplaced_turn manager job old v w files left entropy spent line turn = record {
   more = turn.more;
   drawn = turn.drawn;
@@ -103,21 +102,21 @@ unplaced_turn manager job old v w files left entropy spent line turn = record {
       (ended.0, works_unplaced manager job.work (seen_of job before then_held (drawn ++ turn.more) line) line.end ended.1);
 }
 
-pub turn_placed : (manager : Managing) (job : Job) (old next placed : Progress) (v w : DeskValue) (files : Option Files) (mid after : ShelfState) (entropy spent : EntropyState)
+pub turn_placed : (manager : Saying) (job : Job) (old next placed : Progress) (v w : DeskValue) (files : Option Files) (mid after : ShelfState) (entropy spent : EntropyState)
     → PutsInPlace next placed mid after → TakesTurn manager job old next v w files mid.files entropy spent → TakesTurn manager job old placed v w files after.files entropy spent
 turn_placed manager job old next placed v w files mid after entropy spent puts turn =
     subst (λ (left : Option Files). TakesTurn manager job old placed v w files left entropy spent) (sym puts.files)
     (placed_by (λ (p : Progress). TakesTurn manager job old p v w files mid.files entropy spent) next placed mid.faults after.faults puts.line turn
     (unplaced_turn manager job old v w files mid.files entropy spent))
 
-unplaced_lines : (job : Job) (old : Progress) (v w : DeskValue) (line : JobLine) → AddsLines job old (stages.Ended line) v w → AddsLines job old (stages.Ended (unplaced line)) v w
+unplaced_lines : (job : Job) (old : Progress) (v w : DeskValue) (line : JobLine) → AddsLines job old (stages.Ended line) v w → AddsLines job old (stages.Ended (unplaced_line line)) v w
 unplaced_lines job old v w line adds = record { knows = tt; gained = adds.gained; journal = adds.journal; lines = adds.lines; served = adds.served }
 
 pub lines_placed : (job : Job) (old next placed : Progress) (v w : DeskValue) (mid after : ShelfState) → PutsInPlace next placed mid after → AddsLines job old next v w → AddsLines job old placed v w
 lines_placed job old next placed v w mid after puts adds =
     placed_by (λ (p : Progress). AddsLines job old p v w) next placed mid.faults after.faults puts.line adds (unplaced_lines job old v w)
 
-unplaced_number : (old : Progress) (last drawn : ℕ) (line : JobLine) → is_ended old ≡ false → DrawsNumber old (stages.Ended line) last drawn → DrawsNumber old (stages.Ended (unplaced line)) last drawn
+unplaced_number : (old : Progress) (last drawn : ℕ) (line : JobLine) → is_ended old ≡ false → DrawsNumber old (stages.Ended line) last drawn → DrawsNumber old (stages.Ended (unplaced_line line)) last drawn
 unplaced_number stages.Waiting last drawn line running draws = draws
 unplaced_number (stages.Live live) last drawn line running draws = draws
 unplaced_number (stages.Ended other) last drawn line running draws = absurd cc
@@ -145,13 +144,13 @@ kept_placed files next placed mid after to puts kept = subst (λ (left : Option 
 
 -- ---- what was counted
 
-entropy_same : (end : JobEnd) → entropy_fails (end_unplaced end) ≡ entropy_fails end
+entropy_same : (end : JobEnd) → entropy_fails (unplaced_end end) ≡ entropy_fails end
 entropy_same ends.Done = refl
 entropy_same (ends.Refusal refusal) = refl
 entropy_same (ends.Fault fault) = refl
 entropy_same (ends.Outside outside) = refl
 
-keyring_same : (end : JobEnd) → keyring_fails (end_unplaced end) ≡ keyring_fails end
+keyring_same : (end : JobEnd) → keyring_fails (unplaced_end end) ≡ keyring_fails end
 keyring_same ends.Done = refl
 keyring_same (ends.Refusal refusal) = refl
 keyring_same (ends.Fault fault) = refl
@@ -165,7 +164,7 @@ missing_rose true before mid now rose failed = omega (arith, rose, failed)
 missing_rose false before mid now rose failed = omega (arith, rose, failed)
 
 shelf_rose : (files : Option Files) (job : Job) (end : JobEnd) (before mid now : ℕ) → RoseBy (shelf_fails_of files job end) before mid → mid ≤ now → Rose mid now
-    → RoseBy (shelf_fails_of files job (end_unplaced end)) before now
+    → RoseBy (shelf_fails_of files job (unplaced_end end)) before now
 shelf_rose files job ends.Done before mid now rose later failed = missing_rose (is_missing files job.from) before mid now rose failed
 shelf_rose files job (ends.Refusal refusal) before mid now rose later failed = rose_later (shelf_fails_of files job (ends.Refusal refusal)) before mid now rose later
 shelf_rose files job (ends.Fault fault) before mid now rose later failed = rose_later (shelf_fails_of files job (ends.Fault fault)) before mid now rose later
@@ -182,7 +181,7 @@ module _ (job : Job) (before : Tally) (mid after : ShelfState) (entropy keyring 
   }
 
   unplaced_counts : (line : JobLine) → mid.faults ≤ after.faults → Rose mid.faults after.faults → TurnCounts job (stages.Ended line) before (tally_of mid entropy keyring)
-      → TurnCounts job (stages.Ended (unplaced line)) before (tally_of after entropy keyring)
+      → TurnCounts job (stages.Ended (unplaced_line line)) before (tally_of after entropy keyring)
   unplaced_counts line later failed counts = record {
     has = tt;
     entropy = subst (λ (n : ℕ). RoseBy n before.entropy entropy) (sym (entropy_same line.end)) counts.entropy;

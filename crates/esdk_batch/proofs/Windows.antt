@@ -1,12 +1,13 @@
 -- A round: the turns of the jobs in the window so far.
-use Rattle.std.proofs.Common.{◌≡◌, ◌≢◌, ◌<◌, ◌≤◌, ◌+◌, ◌-◌, ◌^◌, ℕ, zero, suc, Bool, true, false, List, [], length, take, get_or, set, refl, sym, ap, subst, ◌∙◌, inl, inr, arith, length-set, get_or-set_other, get_or-set_same}
-use Rattle.std.specs.Prelude.{◌⊎◌, All, Option, Some, None, is_some, sum_by}
+use Rattle.std.proofs.Common.{◌≡◌, ◌<◌, ◌≤◌, ◌+◌, ℕ, true, false, List, length, take, get_or, set, refl, sym, ap, subst, ◌∙◌, inl, inr, arith, length-set, get_or-set_other, get_or-set_same}
+use Rattle.std.specs.Prelude.{◌⊎◌, All, Option, Some, is_some}
 use Rattle.std.proofs.lemmas.Bool.{cases_eq, cases_lt}
 use Rattle.std.proofs.lemmas.List.{get_or_read, take-set-le}
 use Rattle.std.proofs.lemmas.List.Elements.{All-weaker}
 use Rattle.std.proofs.lemmas.List.Sums.{sum_by-set}
 use Rattle.esdk_base.specs.Shelf.{Files}
 use Rattle.esdk_base.specs.Streams.{EntropyState}
+use Rattle.keyring_trait.specs.Manager.{ManagerNow, Went}
 use Rattle.desk_core.specs.declared.live_sessions.Desk.{Desk}
 use Rattle.desk_core.specs.Desk.{DeskValue}
 use Rattle.desk_core.specs.Stands.{Stands, last_of, manager_of}
@@ -15,16 +16,16 @@ use Rattle.esdk_batch.specs.declared.progress.Progress.{Progress}
 use Rattle.esdk_batch.specs.declared.progress.Progress.TheVariants as stages
 use Rattle.esdk_batch.specs.Batch.{OnlyWritten}
 use Rattle.esdk_batch.specs.Files.{KeepsOthers}
-use Rattle.esdk_batch.specs.Managing.{Admits, Managing, ManagerNow, Went}
+use Rattle.esdk_batch.specs.Managing.{ManagerWent, SaysWithin}
 use Rattle.esdk_batch.specs.Progress.{IsFirstRunning, all_turns_left, is_ended, turns_left}
 use Rattle.esdk_batch.specs.Underway.{HasSession, TakesTurn}
 use Rattle.esdk_batch.specs.Turns.{AddsLines, DrawsBytes, DrawsNumber, HasKind, Knows}
 use Rattle.esdk_batch.specs.Rounds.{AreApart, AreReady, Beginning, HaveBegun, HaveSessions, IsOpened, Stand, all_waits, has_begun}
-use Rattle.esdk_batch.proofs.Managers.{admits_within, goes_again, went_none, went_on}
-use Rattle.esdk_batch.proofs.Places.{at_places, front_at, front_from, front_set}
+use Rattle.esdk_batch.proofs.Managers.{admits_between, desk_none, desk_on, said, says_earlier, says_later}
+use Rattle.esdk_batch.proofs.Places.{front_at, front_from, front_set}
 use Rattle.esdk_batch.proofs.SameDesk.{adds_too}
 use Rattle.esdk_batch.proofs.SealedFirst.{room_after}
-use Rattle.esdk_batch.proofs.Standing.{TakesAll, others_after, stand_after}
+use Rattle.esdk_batch.proofs.Standing.{others_after, stand_after}
 use Rattle.esdk_batch.proofs.Turning.{Turned, begun_by, sessions_after}
 
 -- ---- one job
@@ -39,29 +40,24 @@ turns_running stages.Waiting running = omega arith
 turns_running (stages.Live now) running = omega arith
 turns_running (stages.Ended line) running = absurd cc
 
--- ---- the manager
-
-went_again : (old new : ManagerNow) → Went old new → Went new new
-went_again old new went = went_none new (goes_again old.meaning new.meaning went.goes)
-
 -- ---- a turn
 
 -- What a turn of a job ensures.
-pub record TurnOf {M : Type 0} (now : Desk M → ManagerNow) (managing : M → M → Managing) (job : Job) (old new : Progress) (before desk : Desk M) (files held : Option Files) (entropy spent : EntropyState) : Type 0 where
-  pub turn : (start last : M) (v : DeskValue) → Admits (managing start last) (now before) (now desk) → Stands before v → HasSession v.live old
-      → (w : DeskValue) × Stands desk w × TakesTurn (managing start last) job old new v w files held entropy spent
+pub record TurnOf {M : Type 0} (state : M → ManagerNow) (job : Job) (old new : Progress) (before desk : Desk M) (files held : Option Files) (entropy spent : EntropyState) : Type 0 where
+  pub turn : (start last : M) (v : DeskValue) → SaysWithin state start last before desk → Stands before v → HasSession v.live old
+      → (w : DeskValue) × Stands desk w × TakesTurn (said state start last) job old new v w files held entropy spent
   pub numbers : DrawsNumber old new (last_of before) (last_of desk)
   pub bytes : DrawsBytes old (last_of before) (last_of desk) entropy spent
   pub lines : (v : DeskValue) → Stands before v → Knows job.work old v.live → (w : DeskValue) × Stands desk w × AddsLines job old new v w
   pub kind : HasKind job.work old → HasKind job.work new
   pub falls : 0 < turns_left old → turns_left new < turns_left old
-  pub went : Went (now before) (now desk)
+  pub went : ManagerWent state before desk
   pub kept : KeepsOthers files held job.to
 
-module _ {M : Type 0} (now : Desk M → ManagerNow) (managing : M → M → Managing) (jobs : List Job) (progress : List Progress) (i : ℕ) (job : Job) (old new : Progress) (before desk : Desk M)
+module _ {M : Type 0} (state : M → ManagerNow) (jobs : List Job) (progress : List Progress) (i : ℕ) (job : Job) (old new : Progress) (before desk : Desk M)
     (files held : Option Files) (entropy spent : EntropyState) (within : i < length progress) (each : length progress ≡ length jobs) (is : job ≡ get_or jobs i job) (was : old ≡ get_or progress i old)
-    (begun : HaveBegun i progress) (t : TurnOf now managing job old new before desk files held entropy spent) where
-  turned_by : (start last : M) (v w : DeskValue) → Stands before v → Stands desk w → TakesTurn (managing start last) job old new v w files held entropy spent → AddsLines job old new v w
+    (begun : HaveBegun i progress) (t : TurnOf state job old new before desk files held entropy spent) where
+  turned_by : (start last : M) (v w : DeskValue) → Stands before v → Stands desk w → TakesTurn (said state start last) job old new v w files held entropy spent → AddsLines job old new v w
       → Turned jobs progress i job old new v.last w.last v.live w.live
   turned_by start last v w stands then turn adds = record {
     within = within;
@@ -80,11 +76,11 @@ module _ {M : Type 0} (now : Desk M → ManagerNow) (managing : M → M → Mana
   record After (start last : M) (v : DeskValue) : Type 0 where
     w : DeskValue
     stands : Stands desk w
-    turn : TakesTurn (managing start last) job old new v w files held entropy spent
+    turn : TakesTurn (said state start last) job old new v w files held entropy spent
     adds : AddsLines job old new v w
     turned : Turned jobs progress i job old new v.last w.last v.live w.live
 
-  after : (start last : M) (v : DeskValue) → Admits (managing start last) (now before) (now desk) → Stands before v → HaveSessions jobs progress v.live → After start last v
+  after : (start last : M) (v : DeskValue) → SaysWithin state start last before desk → Stands before v → HaveSessions jobs progress v.live → After start last v
   after start last v admits stands have =
       let had : HasSession v.live old = subst (HasSession v.live) (sym was) (have.sessions i old within) in
       let knew : Knows job.work old v.live = subst (λ (j : Job). Knows j.work old v.live) (sym is) (subst (λ one. Knows (get_or jobs i job).work one v.live) (sym was) (have.knows i job old within)) in
@@ -93,8 +89,9 @@ module _ {M : Type 0} (now : Desk M → ManagerNow) (managing : M → M → Mana
       let lines : AddsLines job old new v w = adds_too desk u w other then job old new v adds in
       record { w = w; stands = then; turn = turn; adds = lines; turned = turned_by start last v w stands then turn lines }
 
-  pub ready_after : Admits (managing (manager_of before) (manager_of desk)) (now before) (now desk) → AreReady before jobs progress → AreReady desk jobs (set progress i new)
-  ready_after admits (v, stands, have) =
+  pub ready_after : AreReady before jobs progress → AreReady desk jobs (set progress i new)
+  ready_after (v, stands, have) =
+      let admits = admits_between (state (manager_of before)) (state (manager_of desk)) in
       let a = after (manager_of before) (manager_of desk) v admits stands have in (
         a.w,
         a.stands,
@@ -102,22 +99,22 @@ module _ {M : Type 0} (now : Desk M → ManagerNow) (managing : M → M → Mana
       )
 
   pub stand_on : (width : ℕ) (start last : M) (began : Beginning) (v : DeskValue) → AreApart jobs → (old ≡ stages.Waiting) ⊎ HaveBegun width progress
-      → Admits (managing start last) (now before) (now desk) → Stands before v → Stand (managing start last) jobs width began files entropy v progress
-      → (w : DeskValue) × Stands desk w × Stand (managing start last) jobs width began held spent w (set progress i new)
+      → SaysWithin state start last before desk → Stands before v → Stand (said state start last) jobs width began files entropy v progress
+      → (w : DeskValue) × Stands desk w × Stand (said state start last) jobs width began held spent w (set progress i new)
   stand_on width start last began v apart window admits stands stand =
       let a = after start last v admits stands stand.sessions in
       let bytes : DrawsBytes old v.last a.w.last entropy spent =
       subst (λ next. DrawsBytes old v.last next entropy spent) a.stands.last (subst (λ last. DrawsBytes old last (last_of desk) entropy spent) stands.last t.bytes) in (
         a.w,
         a.stands,
-        stand_after (managing start last) jobs width began progress i job old new v a.w files held entropy spent
+        stand_after (said state start last) jobs width began progress i job old new v a.w files held entropy spent
             (record { apart = apart; turned = a.turned; turn = a.turn; bytes = bytes; lines = a.adds; kind = t.kind; window = window }) stand,
       )
 
 -- ---- the turns of a round
 
 -- The jobs before `at` that hadn't ended had their turns, so many; those from there on are as before the round.
-pub record RoundOn {M : Type 0} (now : Desk M → ManagerNow) (managing : M → M → Managing) (jobs : List Job) (width first : ℕ) (before desk : Desk M) (old progress : List Progress)
+pub record RoundOn {M : Type 0} (state : M → ManagerNow) (jobs : List Job) (width first : ℕ) (before desk : Desk M) (old progress : List Progress)
     (files held : Option Files) (entropy spent : EntropyState) (at turns : ℕ) : Type 0 where
   pub each : length progress ≡ length jobs
   pub whole : length old ≡ length jobs
@@ -133,15 +130,15 @@ pub record RoundOn {M : Type 0} (now : Desk M → ManagerNow) (managing : M → 
   pub falls : all_turns_left progress + turns ≤ all_turns_left old
   pub others : OnlyWritten jobs files held
   pub told : is_some held ≡ is_some files
-  pub still : Went (now before) (now before)
-  pub went : Went (now before) (now desk)
-  pub stand : (start last : M) (began : Beginning) (v : DeskValue) → Admits (managing start last) (now before) (now desk) → Stands before v
-      → Stand (managing start last) jobs width began files entropy v old → (w : DeskValue) × Stands desk w × Stand (managing start last) jobs width began held spent w progress
+  pub still : Went (state (manager_of before)) (state (manager_of before))
+  pub went : ManagerWent state before desk
+  pub stand : (start last : M) (began : Beginning) (v : DeskValue) → SaysWithin state start last before desk → Stands before v
+      → Stand (said state start last) jobs width began files entropy v old → (w : DeskValue) × Stands desk w × Stand (said state start last) jobs width began held spent w progress
 
-pub round_starts : {M : Type 0} (now : Desk M → ManagerNow) (managing : M → M → Managing) (jobs : List Job) (width first : ℕ) (desk : Desk M) (progress : List Progress)
-    (files : Option Files) (entropy : EntropyState) → length progress ≡ length jobs → IsFirstRunning progress (Some first) → AreReady desk jobs progress → IsOpened width progress → Went (now desk) (now desk)
-    → RoundOn now managing jobs width first desk desk progress progress files files entropy entropy first 0
-round_starts now managing jobs width first desk progress files entropy each running ready opened still = record {
+pub round_starts : {M : Type 0} (state : M → ManagerNow) (jobs : List Job) (width first : ℕ) (desk : Desk M) (progress : List Progress)
+    (files : Option Files) (entropy : EntropyState) → length progress ≡ length jobs → IsFirstRunning progress (Some first) → AreReady desk jobs progress → IsOpened width progress → Went (state (manager_of desk)) (state (manager_of desk))
+    → RoundOn state jobs width first desk desk progress progress files files entropy entropy first 0
+round_starts state jobs width first desk progress files entropy each running ready opened still = record {
   each = each;
   whole = each;
   begun = All-weaker (λ one. is_ended one ≡ true) (λ one. has_begun one ≡ true) begun_ended (take first progress) running.1;
@@ -157,7 +154,7 @@ round_starts now managing jobs width first desk progress files entropy each runn
   others = λ name none. refl;
   told = refl;
   still = still;
-  went = still;
+  went = desk_none state desk still;
   stand = λ start last began v admits stands stand. (v, stands, stand);
 }
 
@@ -168,14 +165,14 @@ begun_more progress at one within is begun all =
       | inr other ↦ front_at (λ one. has_begun one ≡ true) progress at k d all (omega (arith, before, other)) below
     ])
 
-module _ {M : Type 0} (now : Desk M → ManagerNow) (managing : M → M → Managing) (jobs : List Job) (width first : ℕ) (before mid : Desk M) (old progress : List Progress)
-    (files held : Option Files) (entropy spent : EntropyState) (at turns : ℕ) (on : RoundOn now managing jobs width first before mid old progress files held entropy spent at turns)
+module _ {M : Type 0} (state : M → ManagerNow) (jobs : List Job) (width first : ℕ) (before mid : Desk M) (old progress : List Progress)
+    (files held : Option Files) (entropy spent : EntropyState) (at turns : ℕ) (on : RoundOn state jobs width first before mid old progress files held entropy spent at turns)
     (within : at < length jobs) (running : IsFirstRunning old (Some first)) (one : Progress) (was : one ≡ get_or progress at one) where
   inside : at < length progress
   inside = omega (arith, within, on.each)
 
   -- a job that ended has no turn; it isn't the first of the window
-  pub round_skips : is_ended one ≡ true → RoundOn now managing jobs width first before mid old progress files held entropy spent (at + 1) turns
+  pub round_skips : is_ended one ≡ true → RoundOn state jobs width first before mid old progress files held entropy spent (at + 1) turns
   round_skips ended = record {
     each = on.each;
     whole = on.whole;
@@ -215,17 +212,19 @@ module _ {M : Type 0} (now : Desk M → ManagerNow) (managing : M → M → Mana
       ]
 
   module _ (job : Job) (new : Progress) (desk : Desk M) (put : Option Files) (drawn : EntropyState) (is : job ≡ get_or jobs at job) (apart : AreApart jobs) (runs : is_ended one ≡ false) (room : turns < width)
-      (between : (a b : Desk M) → Admits (managing (manager_of a) (manager_of b)) (now a) (now b)) (t : TurnOf now managing job one new mid desk held put spent drawn) where
+      (t : TurnOf state job one new mid desk held put spent drawn) where
     begun_new : has_begun new ≡ true
     begun_new = begun_by one new (last_of mid) (last_of desk) t.numbers
 
-    admits_first : (manager : Managing) → Admits manager (now before) (now desk) → Admits manager (now before) (now mid)
-    admits_first manager admits = admits_within manager (now before) (now before) (now mid) (now desk) on.still t.went admits
+    admits_first : (start last : M) → SaysWithin state start last before desk
+        → SaysWithin state start last before mid
+    admits_first start last admits = says_earlier state start last before mid desk on.still t.went admits
 
-    admits_last : (manager : Managing) → Admits manager (now before) (now desk) → Admits manager (now mid) (now desk)
-    admits_last manager admits = admits_within manager (now before) (now mid) (now desk) (now desk) on.went (went_again (now mid) (now desk) t.went) admits
+    admits_last : (start last : M) → SaysWithin state start last before desk
+        → SaysWithin state start last mid desk
+    admits_last start last admits = says_later state start last before mid desk on.went t.went admits
 
-    pub round_turns : RoundOn now managing jobs width first before desk old (set progress at new) files put entropy drawn (at + 1) (turns + 1)
+    pub round_turns : RoundOn state jobs width first before desk old (set progress at new) files put entropy drawn (at + 1) (turns + 1)
     round_turns = record {
       each = length-set progress at new ∙ on.each;
       whole = on.whole;
@@ -234,7 +233,7 @@ module _ {M : Type 0} (now : Desk M → ManagerNow) (managing : M → M → Mana
       past = subst (All (λ one. is_ended one ≡ true)) (sym (take-set-le first progress at new (omega (arith, on.slow)))) on.past;
       left = λ k d from. get_or-set_other progress at k new d (λ same. omega (arith, from, same)) ∙ on.left k d (omega (arith, from));
       room = omega (arith, on.room, room_after one new progress at (last_of mid) (last_of desk) spent drawn inside was t.numbers);
-      ready = ready_after now managing jobs progress at job one new mid desk held put spent drawn inside on.each is was on.begun t (between mid desk) on.ready;
+      ready = ready_after state jobs progress at job one new mid desk held put spent drawn inside on.each is was on.begun t on.ready;
       opened = elim on.opened [
         | inl waiting ↦ inl waiting
         | inr begun ↦ inr (front_set (λ one. has_begun one ≡ true) progress at new width inside begun_new begun)
@@ -246,11 +245,11 @@ module _ {M : Type 0} (now : Desk M → ManagerNow) (managing : M → M → Mana
       others = others_after jobs at job files held put within is t.kept on.others;
       told = t.kept.tells ∙ on.told;
       still = on.still;
-      went = went_on (now before) (now mid) (now desk) on.went t.went;
+      went = desk_on state before mid desk on.went t.went;
       stand = λ start last began v admits stands stand.
-          let (u, then, st) = on.stand start last began v (admits_first (managing start last) admits) stands stand in
-          stand_on now managing jobs progress at job one new mid desk held put spent drawn inside on.each is was on.begun t width start last began u apart window_at
-          (admits_last (managing start last) admits) then st;
+          let (u, then, st) = on.stand start last began v (admits_first start last admits) stands stand in
+          stand_on state jobs progress at job one new mid desk held put spent drawn inside on.each is was on.begun t width start last began u apart window_at
+          (admits_last start last admits) then st;
     }
 
 -- ---- the end of a round
@@ -267,7 +266,7 @@ round_begun width first at turns progress begun end =
 -- ---- rounds
 
 -- The jobs had so many rounds.
-pub record RoundsOn {M : Type 0} (now : Desk M → ManagerNow) (managing : M → M → Managing) (jobs : List Job) (width : ℕ) (before desk : Desk M) (old progress : List Progress) (files held : Option Files)
+pub record RoundsOn {M : Type 0} (state : M → ManagerNow) (jobs : List Job) (width : ℕ) (before desk : Desk M) (old progress : List Progress) (files held : Option Files)
     (entropy spent : EntropyState) : Type 0 where
   pub each : length progress ≡ length jobs
   pub room : last_of desk + all_waits progress ≤ last_of before + all_waits old
@@ -275,15 +274,15 @@ pub record RoundsOn {M : Type 0} (now : Desk M → ManagerNow) (managing : M →
   pub opened : IsOpened width progress
   pub others : OnlyWritten jobs files held
   pub told : is_some held ≡ is_some files
-  pub still : Went (now before) (now before)
-  pub went : Went (now before) (now desk)
-  pub stand : (start last : M) (began : Beginning) (v : DeskValue) → Admits (managing start last) (now before) (now desk) → Stands before v
-      → Stand (managing start last) jobs width began files entropy v old → (w : DeskValue) × Stands desk w × Stand (managing start last) jobs width began held spent w progress
+  pub still : Went (state (manager_of before)) (state (manager_of before))
+  pub went : ManagerWent state before desk
+  pub stand : (start last : M) (began : Beginning) (v : DeskValue) → SaysWithin state start last before desk → Stands before v
+      → Stand (said state start last) jobs width began files entropy v old → (w : DeskValue) × Stands desk w × Stand (said state start last) jobs width began held spent w progress
 
-pub rounds_start : {M : Type 0} (now : Desk M → ManagerNow) (managing : M → M → Managing) (jobs : List Job) (width : ℕ) (desk : Desk M) (progress : List Progress) (files : Option Files) (entropy : EntropyState)
-    → length progress ≡ length jobs → AreReady desk jobs progress → IsOpened width progress → Went (now desk) (now desk)
-    → RoundsOn now managing jobs width desk desk progress progress files files entropy entropy
-rounds_start now managing jobs width desk progress files entropy each ready opened still = record {
+pub rounds_start : {M : Type 0} (state : M → ManagerNow) (jobs : List Job) (width : ℕ) (desk : Desk M) (progress : List Progress) (files : Option Files) (entropy : EntropyState)
+    → length progress ≡ length jobs → AreReady desk jobs progress → IsOpened width progress → Went (state (manager_of desk)) (state (manager_of desk))
+    → RoundsOn state jobs width desk desk progress progress files files entropy entropy
+rounds_start state jobs width desk progress files entropy each ready opened still = record {
   each = each;
   room = omega arith;
   ready = ready;
@@ -291,18 +290,18 @@ rounds_start now managing jobs width desk progress files entropy each ready open
   others = λ name none. refl;
   told = refl;
   still = still;
-  went = still;
+  went = desk_none state desk still;
   stand = λ start last began v admits stands stand. (v, stands, stand);
 }
 
 -- one round more
-pub rounds_more : {M : Type 0} (now : Desk M → ManagerNow) (managing : M → M → Managing) (jobs : List Job) (width : ℕ) (before mid desk : Desk M) (old progress new : List Progress) (files held put : Option Files)
-    (entropy spent drawn : EntropyState) → RoundsOn now managing jobs width before mid old progress files held entropy spent → length new ≡ length jobs
-    → last_of desk + all_waits new ≤ last_of mid + all_waits progress → AreReady desk jobs new → HaveBegun width new → Went (now mid) (now desk) → OnlyWritten jobs held put → is_some put ≡ is_some held
-    → ((start last : M) (began : Beginning) (v : DeskValue) → Admits (managing start last) (now mid) (now desk) → Stands mid v
-    → Stand (managing start last) jobs width began held spent v progress → (w : DeskValue) × Stands desk w × Stand (managing start last) jobs width began put drawn w new)
-    → RoundsOn now managing jobs width before desk old new files put entropy drawn
-rounds_more now managing jobs width before mid desk old progress new files held put entropy spent drawn on each room ready begun went others told round = record {
+pub rounds_more : {M : Type 0} (state : M → ManagerNow) (jobs : List Job) (width : ℕ) (before mid desk : Desk M) (old progress new : List Progress) (files held put : Option Files)
+    (entropy spent drawn : EntropyState) → RoundsOn state jobs width before mid old progress files held entropy spent → length new ≡ length jobs
+    → last_of desk + all_waits new ≤ last_of mid + all_waits progress → AreReady desk jobs new → HaveBegun width new → ManagerWent state mid desk → OnlyWritten jobs held put → is_some put ≡ is_some held
+    → ((start last : M) (began : Beginning) (v : DeskValue) → SaysWithin state start last mid desk → Stands mid v
+    → Stand (said state start last) jobs width began held spent v progress → (w : DeskValue) × Stands desk w × Stand (said state start last) jobs width began put drawn w new)
+    → RoundsOn state jobs width before desk old new files put entropy drawn
+rounds_more state jobs width before mid desk old progress new files held put entropy spent drawn on each room ready begun went others told round = record {
   each = each;
   room = omega (arith, on.room, room);
   ready = ready;
@@ -310,8 +309,8 @@ rounds_more now managing jobs width before mid desk old progress new files held 
   others = λ name none. others name none ∙ on.others name none;
   told = told ∙ on.told;
   still = on.still;
-  went = went_on (now before) (now mid) (now desk) on.went went;
+  went = desk_on state before mid desk on.went went;
   stand = λ start last began v admits stands stand.
-      let (u, then, st) = on.stand start last began v (admits_within (managing start last) (now before) (now before) (now mid) (now desk) on.still went admits) stands stand in
-      round start last began u (admits_within (managing start last) (now before) (now mid) (now desk) (now desk) on.went (went_again (now mid) (now desk) went) admits) then st;
+      let (u, then, st) = on.stand start last began v (says_earlier state start last before mid desk on.still went admits) stands stand in
+      round start last began u (says_later state start last before mid desk on.went went admits) then st;
 }

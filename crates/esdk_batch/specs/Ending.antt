@@ -7,6 +7,7 @@ use Rattle.esdk_base.specs.Shelf.{Files}
 use Rattle.keyring_trait.specs.declared.journal.JournalLine.{JournalLine}
 use Rattle.keyring_trait.specs.declared.journal.Kind.TheVariants.{Unseal}
 use Rattle.keyring_trait.specs.declared.served.Served.{Served}
+use Rattle.keyring_trait.specs.Saying.{Saying}
 use Rattle.keyring_trait.specs.Unlocking.{Unlocking}
 use Rattle.stream_seal.specs.Feeding as seals
 use Rattle.stream_seal.specs.Session as seal
@@ -15,16 +16,15 @@ use Rattle.stream_open.specs.Feeding as opens
 use Rattle.stream_open.specs.Session.{OpeningValue, judged_now}
 use Rattle.message_format.specs.Judgement.{content, judged}
 use Rattle.body_format.specs.declared.verdicts.Verdict.TheVariants.{Whole}
-use Rattle.esdk_decrypt.specs.Decrypt.{AnswersTo, FailsTo, fault_at_end, fault_of}
-use Rattle.esdk_decrypt.specs.Underway.{asking_in}
+use Rattle.esdk_decrypt.specs.Decrypt.{fault_at_end, fault_of}
 use Rattle.desk_core.specs.declared.errors.DeskError.{DeskError}
 use Rattle.desk_core.specs.declared.errors.DeskError.TheVariants as errors
 use Rattle.desk_core.specs.Session.{SessionValue, Sealing, Opening}
 use Rattle.desk_core.specs.Desk.{DeskValue, lines_of}
 use Rattle.batch_report.specs.declared.job_lines.JobEnd.{JobEnd}
 use Rattle.batch_report.specs.declared.job_lines.JobEnd.TheVariants as ends
+use Rattle.esdk_batch.specs.Answering.{HasAnswer, HasFailed, KeepsServed}
 use Rattle.esdk_batch.specs.Files.{Gains, KeepsOthers}
-use Rattle.esdk_batch.specs.Managing.{Managing}
 
 -- how a job ends whose session answers this error; want of memory ends the batch
 abbrev pub EndsFor : DeskError → Result JobEnd AllocError → Type 0
@@ -42,96 +42,135 @@ pub record KeepsDesk (session : ℕ) (v w : DeskValue) (gained : List JournalLin
 
 -- ---- a piece
 
--- A piece was fed to a session that seals, and the file gained the frames that it gave; or no more could be taken, for this reason; or an append failed, behind a front of them.
-abbrev pub SealsPiece : SealingValue → List ℕ → Option SessionValue → List ℕ → Option Files → Option Files → Option JobEnd → Type 0
-SealsPiece s piece left to files after None = (left ≡ Some (Sealing (seals.fed s piece))) × (seals.feed_refusal s piece ≡ None) × Gains files after to (seals.fed_out s piece)
-SealsPiece s piece left to files after (Some (ends.Refusal refusal)) = (left ≡ None) × (seals.feed_refusal s piece ≡ Some refusal) × Gains files after to (seals.fed_out s piece)
-SealsPiece s piece left to files after (Some (ends.Outside outsides.ShelfFault)) = (left ≡ None) × ((n : ℕ) × Gains files after to (take n (seals.fed_out s piece)))
+-- A piece was fed to a session that seals, and the file gained the frames that it gave; or no more
+-- could be taken, for this reason; or an append failed, behind a front of them.
+abbrev pub SealsPiece : SealingValue → List ℕ → Option SessionValue → List ℕ → Option Files
+    → Option Files → Option JobEnd → Type 0
+SealsPiece s piece left to files after None =
+    (left ≡ Some (Sealing (seals.fed s piece))) × (seals.feed_refusal s piece ≡ None)
+    × Gains files after to (seals.fed_out s piece)
+SealsPiece s piece left to files after (Some (ends.Refusal refusal)) =
+    (left ≡ None) × (seals.feed_refusal s piece ≡ Some refusal)
+    × Gains files after to (seals.fed_out s piece)
+SealsPiece s piece left to files after (Some (ends.Outside outsides.ShelfFault)) =
+    (left ≡ None) × ((n : ℕ) × Gains files after to (take n (seals.fed_out s piece)))
 SealsPiece s piece left to files after (Some end) = ⊥
 
--- A piece was fed to a session that opens: it goes on as this one, which keeps the manager's answer, and the file gained what was released.
-pub record OpensPiece (manager : Managing) (s : OpeningValue) (piece : List ℕ) (t : OpeningValue) (to : List ℕ) (files after : Option Files) : Type 0 where
+-- A piece was fed to a session that opens: it goes on as this one, which keeps the manager's
+-- answer, and the file gained what was released.
+pub record OpensPiece (manager : Saying) (s : OpeningValue) (piece : List ℕ) (t : OpeningValue)
+    (to : List ℕ) (files after : Option Files) : Type 0 where
   pub released : List ℕ
   pub feeds : opens.Feeds s piece t released
-  pub keeps : opens.Keeps (asking_in manager.answering) s s.taken → opens.Keeps (asking_in manager.answering) t t.taken
+  pub keeps : KeepsServed manager s s.taken → KeepsServed manager t t.taken
   pub gains : Gains files after to released
 
--- The bytes taken with a front of the piece are judged by an answer that the manager may give to their header. The file gained so many bytes of what that releases beside what the
--- session had released.
-pub record Judges (manager : Managing) (s : OpeningValue) (piece to : List ℕ) (files after : Option Files) (answer : Unlocking) (used count : ℕ) : Type 0 where
+-- The bytes taken with a front of the piece are judged by an answer that the manager may give to
+-- their header, whose materials were served so. The file gained so many bytes of what that releases
+-- beside what the session had released.
+pub record Judges (manager : Saying) (s : OpeningValue) (piece to : List ℕ)
+    (files after : Option Files) (served : Option Served) (answer : Unlocking) (used count : ℕ)
+    : Type 0 where
   pub released : List ℕ
-  pub answered : opens.Keeps (asking_in manager.answering) s s.taken → AnswersTo manager.answering s.settings s.given (s.taken ++ take used piece) answer
-  pub content : content (judged (s.taken ++ take used piece) s.settings answer) ≡ content (judged_now s) ++ released
+  pub answered : KeepsServed manager s s.taken
+      → HasAnswer manager s.settings s.given (s.taken ++ take used piece) served answer
+  pub content : content (judged (s.taken ++ take used piece) s.settings answer)
+      ≡ content (judged_now s) ++ released
   pub gains : Gains files after to (take count released)
 
 -- They have this fault, and the file gained all that was released before it.
-pub record FindsFault (manager : Managing) (s : OpeningValue) (piece to : List ℕ) (files after : Option Files) (fault : Fault) : Type 0 where
+pub record FindsFault (manager : Saying) (s : OpeningValue) (piece to : List ℕ)
+    (files after : Option Files) (served : Option Served) (fault : Fault) : Type 0 where
   pub answer : Unlocking
   pub used : ℕ
   pub count : ℕ
-  pub judges : Judges manager s piece to files after answer used count
+  pub judges : Judges manager s piece to files after served answer used count
   pub all : length judges.released ≤ count
-  pub verdict : fault_of (judged (s.taken ++ take used piece) s.settings answer).verdict ≡ Some fault
+  pub verdict : fault_of (judged (s.taken ++ take used piece) s.settings answer).verdict
+      ≡ Some fault
 
 -- the same by how the job ended, if it did
-abbrev pub OpensSo : Managing → OpeningValue → List ℕ → Option SessionValue → List ℕ → Option Files → Option Files → Option JobEnd → Type 0
-OpensSo manager s piece left to files after None = (t : OpeningValue) × (left ≡ Some (Opening t)) × OpensPiece manager s piece t to files after
-OpensSo manager s piece left to files after (Some (ends.Fault fault)) = (left ≡ None) × FindsFault manager s piece to files after fault
-OpensSo manager s piece left to files after (Some (ends.Outside outsides.KeyringFault)) =
-    (left ≡ None) × ((used : ℕ) × FailsTo manager.answering s.settings s.given (s.taken ++ take used piece)) × (content (judged_now s) ≡ []) × (after ≡ files)
-OpensSo manager s piece left to files after (Some (ends.Outside outsides.ShelfFault)) =
-    (left ≡ None) × ((answer : Unlocking) × (used : ℕ) × (count : ℕ) × Judges manager s piece to files after answer used count)
-OpensSo manager s piece left to files after (Some end) = ⊥
+abbrev pub OpensSo : Saying → OpeningValue → List ℕ → Option SessionValue → List ℕ → Option Files
+    → Option Files → Option Served → Option JobEnd → Type 0
+OpensSo manager s piece left to files after served None =
+    (t : OpeningValue) × (left ≡ Some (Opening t)) × OpensPiece manager s piece t to files after
+OpensSo manager s piece left to files after served (Some (ends.Fault fault)) =
+    (left ≡ None) × FindsFault manager s piece to files after served fault
+OpensSo manager s piece left to files after served (Some (ends.Outside outsides.KeyringFault)) =
+    (left ≡ None)
+    × ((used : ℕ) × HasFailed manager s.settings s.given (s.taken ++ take used piece))
+    × (content (judged_now s) ≡ []) × (after ≡ files)
+OpensSo manager s piece left to files after served (Some (ends.Outside outsides.ShelfFault)) =
+    (left ≡ None) × ((answer : Unlocking) × (used : ℕ) × (count : ℕ)
+    × Judges manager s piece to files after served answer used count)
+OpensSo manager s piece left to files after served (Some end) = ⊥
 
 -- a session that seals still seals, and one that opens still opens
 abbrev pub GoesOnAs : SessionValue → Option SessionValue → Type 0
 GoesOnAs (Sealing s) left = (t : SealingValue) × (left ≡ Some (Sealing t))
 GoesOnAs (Opening s) left = (t : OpeningValue) × (left ≡ Some (Opening t))
 
--- How the materials of a session that opens were served, before these lines and after them: no line came, and they are served as before; or they weren't served, and the one line
--- that came says how they are.
+-- How the materials of a session that opens were served, before these lines and after them: no line
+-- came, and they are served as before; or they weren't served, and the one line that came says how
+-- they are.
 abbrev pub ServedOnce : ℕ → Option Served → List JournalLine → Option Served → Type 0
 ServedOnce session before gained after = ((gained ≡ []) × (after ≡ before))
-    ⊎ ((before ≡ None) × ((now : ℕ) × (served : Served) × (gained ≡ lines_of session Unseal now None (Some served)) × (after ≡ Some served)))
+    ⊎ ((before ≡ None) × ((now : ℕ) × (served : Served)
+    × (gained ≡ lines_of session Unseal now None (Some served)) × (after ≡ Some served)))
 
--- The materials of a session that opens are served so now; where the session is left, as it says, and where the manager failed, not at all.
-pub record Serves (session : ℕ) (s : OpeningValue) (gained : List JournalLine) (left : Option SessionValue) (end : Option JobEnd) : Type 0 where
-  pub served : Option Served
+-- The materials of a session that opens are served so now; where the session is left, as it says,
+-- and where the manager failed, not at all.
+pub record Serves (session : ℕ) (s : OpeningValue) (gained : List JournalLine)
+    (left : Option SessionValue) (served : Option Served) (end : Option JobEnd) : Type 0 where
   pub once : ServedOnce session s.served gained served
   pub kept : (t : OpeningValue) → left ≡ Some (Opening t) → t.served ≡ served
   pub failed : end ≡ Some (ends.Outside outsides.KeyringFault) → served ≡ None
 
 -- of a session that seals no line comes
-abbrev pub ServesSo : ℕ → SessionValue → List JournalLine → Option SessionValue → Option JobEnd → Type 0
-ServesSo session (Sealing s) gained left end = gained ≡ []
-ServesSo session (Opening s) gained left end = Serves session s gained left end
+abbrev pub ServesSo : ℕ → SessionValue → List JournalLine → Option SessionValue → Option Served
+    → Option JobEnd → Type 0
+ServesSo session (Sealing s) gained left served end = gained ≡ []
+ServesSo session (Opening s) gained left served end = Serves session s gained left served end
 
--- What feeding a piece comes to, of a session that was fed each piece before it to its end, or that goes on.
-abbrev pub FeedsSo : Managing → SessionValue → List ℕ → Option SessionValue → List ℕ → Option Files → Option Files → Option JobEnd → Type 0
-FeedsSo manager (Sealing s) piece left to files after end = seals.IsFed s → SealsPiece s piece left to files after end
-FeedsSo manager (Opening s) piece left to files after end = opens.GoesOn s → OpensSo manager s piece left to files after end
+-- What feeding a piece comes to, of a session that was fed each piece before it to its end, or that
+-- goes on.
+abbrev pub FeedsSo : Saying → SessionValue → List ℕ → Option SessionValue → List ℕ → Option Files
+    → Option Files → Option Served → Option JobEnd → Type 0
+FeedsSo manager (Sealing s) piece left to files after served end =
+    seals.IsFed s → SealsPiece s piece left to files after end
+FeedsSo manager (Opening s) piece left to files after served end =
+    opens.GoesOn s → OpensSo manager s piece left to files after served end
 
-pub record FeedsPiece (manager : Managing) (session : ℕ) (s : SessionValue) (piece : List ℕ) (v w : DeskValue) (to : List ℕ) (files after : Option Files) (end : Option JobEnd) : Type 0 where
+-- The journal gained lines; an opener's materials are served so behind it.
+pub record FeedsPiece (manager : Saying) (session : ℕ) (s : SessionValue) (piece : List ℕ)
+    (v w : DeskValue) (to : List ℕ) (files after : Option Files) (end : Option JobEnd)
+    : Type 0 where
   pub gained : List JournalLine
+  pub served : Option Served
   pub desk : KeepsDesk session v w gained
   pub others : KeepsOthers files after to
   pub lives : end ≡ None → GoesOnAs s (w.live session)
   pub over : is_some end ≡ true → w.live session ≡ None
-  pub serves : ServesSo session s gained (w.live session) end
-  pub feeds : FeedsSo manager s piece (w.live session) to files after end
+  pub serves : ServesSo session s gained (w.live session) served end
+  pub feeds : FeedsSo manager s piece (w.live session) to files after served end
 
 -- ---- the end
 
--- The file gained the final frame, or what was taken is a whole message; or it isn't, or an append failed.
+-- The file gained the final frame, or what was taken is a whole message; or it isn't, or an append
+-- failed.
 abbrev pub FinishesSo : SessionValue → List ℕ → Option Files → Option Files → JobEnd → Type 0
 FinishesSo (Sealing s) to files after ends.Done = Gains files after to (seal.finished s).out
-FinishesSo (Sealing s) to files after (ends.Outside outsides.ShelfFault) = (n : ℕ) × Gains files after to (take n (seal.finished s).out)
+FinishesSo (Sealing s) to files after (ends.Outside outsides.ShelfFault) =
+    (n : ℕ) × Gains files after to (take n (seal.finished s).out)
 FinishesSo (Sealing s) to files after end = ⊥
-FinishesSo (Opening s) to files after ends.Done = ((judged_now s).verdict ≡ Whole) × Gains files after to []
-FinishesSo (Opening s) to files after (ends.Fault fault) = (fault_at_end (judged_now s).verdict ≡ Some fault) × (after ≡ files)
+FinishesSo (Opening s) to files after ends.Done =
+    ((judged_now s).verdict ≡ Whole) × Gains files after to []
+FinishesSo (Opening s) to files after (ends.Fault fault) =
+    (fault_at_end (judged_now s).verdict ≡ Some fault) × (after ≡ files)
 FinishesSo (Opening s) to files after end = ⊥
 
-pub record EndsSession (session : ℕ) (s : SessionValue) (v w : DeskValue) (to : List ℕ) (files after : Option Files) (end : JobEnd) : Type 0 where
+pub record EndsSession (session : ℕ) (s : SessionValue) (v w : DeskValue) (to : List ℕ)
+    (files after : Option Files) (end : JobEnd) : Type 0 where
   pub desk : KeepsDesk session v w []
   pub left : w.live session ≡ None
   pub finishes : FinishesSo s to files after end

@@ -45,8 +45,8 @@ abbrev pub tally_of : ShelfState → ℕ → ℕ → Tally
 tally_of shelf entropy keyring =
     record { files = shelf.files; entropy = entropy; keyring = keyring; shelf = shelf.faults }
 
--- Each line that says that the entropy failed, or a keyring, or the shelf, is a failure more that it
--- counted.
+-- Each line that says that the entropy failed, or a keyring, or the shelf, is a failure more that
+-- it counted.
 pub record CountsFailures (jobs : List Job) (before now : Tally) (lines : List JobLine)
     : Type 0 where
   pub entropy : RoseBy (sum_by (λ line. entropy_fails line.end) lines) before.entropy now.entropy
@@ -79,8 +79,8 @@ abbrev pub fails_in : (JobEnd → ℕ) → Option JobEnd → ℕ
 fails_in fails None = 0
 fails_in fails (Some end) = fails end
 
--- What feeding a piece counts, or ending a session, whose file stays there. The manager had failed so
--- often when it was asked, and has so often now.
+-- What feeding a piece counts, or ending a session, whose file stays there. The manager had failed
+-- so often when it was asked, and has so often now.
 pub record PieceCounts (to : List ℕ) (end : Option JobEnd) (before now : ShelfState)
     (asked failed : ℕ) : Type 0 where
   pub there : is_missing now.files to ≡ false

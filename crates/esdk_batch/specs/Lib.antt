@@ -1,3 +1,4 @@
+pub mod Answering
 pub mod Batch
 pub mod Ending
 pub mod Failures

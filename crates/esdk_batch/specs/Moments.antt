@@ -1,15 +1,18 @@
--- The moments of a batch: each turn asks the clock once, and the lines that the journal gains in it bear the moment that the clock answered.
+-- The moments of a batch: what the clock answered, and the lines that the journal gained with it.
 use Rattle.std.specs.Prelude.{◌≡◌, ℕ, List, [], ◌∷◌, ◌++◌, map, All, Option, option_map, IfSome}
 use Rattle.std.specs.List.{flat_map}
 use Rattle.esdk_base.specs.Clock.{Moments, after_now, next_moment}
 use Rattle.keyring_trait.specs.declared.journal.JournalLine.{JournalLine}
 
--- Asked once for each of them, a clock that tells such moments answers these, and then it tells those.
-abbrev pub Answers : Option Moments → List ℕ → Option Moments → Type 0
-Answers before [] after = after ≡ before
-Answers before (moment ∷ moments) after = IfSome before (λ told. moment ≡ next_moment told) × Answers (option_map after_now before) moments after
+-- Asked once for each of them, a clock that tells such moments answers these, and then it tells
+-- those.
+abbrev pub ClockAnswers : Option Moments → List ℕ → Option Moments → Type 0
+ClockAnswers before [] after = after ≡ before
+ClockAnswers before (moment ∷ moments) after =
+    IfSome before (λ told. moment ≡ next_moment told)
+    × ClockAnswers (option_map after_now before) moments after
 
--- A turn: the moment that the clock answered in it, and the lines that the journal gained.
+-- The moment that the clock answered, and the lines that the journal gained with it.
 pub record Turn : Type 0 where
   pub moment : ℕ
   pub lines : List JournalLine
@@ -24,15 +27,19 @@ pub record GainsAt (moment : ℕ) (before after : List JournalLine) : Type 0 whe
   pub journal : after ≡ before ++ gained
   pub bears : BearsMoment (record { moment = moment; lines = gained })
 
--- In one turn the clock was asked once, and the journal gained lines at the moment that it answered.
-pub record TakesMoment (before after : Option Moments) (lines_before lines_after : List JournalLine) : Type 0 where
+-- In one turn the clock was asked once, and the journal gained lines at the moment that it
+-- answered.
+pub record TakesMoment (before after : Option Moments)
+    (lines_before lines_after : List JournalLine) : Type 0 where
   pub moment : ℕ
-  pub answers : Answers before (moment ∷ []) after
+  pub answers : ClockAnswers before (moment ∷ []) after
   pub gains : GainsAt moment lines_before lines_after
 
--- In so many turns the clock was asked once in each, and the journal gained their lines, in their order.
-pub record ReadsClock (before after : Option Moments) (lines_before lines_after : List JournalLine) : Type 0 where
+-- The clock was asked so often, and the journal gained the lines of what it answered, in their
+-- order.
+pub record ReadsClock (before after : Option Moments)
+    (lines_before lines_after : List JournalLine) : Type 0 where
   pub turns : List Turn
-  pub answers : Answers before (map (λ turn. turn.moment) turns) after
+  pub answers : ClockAnswers before (map (λ turn. turn.moment) turns) after
   pub journal : lines_after ≡ lines_before ++ flat_map (λ turn. turn.lines) turns
   pub bear : All BearsMoment turns

@@ -19,23 +19,24 @@ readers_of Seal = readers.Anyone
 readers_of Unseal = readers.Owner
 
 -- a job that was done but for its place ends with a failure of the shelf; another ends as it did
-abbrev pub end_unplaced : JobEnd → JobEnd
-end_unplaced ends.Done = ends.Outside outsides.ShelfFault
-end_unplaced (ends.Refusal refusal) = ends.Refusal refusal
-end_unplaced (ends.Fault fault) = ends.Fault fault
-end_unplaced (ends.Outside outside) = ends.Outside outside
+abbrev pub unplaced_end : JobEnd → JobEnd
+unplaced_end ends.Done = ends.Outside outsides.ShelfFault
+unplaced_end (ends.Refusal refusal) = ends.Refusal refusal
+unplaced_end (ends.Fault fault) = ends.Fault fault
+unplaced_end (ends.Outside outside) = ends.Outside outside
 
 -- what is said of a job whose file couldn't be put in its place
-abbrev pub unplaced : JobLine → JobLine
-unplaced line = record line { end = end_unplaced line.end }
+abbrev pub unplaced_line : JobLine → JobLine
+unplaced_line line = record line { end = unplaced_end line.end }
 
--- What is said of a job that ended stays, and where it is that the job is done, the shelf didn't fail; or the shelf failed. Of a job that hasn't ended nothing is put in its place.
+-- What is said of a job that ended stays, and where it is that the job is done, the shelf didn't
+-- fail; or the shelf failed. Of a job that hasn't ended nothing is put in its place.
 abbrev pub IsPlaced : Progress → Progress → (before after : ℕ) → Type 0
 IsPlaced stages.Waiting placed before after = placed ≡ stages.Waiting
 IsPlaced (stages.Live now) placed before after = placed ≡ stages.Live now
 IsPlaced (stages.Ended line) placed before after =
     ((placed ≡ stages.Ended line) × (line.end ≡ ends.Done → after ≡ before))
-    ⊎ ((placed ≡ stages.Ended (unplaced line)) × Rose before after)
+    ⊎ ((placed ≡ stages.Ended (unplaced_line line)) × Rose before after)
 
 -- What putting it in its place comes to: the files stay as they are.
 pub record PutsInPlace (next placed : Progress) (before after : ShelfState) : Type 0 where

@@ -15,7 +15,8 @@ is_ended (Ended line) = true
 -- the first job that hasn't ended, or none is
 abbrev pub IsFirstRunning : List Progress → Option ℕ → Type 0
 IsFirstRunning progress (Some at) =
-    (at < length progress) × All (λ one. is_ended one ≡ true) (take at progress) × ((one : Progress) → is_ended (slice_index_or progress at one) ≡ false)
+    (at < length progress) × All (λ one. is_ended one ≡ true) (take at progress)
+    × ((one : Progress) → is_ended (slice_index_or progress at one) ≡ false)
 IsFirstRunning progress None = All (λ one. is_ended one ≡ true) progress
 
 -- every job ended, and these are their lines

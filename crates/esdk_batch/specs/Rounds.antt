@@ -7,6 +7,7 @@ use Rattle.esdk_fields.specs.Counts.{Stayed}
 use Rattle.esdk_base.specs.Shelf.{Files}
 use Rattle.esdk_base.specs.Streams.{EntropyState}
 use Rattle.keyring_trait.specs.declared.journal.JournalLine.{JournalLine}
+use Rattle.keyring_trait.specs.Saying.{Saying}
 use Rattle.desk_core.specs.declared.live_sessions.Desk.{Desk}
 use Rattle.desk_core.specs.Session.{SessionValue}
 use Rattle.desk_core.specs.Desk.{DeskValue}
@@ -15,7 +16,6 @@ use Rattle.job_file.specs.declared.job.Job.{Job}
 use Rattle.job_file.specs.JobFile.{is_written}
 use Rattle.esdk_batch.specs.declared.progress.Progress.{Progress}
 use Rattle.esdk_batch.specs.declared.progress.Progress.TheVariants as stages
-use Rattle.esdk_batch.specs.Managing.{Managing}
 use Rattle.esdk_batch.specs.Batch.{OnlyWritten, SealsFirst, in_line}
 use Rattle.esdk_batch.specs.Underway.{HasSession, IsAt, LacksSession, beside}
 use Rattle.esdk_batch.specs.Turns.{HasKind, Knows, answered_so_far, waits}
@@ -41,7 +41,8 @@ all_waits progress = sum_by waits progress
 
 -- ---- the jobs of a batch
 
--- What holds of the files that they read and write: no job writes what one reads, and no two jobs write one file.
+-- What holds of the files that they read and write: no job writes what one reads, and no two jobs
+-- write one file.
 pub record AreApart (jobs : List Job) : Type 0 where
   pub unread : All (λ job. is_written jobs job.from ≡ false) jobs
   pub apart : AllPairs (λ one other. one.to ≢ other.to) jobs
@@ -54,11 +55,15 @@ HasOwn stages.Waiting other = Unit {0}
 HasOwn (stages.Live now) other = LacksSession now.session other
 HasOwn (stages.Ended line) other = Unit {0}
 
--- Each live job has a session of its own, of which it knows how its materials were served; and jobs are opened in their order: behind one that waits all wait.
-pub record HaveSessions (jobs : List Job) (progress : List Progress) (live : ℕ → Option SessionValue) : Type 0 where
+-- Each live job has a session of its own, of which it knows how its materials were served; and jobs
+-- are opened in their order: behind one that waits all wait.
+pub record HaveSessions (jobs : List Job) (progress : List Progress)
+    (live : ℕ → Option SessionValue) : Type 0 where
   pub sessions : All (HasSession live) progress
-  pub knows : (k : ℕ) (job : Job) (one : Progress) → k < length progress → Knows (slice_index_or jobs k job).work (slice_index_or progress k one) live
-  pub own : (i j : ℕ) (one : Progress) → i ≢ j → i < length progress → j < length progress → HasOwn (slice_index_or progress i one) (slice_index_or progress j one)
+  pub knows : (k : ℕ) (job : Job) (one : Progress) → k < length progress
+      → Knows (slice_index_or jobs k job).work (slice_index_or progress k one) live
+  pub own : (i j : ℕ) (one : Progress) → i ≢ j → i < length progress → j < length progress
+      → HasOwn (slice_index_or progress i one) (slice_index_or progress j one)
   pub order : AllPairs (λ one later. one ≡ stages.Waiting → later ≡ stages.Waiting) progress
 
 -- the desk is worth something at which the live jobs have sessions
@@ -72,7 +77,8 @@ beside_all (one ∷ others) live = beside one (beside_all others live)
 
 -- ---- what came so far
 
--- Where a batch begins: the sessions that are live, what the files hold, the bytes that are to be drawn, the journal, and the number that the desk drew last.
+-- Where a batch begins: the sessions that are live, what the files hold, the bytes that are to be
+-- drawn, the journal, and the number that the desk drew last.
 pub record Beginning : Type 0 where
   pub live : ℕ → Option SessionValue
   pub files : Option Files
@@ -81,36 +87,49 @@ pub record Beginning : Type 0 where
   pub last : ℕ
 
 -- each job stands where it is
-abbrev pub AreAt : Managing → List Job → Files → Files → List (List ℕ) → (ℕ → Option SessionValue) → List Progress → Type 0
+abbrev pub AreAt : Saying → List Job → Files → Files → List (List ℕ) → (ℕ → Option SessionValue)
+    → List Progress → Type 0
 AreAt manager jobs before files draws live progress =
     (k : ℕ) (job : Job) (drawn : List ℕ) (one : Progress) → k < length progress
-    → IsAt manager (slice_index_or jobs k job) before files (slice_index_or draws k drawn) live (slice_index_or progress k one)
+    → IsAt manager (slice_index_or jobs k job) before files (slice_index_or draws k drawn) live
+    (slice_index_or progress k one)
 
--- What the jobs drew so far, each these bytes: those are what was taken, and a job that waits drew none.
-pub record HaveDrawn (draws : List (List ℕ)) (progress : List Progress) (entropy spent : EntropyState) : Type 0 where
+-- What the jobs drew so far, each these bytes: those are what was taken, and a job that waits drew
+-- none.
+pub record HaveDrawn (draws : List (List ℕ)) (progress : List Progress)
+    (entropy spent : EntropyState) : Type 0 where
   pub count : length draws ≡ length progress
   pub taken : Consumes entropy.to_come spent.to_come (concat draws)
-  pub none : (k : ℕ) (drawn : List ℕ) (one : Progress) → k < length progress → slice_index_or progress k one ≡ stages.Waiting → slice_index_or draws k drawn ≡ []
+  pub none : (k : ℕ) (drawn : List ℕ) (one : Progress) → k < length progress
+      → slice_index_or progress k one ≡ stages.Waiting → slice_index_or draws k drawn ≡ []
 
--- Each job that had a turn drew a number. What was sealed in the first round stands before what was opened; until a job had a second turn, nothing was opened.
-pub record HaveSealed (width last next : ℕ) (progress : List Progress) (gained : List JournalLine) : Type 0 where
+-- Each job that had a turn drew a number. What was sealed in the first round stands before what was
+-- opened; until a job had a second turn, nothing was opened.
+pub record HaveSealed (width last next : ℕ) (progress : List Progress)
+    (gained : List JournalLine) : Type 0 where
   pub numbers : next + all_waits progress ≡ last + length progress
   pub seals : SealsFirst width last gained
   pub opened : (seals.later ≡ []) ⊎ HaveBegun width progress
 
--- How the jobs stand that drew these bytes, where the batch began so, and the files hold `now`: beside the jobs' sessions those are live that were; the journal gained these
--- lines, and says of each job how its materials were served; no other files were written than those that jobs write; and where no draw failed, the first round sealed before
--- anything was opened.
-pub record Stand (manager : Managing) (jobs : List Job) (width : ℕ) (began : Beginning) (now : Option Files) (spent : EntropyState) (v : DeskValue) (progress : List Progress) : Type 0 where
+-- How the jobs stand that drew these bytes, where the batch began so, and the files hold `now`:
+-- beside the jobs' sessions those are live that were; the journal gained these lines, and says of
+-- each job how its materials were served; no other files were written than those that jobs write;
+-- and where no draw failed, the first round sealed before anything was opened.
+pub record Stand (manager : Saying) (jobs : List Job) (width : ℕ) (began : Beginning)
+    (now : Option Files) (spent : EntropyState) (v : DeskValue)
+    (progress : List Progress) : Type 0 where
   pub sessions : HaveSessions jobs progress v.live
   pub rest : (session : ℕ) → beside_all progress v.live session ≡ began.live session
-  pub kinds : (k : ℕ) (job : Job) (one : Progress) → k < length progress → HasKind (slice_index_or jobs k job).work (slice_index_or progress k one)
+  pub kinds : (k : ℕ) (job : Job) (one : Progress) → k < length progress
+      → HasKind (slice_index_or jobs k job).work (slice_index_or progress k one)
   pub draws : List (List ℕ)
   pub drawn : HaveDrawn draws progress began.entropy spent
   pub gained : List JournalLine
   pub journal : v.journal ≡ began.journal ++ gained
   pub served : IsPermutation (filter_map answered_so_far (zip jobs progress)) (map in_line gained)
   pub others : OnlyWritten jobs began.files now
-  pub at : (files left : Files) → began.files ≡ Some files → now ≡ Some left → AreAt manager jobs files left draws v.live progress
+  pub at : (files left : Files) → began.files ≡ Some files → now ≡ Some left
+      → AreAt manager jobs files left draws v.live progress
   pub later : began.entropy.faults ≤ spent.faults
-  pub sealed : Stayed began.entropy.faults spent.faults → HaveSealed width began.last v.last progress gained
+  pub sealed : Stayed began.entropy.faults spent.faults
+      → HaveSealed width began.last v.last progress gained

@@ -1,12 +1,13 @@
--- How a job stands between its turns: what its session is worth, what it took of its file, and what the file holds that it writes.
-use Rattle.std.specs.Prelude.{◌≡◌, ◌≢◌, ◌≤◌, ◌<◌, ◌+◌, ℕ, List, [], ◌++◌, length, drop, Option, Some, None, nat_eq}
+-- How a job stands between its turns: what its session is worth, what it took of its file, and what
+-- the file holds that it writes.
+use Rattle.std.specs.Prelude.{◌≡◌, ◌≢◌, ◌≤◌, ◌+◌, ℕ, List, [], ◌++◌, length, drop, Option, Some, None, nat_eq}
 use Rattle.std.specs.Map.{update}
 use Rattle.std.specs.Io.KnownBytes.{Consumes}
 use Rattle.esdk_base.specs.Shelf.{Files, file_of}
 use Rattle.esdk_base.specs.Streams.{EntropyState}
 use Rattle.context_codec.specs.Context.{KeyValue}
 use Rattle.keyring_trait.specs.declared.journal.JournalLine.{JournalLine}
-use Rattle.keyring_trait.specs.declared.served.Served.{Served}
+use Rattle.keyring_trait.specs.Saying.{Saying}
 use Rattle.stream_seal.specs.Feeding as seals
 use Rattle.stream_seal.specs.Session.{SealingValue}
 use Rattle.stream_seal.specs.Start.{start_refusal}
@@ -14,7 +15,6 @@ use Rattle.stream_open.specs.Feeding as opens
 use Rattle.stream_open.specs.Session.{OpeningValue, judged_now}
 use Rattle.message_format.specs.Judgement.{content}
 use Rattle.esdk_encrypt.specs.Encrypt.{draws, drawn_id, drawn_rest}
-use Rattle.esdk_decrypt.specs.Underway.{asking_in}
 use Rattle.desk_core.specs.declared.live_sessions.Desk.{Desk}
 use Rattle.desk_core.specs.Session.{SessionValue, Sealing, Opening}
 use Rattle.desk_core.specs.Desk.{DeskValue}
@@ -25,8 +25,8 @@ use Rattle.job_file.specs.declared.job.Work.TheVariants.{Encrypt, Decrypt}
 use Rattle.esdk_batch.specs.declared.progress.Live.{Live}
 use Rattle.esdk_batch.specs.declared.progress.Progress.{Progress}
 use Rattle.esdk_batch.specs.declared.progress.Progress.TheVariants as stages
+use Rattle.esdk_batch.specs.Answering.{KeepsServed, no_limits}
 use Rattle.esdk_batch.specs.Files.{KeepsOthers, most_input}
-use Rattle.esdk_batch.specs.Managing.{Managing, no_limits}
 use Rattle.esdk_batch.specs.SealStory.{SealAsked, held, wish_of}
 use Rattle.esdk_batch.specs.Batch.{WorksSo, kind_of, seen_of}
 
@@ -36,20 +36,25 @@ IsWorth desk = (v : DeskValue) × Stands desk v
 
 -- the desk is worth something at which this session is live
 abbrev pub IsLiveAt : {M : Type 0} → Desk M → ℕ → Type 0
-IsLiveAt desk session = (v : DeskValue) × Stands desk v × ((s : SessionValue) × (v.live session ≡ Some s))
+IsLiveAt desk session = (v : DeskValue) × Stands desk v
+    × ((s : SessionValue) × (v.live session ≡ Some s))
 
 -- ---- a session that is live
 
--- The bytes taken are so many, and stand at the front of what the file holds; none, where it isn't there.
+-- The bytes taken are so many, and stand at the front of what the file holds; none, where it isn't
+-- there.
 pub record Took (taken : List ℕ) (at : ℕ) (from : Option (List ℕ)) : Type 0 where
   pub count : length taken ≡ at
   pub most : at ≤ most_input
   pub front : held from ≡ taken ++ drop at (held from)
 
--- The session seals for a job that asked so and drew these bytes. Each piece so far was fed to its end, and the file holds what that gave.
-pub record IsSealing (manager : Managing) (asked : SealAsked) (from to : Option (List ℕ)) (drawn : List ℕ) (live : Live) (s : SealingValue) : Type 0 where
+-- The session seals for a job that asked so and drew these bytes. Each piece so far was fed to its
+-- end, and the file holds what that gave.
+pub record IsSealing (manager : Saying) (asked : SealAsked) (from to : Option (List ℕ))
+    (drawn : List ℕ) (live : Live) (s : SealingValue) : Type 0 where
   pub count : length drawn ≡ draws manager.wraps
-  pub given : manager.gives (wish_of asked) (drawn_rest drawn) s.materials
+  pub moment : ℕ
+  pub given : manager.gives (wish_of asked) moment (drawn_rest drawn) s.materials
   pub served : live.served ≡ Some s.materials.served
   pub begins : start_refusal s.materials None (drawn_id drawn) ≡ None
   pub declared : s.declared ≡ asked.declared
@@ -59,36 +64,52 @@ pub record IsSealing (manager : Managing) (asked : SealAsked) (from to : Option 
   pub took : Took s.taken live.at from
   pub holds : to ≡ Some (seals.given_so_far s)
 
--- The session opens for a job that gives these pairs. It goes on and keeps the manager's answer, and the file holds what was released.
-pub record IsOpening (manager : Managing) (given : List KeyValue) (from to : Option (List ℕ)) (live : Live) (s : OpeningValue) : Type 0 where
+-- The session opens for a job that gives these pairs. It goes on and keeps the manager's answer,
+-- and the file holds what was released.
+pub record IsOpening (manager : Saying) (given : List KeyValue) (from to : Option (List ℕ))
+    (live : Live) (s : OpeningValue) : Type 0 where
   pub settings : s.settings ≡ no_limits
   pub pairs : s.given ≡ given
   pub goes : opens.GoesOn s
-  pub keeps : opens.Keeps (asking_in manager.answering) s s.taken
+  pub keeps : KeepsServed manager s s.taken
   pub served : live.served ≡ s.served
   pub took : Took s.taken live.at from
   pub holds : to ≡ Some (content (judged_now s))
 
 -- a live job's session, by what the job does
-abbrev pub IsLive : Managing → Work → Option (List ℕ) → Option (List ℕ) → List ℕ → Live → Option SessionValue → Type 0
+abbrev pub IsLive : Saying → Work → Option (List ℕ) → Option (List ℕ) → List ℕ → Live
+    → Option SessionValue → Type 0
 IsLive manager (Encrypt length frame context required) from to drawn live (Some (Sealing s)) =
-    IsSealing manager (record { declared = length; frame = frame; context = context; required = required }) from to drawn live s
-IsLive manager (Decrypt given required) from to drawn live (Some (Opening s)) = (drawn ≡ []) × IsOpening manager given from to live s
+    IsSealing manager (record {
+      declared = length;
+      frame = frame;
+      context = context;
+      required = required;
+    }) from to drawn live s
+IsLive manager (Decrypt given required) from to drawn live (Some (Opening s)) =
+    (drawn ≡ []) × IsOpening manager given from to live s
 IsLive manager work from to drawn live session = ⊥
 
 -- ---- a job
 
--- It waits, and drew nothing, and its file is as before; or it is live; or it ended, and what is said of it is so. `before` are the files before the batch, `files` those now.
-abbrev pub IsAt : Managing → Job → Files → Files → List ℕ → (ℕ → Option SessionValue) → Progress → Type 0
-IsAt manager job before files drawn live stages.Waiting = (drawn ≡ []) × (file_of (Some files) job.to ≡ file_of (Some before) job.to)
+-- It waits, and drew nothing, and its file is as before; or it is live; or it ended, and what is
+-- said of it is so. `before` are the files before the batch, `files` those now.
+abbrev pub IsAt : Saying → Job → Files → Files → List ℕ → (ℕ → Option SessionValue) → Progress
+    → Type 0
+IsAt manager job before files drawn live stages.Waiting =
+    (drawn ≡ []) × (file_of (Some files) job.to ≡ file_of (Some before) job.to)
 IsAt manager job before files drawn live (stages.Live now) =
-    IsLive manager job.work (file_of (Some before) job.from) (file_of (Some files) job.to) drawn now (live now.session)
-IsAt manager job before files drawn live (stages.Ended line) = (line.kind ≡ kind_of job.work) × WorksSo manager job.work (seen_of job before files drawn line) line.end
+    IsLive manager job.work (file_of (Some before) job.from)
+    (file_of (Some files) job.to) drawn now (live now.session)
+IsAt manager job before files drawn live (stages.Ended line) =
+    (line.kind ≡ kind_of job.work)
+    × WorksSo manager job.work (seen_of job before files drawn line) line.end
 
 -- the job's session is live, where the job is, and the job took no more than it may
 abbrev pub HasSession : (ℕ → Option SessionValue) → Progress → Type 0
 HasSession live stages.Waiting = Unit {0}
-HasSession live (stages.Live now) = (s : SessionValue) × (live now.session ≡ Some s) × (now.at ≤ most_input)
+HasSession live (stages.Live now) =
+    (s : SessionValue) × (live now.session ≡ Some s) × (now.at ≤ most_input)
 HasSession live (stages.Ended line) = Unit {0}
 
 -- the desk is worth something at which the job's session is live, where the job is
@@ -109,12 +130,16 @@ beside (stages.Ended line) live session = live session
 
 -- ---- a turn
 
--- What a turn of a job comes to, whose file of this batch held so at first: the job drew these bytes more, every session of another job and every file but its own are as
--- before, beside the job's own session those are live that were, the journal gained these lines, and the job stands where it is now.
-pub record TakesTurn (manager : Managing) (job : Job) (old new : Progress) (v w : DeskValue) (files left : Option Files) (entropy spent : EntropyState) : Type 0 where
+-- What a turn of a job comes to, whose file of this batch held so at first: the job drew these
+-- bytes more, every session of another job and every file but its own are as before, beside the
+-- job's own session those are live that were, the journal gained these lines, and the job stands
+-- where it is now.
+pub record TakesTurn (manager : Saying) (job : Job) (old new : Progress) (v w : DeskValue)
+    (files left : Option Files) (entropy spent : EntropyState) : Type 0 where
   pub more : List ℕ
   pub drawn : Consumes entropy.to_come spent.to_come more
-  pub sessions : (session : ℕ) → LacksSession session old → session ≤ v.last → w.live session ≡ v.live session
+  pub sessions : (session : ℕ) → LacksSession session old → session ≤ v.last
+      → w.live session ≡ v.live session
   pub rest : (session : ℕ) → beside new w.live session ≡ beside old v.live session
   pub last : v.last ≤ w.last
   pub next : w.last ≤ v.last + 1
@@ -122,12 +147,15 @@ pub record TakesTurn (manager : Managing) (job : Job) (old new : Progress) (v w 
   pub journal : w.journal ≡ v.journal ++ gained
   pub others : KeepsOthers files left job.to
   pub has : HasSession w.live new
-  pub stands : (before now then_held : Files) (drawn : List ℕ) → files ≡ Some now → left ≡ Some then_held
+  pub stands : (before now then_held : Files) (drawn : List ℕ) → files ≡ Some now
+      → left ≡ Some then_held
       → file_of (Some now) job.from ≡ file_of (Some before) job.from
-      → IsAt manager job before now drawn v.live old → IsAt manager job before then_held (drawn ++ more) w.live new
+      → IsAt manager job before now drawn v.live old
+      → IsAt manager job before then_held (drawn ++ more) w.live new
 
 -- The same of a further turn, which draws nothing and no number.
-pub record FurtherTurn (manager : Managing) (job : Job) (live : Live) (new : Progress) (v w : DeskValue) (files left : Option Files) : Type 0 where
+pub record FurtherTurn (manager : Saying) (job : Job) (live : Live) (new : Progress)
+    (v w : DeskValue) (files left : Option Files) : Type 0 where
   pub sessions : (session : ℕ) → session ≢ live.session → w.live session ≡ v.live session
   pub rest : (session : ℕ) → beside new w.live session ≡ beside (stages.Live live) v.live session
   pub last : w.last ≡ v.last
@@ -135,6 +163,8 @@ pub record FurtherTurn (manager : Managing) (job : Job) (live : Live) (new : Pro
   pub journal : w.journal ≡ v.journal ++ gained
   pub others : KeepsOthers files left job.to
   pub has : HasSession w.live new
-  pub stands : (before now then_held : Files) (drawn : List ℕ) → files ≡ Some now → left ≡ Some then_held
+  pub stands : (before now then_held : Files) (drawn : List ℕ) → files ≡ Some now
+      → left ≡ Some then_held
       → file_of (Some now) job.from ≡ file_of (Some before) job.from
-      → IsAt manager job before now drawn v.live (stages.Live live) → IsAt manager job before then_held drawn w.live new
+      → IsAt manager job before now drawn v.live (stages.Live live)
+      → IsAt manager job before then_held drawn w.live new

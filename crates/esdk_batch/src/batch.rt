@@ -1,11 +1,10 @@
 //! The whole batch.
 
-ghost use Rattle.std.specs.Prelude.{◌≡◌, ◌≤◌, ◌++◌, ◌-◌, ◌^◌, ℕ, true, All, is_some, List, IfOk, OnOk};
-ghost use Rattle.keyring_trait.specs.declared.journal.JournalLine.{JournalLine};
-ghost use Rattle.keyring_trait.specs.Manager.{ManagerGoes, TellsOn};
+ghost use Rattle.std.specs.Prelude.{◌≡◌, ◌≤◌, ◌-◌, ◌^◌, ℕ, true, All, is_some, IfOk, OnOk};
+ghost use Rattle.keyring_trait.specs.Manager.{Went};
+ghost use Rattle.keyring_trait.specs.Saying.{said_between};
 ghost use Rattle.desk_core.specs.Desk.{DeskValue};
 ghost use Rattle.desk_core.specs.Stands.{Stands, manager_of, journal_of, last_of};
-ghost use Rattle.esdk_batch.specs.Managing.{managing_of};
 ghost use Rattle.esdk_batch.specs.Batch.{OnlyWritten, RunsBatch};
 ghost use Rattle.esdk_batch.specs.Failures.{CountsFailures, tally_of};
 ghost use Rattle.esdk_batch.specs.Moments.{ReadsClock};
@@ -28,15 +27,16 @@ use std::alloc::{AllocError, Global};
 /// The shelf is told first which names are going to be read.
 ///
 /// The window is the first jobs that haven't ended, as many as it is wide. In each round every job
-/// in it has one turn, in the order of the jobs. A turn reads the clock once, first. A job's first
-/// turn opens it: an encrypt job draws the bytes that its message is made with by one fill (X4),
-/// its session is opened, the file that it writes is made to hold nothing, and the header is
-/// appended (X3); a decrypt job's session is opened with no limits, and its file is made (X3). Each
-/// further turn reads at most a piece of the job's file at the job's offset (X3), feeds all of it,
-/// and appends what the session gives (X3), each by one call, and nothing by none. Where the file's
-/// end was seen, the session is ended instead, and what that gives is appended in the same way. X6
-/// comes where 2^62 bytes were taken and the end wasn't seen. A refusal ends the job, and its
-/// session is dropped; what was appended stays, and the other jobs go on.
+/// in it has one turn, in the order of the jobs. A job's first turn opens it: an encrypt job draws
+/// the bytes that its message is made with by one fill (X4), its session is opened, the file that
+/// it writes is made to hold nothing, and the header is appended (X3); a decrypt job's session is
+/// opened with no limits, and its file is made (X3). Each further turn reads at most a piece of the
+/// job's file at the job's offset (X3), feeds all of it, and appends what the session gives (X3),
+/// each by one call, and nothing by none. Where the file's end was seen, the session is ended
+/// instead, and what that gives is appended in the same way. X6 comes where 2^62 bytes were taken
+/// and the end wasn't seen. A refusal ends the job, and its session is dropped; what was appended
+/// stays, and the other jobs go on. The lines that the journal gains bear the moments that the
+/// clock answered, in their order.
 ///
 /// Where a job ended, however it did, the file that it writes is finished once: a message for
 /// anyone, the content of one for its owner alone. X3 comes also where that fails of a job that
@@ -56,8 +56,7 @@ pub fn run_batch<M: Manager, F: Shelf, W: Entropy, C: Clock>(
     requires room { last_of desk.old ≤ 2 ^ 64 - 1001 }
     requires worth { IsWorth desk.old }
     ensures runs { (v : DeskValue) → Stands desk.old v → IfOk result (RunsBatch
-        (managing_of (M.meaning (manager_of desk.old)) (M.meaning (manager_of desk.new))
-        (M.tells (manager_of desk.old)) (M.exact (manager_of desk.old)))
+        (said_between (M.state (manager_of desk.old)) (M.state (manager_of desk.new)))
         jobs.now v.last (F.state shelf.old) (F.state shelf.new) (W.state entropy.old)
         (W.state entropy.new) (journal_of desk.old) (journal_of desk.new)) }
     ensures moments { ReadsClock (C.moments clock.old) (C.moments clock.new)
@@ -68,19 +67,13 @@ pub fn run_batch<M: Manager, F: Shelf, W: Entropy, C: Clock>(
     ensures told { is_some (F.state shelf.new).files ≡ is_some (F.state shelf.old).files }
     ensures failures { IfOk result (CountsFailures jobs.now.jobs
         (tally_of (F.state shelf.old) (W.state entropy.old).faults
-        (M.meaning (manager_of desk.old)).faults)
+        (M.state (manager_of desk.old)).meaning.faults)
         (tally_of (F.state shelf.new) (W.state entropy.new).faults
-        (M.meaning (manager_of desk.new)).faults)) }
+        (M.state (manager_of desk.new)).meaning.faults)) }
     ensures worth { IsWorth desk.new }
-    ensures goes { ManagerGoes (M.meaning (manager_of desk.old)) (M.meaning (manager_of desk.new)) }
-    ensures tells { TellsOn (M.tells (manager_of desk.old)) (M.tells (manager_of desk.new)) }
-    ensures same { (M.meaning (manager_of desk.old)).plain ≡ true
-        → TellsOn (M.tells (manager_of desk.new)) (M.tells (manager_of desk.old)) }
-    ensures exact { M.exact (manager_of desk.old) → M.exact (manager_of desk.new) }
-    ensures bears { M.bears (manager_of desk.old) (journal_of desk.old)
-        → M.bears (manager_of desk.new) (journal_of desk.new) }
-    ensures limits { (lines : List JournalLine) → M.within (manager_of desk.new) lines
-        → M.within (manager_of desk.old) lines }
+    ensures went { Went (M.state (manager_of desk.old)) (M.state (manager_of desk.new)) }
+    ensures bears { (M.state (manager_of desk.old)).bears (journal_of desk.old)
+        → (M.state (manager_of desk.new)).bears (journal_of desk.new) }
 {
     // A manager goes on from where it is: `draws` says so.
     let _draws = desk.draws();

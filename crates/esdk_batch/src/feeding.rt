@@ -4,8 +4,9 @@ ghost use Rattle.std.specs.Prelude.{◌≡◌, ◌≤◌, ℕ, true, false, List
 ghost use Rattle.desk_core.specs.Session.{SessionValue};
 ghost use Rattle.desk_core.specs.Desk.{DeskValue};
 ghost use Rattle.desk_core.specs.Stands.{Stands, manager_of, journal_of};
-ghost use Rattle.keyring_trait.specs.Manager.{ManagerGoes};
-ghost use Rattle.esdk_batch.specs.Managing.{Admits, Went, manager_now, managing_of};
+ghost use Rattle.keyring_trait.specs.Manager.{Went};
+ghost use Rattle.keyring_trait.specs.Saying.{said_between};
+ghost use Rattle.esdk_batch.specs.Managing.{ManagerWent, SaysWithin};
 ghost use Rattle.esdk_batch.specs.Ending.{EndsSession, FeedsPiece};
 ghost use Rattle.esdk_base.specs.Shelf.{is_missing};
 ghost use Rattle.esdk_batch.specs.Failures.{PieceCounts};
@@ -34,33 +35,21 @@ pub(crate) fn feed_piece<M: Manager, F: Shelf>(
     shelf: &mut F,
 ) -> Result<Option<JobEnd>, AllocError>
     requires live { IsLiveAt desk.old session }
-    requires still { ManagerGoes (M.meaning (manager_of desk.old))
-        (M.meaning (manager_of desk.old)) }
+    requires still { Went (M.state (manager_of desk.old)) (M.state (manager_of desk.old)) }
     ensures feeds { (first last : M) (v : DeskValue) (s : SessionValue)
-        → Admits (managing_of (M.meaning first) (M.meaning last) (M.tells first) (M.exact first))
-        (manager_now (M.meaning (manager_of desk.old)) (M.tells (manager_of desk.old))
-        (M.exact (manager_of desk.old))
-        (M.bears (manager_of desk.old) (journal_of desk.old)) (M.within (manager_of desk.old)))
-        (manager_now (M.meaning (manager_of desk.new)) (M.tells (manager_of desk.new))
-        (M.exact (manager_of desk.new))
-        (M.bears (manager_of desk.new) (journal_of desk.new)) (M.within (manager_of desk.new)))
+        → SaysWithin M.state first last desk.old desk.new
         → Stands desk.old v → v.live session ≡ Some s
         → IfOk result (λ end. (w : DeskValue) × Stands desk.new w × FeedsPiece
-        (managing_of (M.meaning first) (M.meaning last) (M.tells first) (M.exact first))
+        (said_between (M.state first) (M.state last))
         session s piece.now v w to.now (F.state shelf.old).files (F.state shelf.new).files end) }
     ensures moment { GainsAt now (journal_of desk.old) (journal_of desk.new) }
     ensures kept { KeepsOthers (F.state shelf.old).files (F.state shelf.new).files to.now }
     ensures counts { is_missing (F.state shelf.old).files to.now ≡ false
         → IfOk result (λ end. PieceCounts to.now end (F.state shelf.old) (F.state shelf.new)
-        (M.meaning (manager_of desk.old)).faults (M.meaning (manager_of desk.new)).faults) }
+        (M.state (manager_of desk.old)).meaning.faults
+        (M.state (manager_of desk.new)).meaning.faults) }
     ensures worth { IsWorth desk.new }
-    ensures went { Went
-        (manager_now (M.meaning (manager_of desk.old)) (M.tells (manager_of desk.old))
-        (M.exact (manager_of desk.old))
-        (M.bears (manager_of desk.old) (journal_of desk.old)) (M.within (manager_of desk.old)))
-        (manager_now (M.meaning (manager_of desk.new)) (M.tells (manager_of desk.new))
-        (M.exact (manager_of desk.new))
-        (M.bears (manager_of desk.new) (journal_of desk.new)) (M.within (manager_of desk.new))) }
+    ensures went { ManagerWent M.state desk.old desk.new }
 {
     let mut left = piece;
     while !left.is_empty() {
@@ -88,7 +77,8 @@ pub(crate) fn end_session<M: Manager, F: Shelf>(
     requires { IsLiveAt desk.old session }
     ensures ends { (v : DeskValue) (s : SessionValue) → Stands desk.old v → v.live session ≡ Some s
         → IfOk result (λ end. (w : DeskValue) × Stands desk.new w
-        × EndsSession session s v w to.now (F.state shelf.old).files (F.state shelf.new).files end) }
+        × EndsSession session s v w to.now (F.state shelf.old).files (F.state shelf.new).files
+        end) }
     ensures kept { KeepsOthers (F.state shelf.old).files (F.state shelf.new).files to.now }
     ensures counts { (keyring : ℕ) → is_missing (F.state shelf.old).files to.now ≡ false
         → IfOk result (λ end. PieceCounts to.now (Some end)

@@ -16,8 +16,9 @@ ghost use Rattle.desk_core.specs.Desk.{DeskValue};
 ghost use Rattle.desk_core.specs.Stands.{Stands, manager_of, journal_of, last_of};
 ghost use Rattle.esdk_batch.specs.declared.progress.Progress.TheVariants.{Waiting};
 ghost use Rattle.keyring_trait.specs.declared.journal.Kind.TheVariants.{Seal, Unseal};
-ghost use Rattle.keyring_trait.specs.Manager.{ManagerGoes};
-ghost use Rattle.esdk_batch.specs.Managing.{Admits, Went, manager_now, managing_of};
+ghost use Rattle.keyring_trait.specs.Manager.{Went};
+ghost use Rattle.keyring_trait.specs.Saying.{said_between};
+ghost use Rattle.esdk_batch.specs.Managing.{ManagerWent, SaysWithin};
 ghost use Rattle.esdk_batch.specs.Failures.{TurnCounts, tally_of};
 ghost use Rattle.esdk_batch.specs.Files.{KeepsOthers, MakesFile};
 ghost use Rattle.esdk_batch.specs.Moments.{GainsAt};
@@ -29,7 +30,7 @@ ghost use Rattle.esdk_batch.specs.Batch.{kind_of};
 ghost use Rattle.esdk_batch.specs.Turns.{AddsLines, DrawsBytes, DrawsNumber, HasKind};
 
 use crate::files::{make, put};
-use crate::progress::{Live, Progress, ended};
+use crate::progress::{Live, Progress, ended_job};
 use batch_report::JobEnd;
 use context_codec::{Context, KeySet, PairError};
 use desk_core::{Desk, DeskError, SealRequest};
@@ -59,18 +60,11 @@ pub(crate) fn open_job<M: Manager, F: Shelf, W: Entropy>(
     requires work { IsWork job.now.work }
     requires room { last_of desk.old < 2 ^ 64 - 1 }
     requires worth { IsWorth desk.old }
-    requires still { ManagerGoes (M.meaning (manager_of desk.old))
-        (M.meaning (manager_of desk.old)) }
+    requires still { Went (M.state (manager_of desk.old)) (M.state (manager_of desk.old)) }
     ensures turn { (first last : M) (v : DeskValue)
-        → Admits (managing_of (M.meaning first) (M.meaning last) (M.tells first) (M.exact first))
-        (manager_now (M.meaning (manager_of desk.old)) (M.tells (manager_of desk.old))
-        (M.exact (manager_of desk.old))
-        (M.bears (manager_of desk.old) (journal_of desk.old)) (M.within (manager_of desk.old)))
-        (manager_now (M.meaning (manager_of desk.new)) (M.tells (manager_of desk.new))
-        (M.exact (manager_of desk.new))
-        (M.bears (manager_of desk.new) (journal_of desk.new)) (M.within (manager_of desk.new)))
+        → SaysWithin M.state first last desk.old desk.new
         → Stands desk.old v → IfOk result (λ next. (w : DeskValue) × Stands desk.new w × TakesTurn
-        (managing_of (M.meaning first) (M.meaning last) (M.tells first) (M.exact first))
+        (said_between (M.state first) (M.state last))
         job.now Waiting next v w (F.state shelf.old).files (F.state shelf.new).files
         (W.state entropy.old) (W.state entropy.new)) }
     ensures numbers { IfOk result
@@ -85,17 +79,11 @@ pub(crate) fn open_job<M: Manager, F: Shelf, W: Entropy>(
     ensures kept { KeepsOthers (F.state shelf.old).files (F.state shelf.new).files job.now.to }
     ensures counts { IfOk result (λ next. TurnCounts job.now next
         (tally_of (F.state shelf.old) (W.state entropy.old).faults
-        (M.meaning (manager_of desk.old)).faults)
+        (M.state (manager_of desk.old)).meaning.faults)
         (tally_of (F.state shelf.new) (W.state entropy.new).faults
-        (M.meaning (manager_of desk.new)).faults)) }
+        (M.state (manager_of desk.new)).meaning.faults)) }
     ensures worth { IsWorth desk.new }
-    ensures went { Went
-        (manager_now (M.meaning (manager_of desk.old)) (M.tells (manager_of desk.old))
-        (M.exact (manager_of desk.old))
-        (M.bears (manager_of desk.old) (journal_of desk.old)) (M.within (manager_of desk.old)))
-        (manager_now (M.meaning (manager_of desk.new)) (M.tells (manager_of desk.new))
-        (M.exact (manager_of desk.new))
-        (M.bears (manager_of desk.new) (journal_of desk.new)) (M.within (manager_of desk.new))) }
+    ensures went { ManagerWent M.state desk.old desk.new }
 {
     let to = job.to.as_str();
     match &job.work {
@@ -146,20 +134,13 @@ fn open_sealing<M: Manager, F: Shelf, W: Entropy>(
     requires some { 1 ≤ request.now.size }
     requires room { last_of desk.old < 2 ^ 64 - 1 }
     requires worth { IsWorth desk.old }
-    requires still { ManagerGoes (M.meaning (manager_of desk.old))
-        (M.meaning (manager_of desk.old)) }
+    requires still { Went (M.state (manager_of desk.old)) (M.state (manager_of desk.old)) }
     ensures turn { (first last : M) (job : Job) (asked : SealAsked) (v : DeskValue)
-        → Admits (managing_of (M.meaning first) (M.meaning last) (M.tells first) (M.exact first))
-        (manager_now (M.meaning (manager_of desk.old)) (M.tells (manager_of desk.old))
-        (M.exact (manager_of desk.old))
-        (M.bears (manager_of desk.old) (journal_of desk.old)) (M.within (manager_of desk.old)))
-        (manager_now (M.meaning (manager_of desk.new)) (M.tells (manager_of desk.new))
-        (M.exact (manager_of desk.new))
-        (M.bears (manager_of desk.new) (journal_of desk.new)) (M.within (manager_of desk.new)))
+        → SaysWithin M.state first last desk.old desk.new
         → job.work ≡ Encrypt asked.declared asked.frame asked.context asked.required
         → job.to ≡ to.now → request.now ≡ request_of asked → Stands desk.old v
         → IfOk result (λ next. (w : DeskValue) × Stands desk.new w × TakesTurn
-        (managing_of (M.meaning first) (M.meaning last) (M.tells first) (M.exact first))
+        (said_between (M.state first) (M.state last))
         job Waiting next v w (F.state shelf.old).files (F.state shelf.new).files
         (W.state entropy.old) (W.state entropy.new)) }
     ensures numbers { IfOk result
@@ -175,30 +156,24 @@ fn open_sealing<M: Manager, F: Shelf, W: Entropy>(
     ensures kept { KeepsOthers (F.state shelf.old).files (F.state shelf.new).files to.now }
     ensures counts { (job : Job) → job.to ≡ to.now → IfOk result (λ next. TurnCounts job next
         (tally_of (F.state shelf.old) (W.state entropy.old).faults
-        (M.meaning (manager_of desk.old)).faults)
+        (M.state (manager_of desk.old)).meaning.faults)
         (tally_of (F.state shelf.new) (W.state entropy.new).faults
-        (M.meaning (manager_of desk.new)).faults)) }
+        (M.state (manager_of desk.new)).meaning.faults)) }
     ensures worth { IsWorth desk.new }
-    ensures went { Went
-        (manager_now (M.meaning (manager_of desk.old)) (M.tells (manager_of desk.old))
-        (M.exact (manager_of desk.old))
-        (M.bears (manager_of desk.old) (journal_of desk.old)) (M.within (manager_of desk.old)))
-        (manager_now (M.meaning (manager_of desk.new)) (M.tells (manager_of desk.new))
-        (M.exact (manager_of desk.new))
-        (M.bears (manager_of desk.new) (journal_of desk.new)) (M.within (manager_of desk.new))) }
+    ensures went { ManagerWent M.state desk.old desk.new }
 {
     let mut random = [0; MOST_DRAWN];
     let count = desk.draws() as usize;
     let drawn = &mut random[..count];
     let Ok(()) = entropy.fill(drawn) else {
-        return Ok(ended(Kind::Seal, JobEnd::Outside(Outside::EntropyFault), None));
+        return Ok(ended_job(Kind::Seal, JobEnd::Outside(Outside::EntropyFault), None));
     };
     let lines = desk.journal().len();
     let opened = desk.open_seal(alloc, request, now, drawn);
     let served = served_since(desk, lines);
     match opened {
         Ok(session) => Ok(begin(session, Kind::Seal, served, to, desk, shelf)),
-        Err(error) => Ok(ended(Kind::Seal, end_of(error)?, served)),
+        Err(error) => Ok(ended_job(Kind::Seal, end_of(error)?, served)),
     }
 }
 
@@ -216,7 +191,7 @@ fn open_opening<M: Manager, F: Shelf>(
         (entropy : EntropyState)
         → job.work ≡ Decrypt given.now required → job.to ≡ to.now
         → Stands desk.old v → IfOk result (λ next. (w : DeskValue) × Stands desk.new w × TakesTurn
-        (managing_of (M.meaning first) (M.meaning last) (M.tells first) (M.exact first))
+        (said_between (M.state first) (M.state last))
         job Waiting next v w (F.state shelf.old).files (F.state shelf.new).files entropy entropy) }
     ensures numbers { IfOk result
         (λ next. DrawsNumber Waiting next (last_of desk.old) (last_of desk.new)) }
@@ -236,7 +211,7 @@ fn open_opening<M: Manager, F: Shelf>(
 {
     match desk.open_open(alloc, Settings::none(), given.copy(alloc)?) {
         Ok(session) => Ok(begin(session, Kind::Unseal, None, to, desk, shelf)),
-        Err(error) => Ok(ended(Kind::Unseal, end_of(error)?, None)),
+        Err(error) => Ok(ended_job(Kind::Unseal, end_of(error)?, None)),
     }
 }
 
@@ -274,7 +249,7 @@ fn begin<M: Manager, F: Shelf>(
         }),
         Err(_) => {
             let _dropped = desk.drop_session(session);
-            ended(kind, JobEnd::Outside(Outside::ShelfFault), served)
+            ended_job(kind, JobEnd::Outside(Outside::ShelfFault), served)
         }
     }
 }

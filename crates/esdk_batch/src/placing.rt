@@ -1,7 +1,7 @@
 //! What a job wrote is put in its place.
 
 ghost use Rattle.std.specs.Prelude.{◌≡◌};
-ghost use Rattle.esdk_batch.specs.Placing.{PutsInPlace, end_unplaced, readers_of, unplaced};
+ghost use Rattle.esdk_batch.specs.Placing.{PutsInPlace, unplaced_end, readers_of, unplaced_line};
 
 use crate::progress::Progress;
 use batch_report::{JobEnd, JobLine};
@@ -21,7 +21,7 @@ pub(crate) fn put_in_place<F: Shelf>(job: &Job, next: Progress, shelf: &mut F) -
         Progress::Live(live) => Progress::Live(live),
         Progress::Ended(line) => match shelf.finish(job.to.as_str(), readers_of(line.kind)) {
             Ok(()) => Progress::Ended(line),
-            Err(_) => Progress::Ended(unplaced(line)),
+            Err(_) => Progress::Ended(unplaced_line(line)),
         },
     }
 }
@@ -37,19 +37,19 @@ fn readers_of(kind: Kind) -> Readers
 }
 
 /// What is said of a job that ended so, and whose file couldn't be put in its place.
-fn unplaced(line: JobLine) -> JobLine
-    ensures { result ≡ unplaced line }
+fn unplaced_line(line: JobLine) -> JobLine
+    ensures { result ≡ unplaced_line line }
 {
     JobLine {
         kind: line.kind,
-        end: end_unplaced(line.end),
+        end: unplaced_end(line.end),
         served: line.served,
     }
 }
 
 /// How it ended then.
-fn end_unplaced(end: JobEnd) -> JobEnd
-    ensures { result ≡ end_unplaced end }
+fn unplaced_end(end: JobEnd) -> JobEnd
+    ensures { result ≡ unplaced_end end }
 {
     match end {
         JobEnd::Done => JobEnd::Outside(Outside::ShelfFault),

@@ -81,7 +81,7 @@ pub(crate) fn kind_of(work: &Work) -> Kind
 }
 
 /// A job that ended so.
-pub(crate) fn ended(kind: Kind, end: JobEnd, served: Option<Served>) -> Progress
+pub(crate) fn ended_job(kind: Kind, end: JobEnd, served: Option<Served>) -> Progress
     ensures { result ≡ Ended (record { kind = kind; end = end; served = served }) }
 {
     Progress::Ended(JobLine { kind, end, served })

@@ -4,10 +4,11 @@ ghost use Rattle.std.specs.Prelude.{◌≡◌, ◌≤◌, ◌<◌, ◌+◌, ◌-
 ghost use Rattle.job_file.specs.JobFile.{IsWork};
 ghost use Rattle.desk_core.specs.Desk.{DeskValue};
 ghost use Rattle.desk_core.specs.Stands.{Stands, manager_of, journal_of, last_of};
-ghost use Rattle.keyring_trait.specs.Manager.{ManagerGoes};
+ghost use Rattle.keyring_trait.specs.Manager.{Went};
+ghost use Rattle.keyring_trait.specs.Saying.{said_between};
 ghost use Rattle.esdk_batch.specs.Batch.{OnlyWritten};
 ghost use Rattle.esdk_batch.specs.Failures.{AllCounted, Tally, tally_of};
-ghost use Rattle.esdk_batch.specs.Managing.{Admits, Went, manager_now, managing_of};
+ghost use Rattle.esdk_batch.specs.Managing.{ManagerWent, SaysWithin};
 ghost use Rattle.esdk_batch.specs.Moments.{ReadsClock};
 ghost use Rattle.esdk_batch.specs.Progress.{IsFirstRunning, all_turns_left, is_ended};
 ghost use Rattle.esdk_batch.specs.Underway.{IsWorth};
@@ -41,40 +42,27 @@ pub(crate) fn run_rounds<M: Manager, F: Shelf, W: Entropy, C: Clock>(
     requires room { last_of desk.old + all_waits progress.old ≤ 2 ^ 64 - 1 }
     requires ready { AreReady desk.old jobs.now progress.old }
     requires opened { IsOpened width progress.old }
-    requires still { ManagerGoes (M.meaning (manager_of desk.old))
-        (M.meaning (manager_of desk.old)) }
+    requires still { Went (M.state (manager_of desk.old)) (M.state (manager_of desk.old)) }
     ensures ended { OnOk result (All (λ one. is_ended one ≡ true) progress.new) }
     ensures stand { (start last : M) (began : Beginning) (v : DeskValue)
-        → Admits (managing_of (M.meaning start) (M.meaning last) (M.tells start) (M.exact start))
-        (manager_now (M.meaning (manager_of desk.old)) (M.tells (manager_of desk.old))
-        (M.exact (manager_of desk.old))
-        (M.bears (manager_of desk.old) (journal_of desk.old)) (M.within (manager_of desk.old)))
-        (manager_now (M.meaning (manager_of desk.new)) (M.tells (manager_of desk.new))
-        (M.exact (manager_of desk.new))
-        (M.bears (manager_of desk.new) (journal_of desk.new)) (M.within (manager_of desk.new)))
+        → SaysWithin M.state start last desk.old desk.new
         → Stands desk.old v
-        → Stand (managing_of (M.meaning start) (M.meaning last) (M.tells start) (M.exact start))
+        → Stand (said_between (M.state start) (M.state last))
         jobs.now width began (F.state shelf.old).files (W.state entropy.old) v progress.old
         → OnOk result ((w : DeskValue) × Stands desk.new w
-        × Stand (managing_of (M.meaning start) (M.meaning last) (M.tells start) (M.exact start))
+        × Stand (said_between (M.state start) (M.state last))
         jobs.now width began (F.state shelf.new).files (W.state entropy.new) w progress.new) }
-    ensures went { Went
-        (manager_now (M.meaning (manager_of desk.old)) (M.tells (manager_of desk.old))
-        (M.exact (manager_of desk.old))
-        (M.bears (manager_of desk.old) (journal_of desk.old)) (M.within (manager_of desk.old)))
-        (manager_now (M.meaning (manager_of desk.new)) (M.tells (manager_of desk.new))
-        (M.exact (manager_of desk.new))
-        (M.bears (manager_of desk.new) (journal_of desk.new)) (M.within (manager_of desk.new))) }
+    ensures went { ManagerWent M.state desk.old desk.new }
     ensures moments { ReadsClock (C.moments clock.old) (C.moments clock.new)
         (journal_of desk.old) (journal_of desk.new) }
     ensures others { OnlyWritten jobs.now (F.state shelf.old).files (F.state shelf.new).files }
     ensures told { is_some (F.state shelf.new).files ≡ is_some (F.state shelf.old).files }
     ensures counts { (began : Tally)
         → AllCounted jobs.now began (tally_of (F.state shelf.old) (W.state entropy.old).faults
-        (M.meaning (manager_of desk.old)).faults) progress.old
+        (M.state (manager_of desk.old)).meaning.faults) progress.old
         → OnOk result (AllCounted jobs.now began
         (tally_of (F.state shelf.new) (W.state entropy.new).faults
-        (M.meaning (manager_of desk.new)).faults) progress.new) }
+        (M.state (manager_of desk.new)).meaning.faults) progress.new) }
     ensures worth { IsWorth desk.new }
 {
     let mut past = 0;
@@ -110,21 +98,14 @@ fn run_round<M: Manager, F: Shelf, W: Entropy, C: Clock>(
     requires room { last_of desk.old + all_waits progress.old ≤ 2 ^ 64 - 1 }
     requires ready { AreReady desk.old jobs.now progress.old }
     requires opened { IsOpened width progress.old }
-    requires still { ManagerGoes (M.meaning (manager_of desk.old))
-        (M.meaning (manager_of desk.old)) }
+    requires still { Went (M.state (manager_of desk.old)) (M.state (manager_of desk.old)) }
     ensures stand { (start last : M) (began : Beginning) (v : DeskValue)
-        → Admits (managing_of (M.meaning start) (M.meaning last) (M.tells start) (M.exact start))
-        (manager_now (M.meaning (manager_of desk.old)) (M.tells (manager_of desk.old))
-        (M.exact (manager_of desk.old))
-        (M.bears (manager_of desk.old) (journal_of desk.old)) (M.within (manager_of desk.old)))
-        (manager_now (M.meaning (manager_of desk.new)) (M.tells (manager_of desk.new))
-        (M.exact (manager_of desk.new))
-        (M.bears (manager_of desk.new) (journal_of desk.new)) (M.within (manager_of desk.new)))
+        → SaysWithin M.state start last desk.old desk.new
         → Stands desk.old v
-        → Stand (managing_of (M.meaning start) (M.meaning last) (M.tells start) (M.exact start))
+        → Stand (said_between (M.state start) (M.state last))
         jobs.now width began (F.state shelf.old).files (W.state entropy.old) v progress.old
         → OnOk result ((w : DeskValue) × Stands desk.new w
-        × Stand (managing_of (M.meaning start) (M.meaning last) (M.tells start) (M.exact start))
+        × Stand (said_between (M.state start) (M.state last))
         jobs.now width began (F.state shelf.new).files (W.state entropy.new) w progress.new) }
     ensures moments { ReadsClock (C.moments clock.old) (C.moments clock.new)
         (journal_of desk.old) (journal_of desk.new) }
@@ -132,10 +113,10 @@ fn run_round<M: Manager, F: Shelf, W: Entropy, C: Clock>(
     ensures told { is_some (F.state shelf.new).files ≡ is_some (F.state shelf.old).files }
     ensures counts { (began : Tally)
         → AllCounted jobs.now began (tally_of (F.state shelf.old) (W.state entropy.old).faults
-        (M.meaning (manager_of desk.old)).faults) progress.old
+        (M.state (manager_of desk.old)).meaning.faults) progress.old
         → OnOk result (AllCounted jobs.now began
         (tally_of (F.state shelf.new) (W.state entropy.new).faults
-        (M.meaning (manager_of desk.new)).faults) progress.new) }
+        (M.state (manager_of desk.new)).meaning.faults) progress.new) }
     ensures worth { IsWorth desk.new }
     ensures past { OnOk result (All (λ one. is_ended one ≡ true) (take first progress.new)) }
     ensures ready { OnOk result (AreReady desk.new jobs.now progress.new) }
@@ -143,13 +124,7 @@ fn run_round<M: Manager, F: Shelf, W: Entropy, C: Clock>(
     ensures room { OnOk result
         (last_of desk.new + all_waits progress.new ≤ last_of desk.old + all_waits progress.old) }
     ensures falls { OnOk result (all_turns_left progress.new < all_turns_left progress.old) }
-    ensures went { Went
-        (manager_now (M.meaning (manager_of desk.old)) (M.tells (manager_of desk.old))
-        (M.exact (manager_of desk.old))
-        (M.bears (manager_of desk.old) (journal_of desk.old)) (M.within (manager_of desk.old)))
-        (manager_now (M.meaning (manager_of desk.new)) (M.tells (manager_of desk.new))
-        (M.exact (manager_of desk.new))
-        (M.bears (manager_of desk.new) (journal_of desk.new)) (M.within (manager_of desk.new))) }
+    ensures went { ManagerWent M.state desk.old desk.new }
 {
     let mut turns = 0;
     for at in first..jobs.len() {

@@ -4,8 +4,9 @@ ghost use Rattle.std.specs.Prelude.{◌≡◌, ◌≤◌, ◌<◌, ◌+◌, ◌-
 ghost use Rattle.job_file.specs.JobFile.{IsWork};
 ghost use Rattle.desk_core.specs.Desk.{DeskValue};
 ghost use Rattle.desk_core.specs.Stands.{Stands, manager_of, journal_of, last_of};
-ghost use Rattle.keyring_trait.specs.Manager.{ManagerGoes};
-ghost use Rattle.esdk_batch.specs.Managing.{Admits, Went, manager_now, managing_of};
+ghost use Rattle.keyring_trait.specs.Manager.{Went};
+ghost use Rattle.keyring_trait.specs.Saying.{said_between};
+ghost use Rattle.esdk_batch.specs.Managing.{ManagerWent, SaysWithin};
 ghost use Rattle.esdk_batch.specs.Progress.{is_ended, turns_left};
 ghost use Rattle.esdk_batch.specs.Turns.{AddsLines, DrawsBytes, DrawsNumber, HasKind, Knows, either, waits};
 ghost use Rattle.esdk_batch.specs.Underway.{FurtherTurn, HasSession, IsLiveAt, IsReady, IsWorth, TakesTurn};
@@ -18,7 +19,7 @@ use crate::feeding::{end_session, feed_piece};
 use crate::files::read_piece;
 use crate::opening::{open_job, served_since};
 use crate::placing::put_in_place;
-use crate::progress::{Live, Progress, ended, kind_of};
+use crate::progress::{Live, Progress, ended_job, kind_of};
 use batch_report::JobEnd;
 use desk_core::Desk;
 use esdk_base::{Clock, Entropy, Shelf};
@@ -28,8 +29,8 @@ use std::alloc::{AllocError, Global};
 
 /// A turn of a job, which reads the clock once, first. The first turn opens the job's session. Each
 /// further turn reads one piece of its file, feeds all of it and appends what the session gives; at
-/// the file's end it ends the session. Where the job ended, what it wrote is put in its place. A job
-/// that ended has no turn.
+/// the file's end it ends the session. Where the job ended, what it wrote is put in its place. A
+/// job that ended has no turn.
 pub(crate) fn take_turn<M: Manager, F: Shelf, W: Entropy, C: Clock>(
     alloc: Global,
     job: &Job,
@@ -44,19 +45,12 @@ pub(crate) fn take_turn<M: Manager, F: Shelf, W: Entropy, C: Clock>(
     requires buffer { 0 < length buffer.old }
     requires room { last_of desk.old + waits progress.old ≤ 2 ^ 64 - 1 }
     requires ready { IsReady desk.old progress.old }
-    requires still { ManagerGoes (M.meaning (manager_of desk.old))
-        (M.meaning (manager_of desk.old)) }
+    requires still { Went (M.state (manager_of desk.old)) (M.state (manager_of desk.old)) }
     ensures turn { (first last : M) (v : DeskValue)
-        → Admits (managing_of (M.meaning first) (M.meaning last) (M.tells first) (M.exact first))
-        (manager_now (M.meaning (manager_of desk.old)) (M.tells (manager_of desk.old))
-        (M.exact (manager_of desk.old))
-        (M.bears (manager_of desk.old) (journal_of desk.old)) (M.within (manager_of desk.old)))
-        (manager_now (M.meaning (manager_of desk.new)) (M.tells (manager_of desk.new))
-        (M.exact (manager_of desk.new))
-        (M.bears (manager_of desk.new) (journal_of desk.new)) (M.within (manager_of desk.new)))
+        → SaysWithin M.state first last desk.old desk.new
         → Stands desk.old v → HasSession v.live progress.old
         → OnOk result ((w : DeskValue) × Stands desk.new w × TakesTurn
-        (managing_of (M.meaning first) (M.meaning last) (M.tells first) (M.exact first))
+        (said_between (M.state first) (M.state last))
         job.now progress.old progress.new v w (F.state shelf.old).files (F.state shelf.new).files
         (W.state entropy.old) (W.state entropy.new)) }
     ensures numbers { OnOk result
@@ -75,19 +69,13 @@ pub(crate) fn take_turn<M: Manager, F: Shelf, W: Entropy, C: Clock>(
         → HasFile (F.state shelf.old).files job.now progress.old
         → OnOk result (TurnCounts job.now progress.new
         (tally_of (F.state shelf.old) (W.state entropy.old).faults
-        (M.meaning (manager_of desk.old)).faults)
+        (M.state (manager_of desk.old)).meaning.faults)
         (tally_of (F.state shelf.new) (W.state entropy.new).faults
-        (M.meaning (manager_of desk.new)).faults)) }
+        (M.state (manager_of desk.new)).meaning.faults)) }
     ensures worth { IsWorth desk.new }
     ensures falls { OnOk result (0 < turns_left progress.old
         → turns_left progress.new < turns_left progress.old) }
-    ensures went { Went
-        (manager_now (M.meaning (manager_of desk.old)) (M.tells (manager_of desk.old))
-        (M.exact (manager_of desk.old))
-        (M.bears (manager_of desk.old) (journal_of desk.old)) (M.within (manager_of desk.old)))
-        (manager_now (M.meaning (manager_of desk.new)) (M.tells (manager_of desk.new))
-        (M.exact (manager_of desk.new))
-        (M.bears (manager_of desk.new) (journal_of desk.new)) (M.within (manager_of desk.new))) }
+    ensures went { ManagerWent M.state desk.old desk.new }
 {
     match progress {
         Progress::Waiting => {
@@ -117,19 +105,12 @@ fn go_on<M: Manager, F: Shelf>(
     requires buffer { 0 < length buffer.old }
     requires ready { IsLiveAt desk.old live.session }
     requires low { live.at ≤ most_input }
-    requires still { ManagerGoes (M.meaning (manager_of desk.old))
-        (M.meaning (manager_of desk.old)) }
+    requires still { Went (M.state (manager_of desk.old)) (M.state (manager_of desk.old)) }
     ensures turn { (first last : M) (v : DeskValue)
-        → Admits (managing_of (M.meaning first) (M.meaning last) (M.tells first) (M.exact first))
-        (manager_now (M.meaning (manager_of desk.old)) (M.tells (manager_of desk.old))
-        (M.exact (manager_of desk.old))
-        (M.bears (manager_of desk.old) (journal_of desk.old)) (M.within (manager_of desk.old)))
-        (manager_now (M.meaning (manager_of desk.new)) (M.tells (manager_of desk.new))
-        (M.exact (manager_of desk.new))
-        (M.bears (manager_of desk.new) (journal_of desk.new)) (M.within (manager_of desk.new)))
+        → SaysWithin M.state first last desk.old desk.new
         → Stands desk.old v → HasSession v.live (stages.Live live)
         → IfOk result (λ next. (w : DeskValue) × Stands desk.new w × FurtherTurn
-        (managing_of (M.meaning first) (M.meaning last) (M.tells first) (M.exact first))
+        (said_between (M.state first) (M.state last))
         job.now live next v w (F.state shelf.old).files (F.state shelf.new).files) }
     ensures numbers { IfOk result
         (λ next. DrawsNumber (stages.Live live) next (last_of desk.old) (last_of desk.new)) }
@@ -142,17 +123,11 @@ fn go_on<M: Manager, F: Shelf>(
     ensures kept { KeepsOthers (F.state shelf.old).files (F.state shelf.new).files job.now.to }
     ensures counts { (entropy : ℕ) → HasFile (F.state shelf.old).files job.now (stages.Live live)
         → IfOk result (λ next. TurnCounts job.now next
-        (tally_of (F.state shelf.old) entropy (M.meaning (manager_of desk.old)).faults)
-        (tally_of (F.state shelf.new) entropy (M.meaning (manager_of desk.new)).faults)) }
+        (tally_of (F.state shelf.old) entropy (M.state (manager_of desk.old)).meaning.faults)
+        (tally_of (F.state shelf.new) entropy (M.state (manager_of desk.new)).meaning.faults)) }
     ensures worth { IsWorth desk.new }
     ensures falls { IfOk result (λ next. turns_left next < turns_left (stages.Live live)) }
-    ensures went { Went
-        (manager_now (M.meaning (manager_of desk.old)) (M.tells (manager_of desk.old))
-        (M.exact (manager_of desk.old))
-        (M.bears (manager_of desk.old) (journal_of desk.old)) (M.within (manager_of desk.old)))
-        (manager_now (M.meaning (manager_of desk.new)) (M.tells (manager_of desk.new))
-        (M.exact (manager_of desk.new))
-        (M.bears (manager_of desk.new) (journal_of desk.new)) (M.within (manager_of desk.new))) }
+    ensures went { ManagerWent M.state desk.old desk.new }
 {
     let kind = kind_of(&job.work);
     let session = live.session;
@@ -161,18 +136,18 @@ fn go_on<M: Manager, F: Shelf>(
         Ok(count) => count,
         Err(outside) => {
             let _dropped = desk.drop_session(session);
-            return Ok(ended(kind, JobEnd::Outside(outside), live.served));
+            return Ok(ended_job(kind, JobEnd::Outside(outside), live.served));
         }
     };
     if count == 0 {
         let end = end_session(session, to, desk, shelf)?;
-        return Ok(ended(kind, end, live.served));
+        return Ok(ended_job(kind, end, live.served));
     }
     let lines = desk.journal().len();
     let end = feed_piece(alloc, session, now, &buffer[..count], to, desk, shelf)?;
     let served = either(live.served, served_since(desk, lines));
     match end {
-        Some(end) => Ok(ended(kind, end, served)),
+        Some(end) => Ok(ended_job(kind, end, served)),
         None => Ok(Progress::Live(Live {
             session,
             at: live.at + count as u64,

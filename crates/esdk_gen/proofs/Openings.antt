@@ -14,13 +14,10 @@ use Rattle.header_codec.specs.declared.settings.Settings.{Settings}
 use Rattle.header_codec.specs.Header.{HeaderValue}
 use Rattle.header_codec.specs.Table.{Head, head, header, header_fault}
 use Rattle.header_codec.proofs.Order.{IsSequential-header}
-use Rattle.keyring_trait.specs.declared.journal.JournalLine.{JournalLine}
 use Rattle.keyring_trait.specs.declared.manager_errors.ManagerError.TheVariants as managers
 use Rattle.keyring_trait.specs.Manager.{TellsOn}
 use Rattle.keyring_trait.specs.Unlocking.{Unlocking, Refuses, Unlocks}
 use Rattle.keyring_trait.specs.Wrapping.{WrapKeyValue}
-use Rattle.cmm_default.specs.DefaultCmm.{default_tells}
-use Rattle.raw_aes_keyring.specs.Keyring.{raw_meaning}
 use Rattle.body_format.specs.declared.verdicts.Verdict.TheVariants.{Going, Whole, Faulty}
 use Rattle.message_format.specs.Judgement.{Judged, content, header_of, judged}
 use Rattle.message_format.specs.Reading.{unlock_header}
@@ -30,9 +27,9 @@ use Rattle.message_format.proofs.Lines.{line_by_line}
 use Rattle.message_format.proofs.ReadingOn.{unlocking_is}
 use Rattle.stream_open.specs.declared.errors.OpenError.{OpenError}
 use Rattle.stream_open.specs.declared.errors.OpenError.TheVariants as opens
-use Rattle.stream_open.specs.Asking.{Asking, Heard, Nothing, Found, Named, Failed, IsHeard, asking_of, request_of}
+use Rattle.stream_open.specs.Asking.{Heard, Nothing, Found, Named, Failed, IsHeard, request_of}
 use Rattle.stream_open.specs.Feeding.{FindsFault, GoesOn, IsFedExactly}
-use Rattle.stream_open.specs.Session.{OpeningValue, answer_kept, asked_of, end_of, finish_answer, finished, judged_now, keeping, opened, step_answer, stepped}
+use Rattle.stream_open.specs.Session.{OpeningValue, answer_kept, asked_header, end_of, finish_answer, finished, judged_now, keeping, new_session, step_answer, stepped}
 use Rattle.stream_open.proofs.Feeding.{asks_about, ends_so, feeds_exactly, may_hear, opened_goes, sure}
 use Rattle.desk_core.specs.declared.errors.DeskError.{DeskError}
 use Rattle.desk_core.specs.declared.errors.DeskError.TheVariants as errors
@@ -48,7 +45,7 @@ use Rattle.esdk_decrypt.proofs.Told.{Allows, reader_allows}
 use Rattle.esdk_gen.specs.Generator.{key_of}
 use Rattle.esdk_gen.specs.Opening.{IsOpening, IsWhole, no_limits, unlocked_by}
 use Rattle.esdk_gen.specs.Sealing.{IsIdle, IsLive}
-use Rattle.esdk_gen.proofs.Materials.{meaning_of, same_ring}
+use Rattle.esdk_gen.proofs.Materials.{manager_now, same_ring, saying}
 
 -- ---- judgements
 
@@ -97,35 +94,54 @@ head_read key b more parts Wanting e is = absurd (let no : None ≡ Some parts =
 
 -- ---- the manager
 
--- what the manager may answer that was over this wrapping key and is over that one
-abbrev pub asking : WrapKeyValue → WrapKeyValue → (List JournalLine → Type 0) → (List JournalLine → Type 0) → Asking
-asking old new bore bears =
-    asking_of (meaning_of old) (meaning_of new) (default_tells (raw_meaning old)) (Unit {0}) (λ request now materials. Unit {0}) bore bears 0
+-- in a step over this piece, the manager that was over this wrapping key and is over that one may
+-- answer so
+abbrev pub HeardBy : WrapKeyValue → WrapKeyValue → OpeningValue → List ℕ → Type 0 → Heard → Type 0
+HeardBy old new o left short heard =
+    IsHeard (saying old new) 0 o.given (asked_header o left) short heard
+
+-- the same of a session that may be another, and `short` says that memory ran out
+abbrev MayHearBy : WrapKeyValue → WrapKeyValue → List ℕ → Heard → Bool → Option SessionValue
+    → Type 0
+MayHearBy old new left heard short live = MayHear (saying old new) 0 live left heard short
+
+fed_exactly : (old new : WrapKeyValue) (o : OpeningValue) (left : List ℕ) (heard : Heard) → GoesOn o
+    → HeardBy old new o left ⊥ heard → IsFedExactly o left heard
+fed_exactly old new o left heard goes hears =
+    feeds_exactly o left heard goes
+    (may_hear (saying old new) 0 o.given (asked_header o left) ⊥ heard hears)
 
 abbrev reader_of : List ℕ → Reader
 reader_of key = record { keys = key_of key ∷ []; settings = no_limits; given = []; required = [] }
 
 answers : (key : List ℕ) (new : WrapKeyValue)
-    → Allows (answering_of (meaning_of (key_of key)) (meaning_of new) (default_tells (raw_meaning (key_of key))) (Unit {0}) (λ request now materials. Unit {0}) 0) (answering_by (reader_of key))
+    → Allows (answering_of (manager_now (key_of key)) (manager_now new) 0)
+    (answering_by (reader_of key))
 answers key new =
-    reader_allows (meaning_of (key_of key)) (meaning_of new) (default_tells (raw_meaning (key_of key))) (Unit {0}) (λ request now materials. Unit {0}) 0 (key_of key ∷ []) no_limits []
+    reader_allows (manager_now (key_of key)) (manager_now new) 0 (key_of key ∷ []) no_limits []
     refl tt (omega arith)
 
 -- ---- a session that goes on
 
-module _ (key : List ℕ) (new : WrapKeyValue) (bore bears : List JournalLine → Type 0) (message more left : List ℕ) (o : OpeningValue) (goes : GoesOn o) (settings : o.settings ≡ no_limits) (given : o.given ≡ [])
-    (front : message ≡ (o.taken ++ left) ++ more) (kept : (a : Unlocking) → o.answer ≡ Some a → a ≡ unlocked_by key message) where
+module _ (key : List ℕ) (new : WrapKeyValue) (message more left : List ℕ) (o : OpeningValue)
+    (goes : GoesOn o) (settings : o.settings ≡ no_limits) (given : o.given ≡ [])
+    (front : message ≡ (o.taken ++ left) ++ more)
+    (kept : (a : Unlocking) → o.answer ≡ Some a → a ≡ unlocked_by key message) where
   -- the header that is asked about unlocks as the message's
-  asked_unlocks : (h : HeaderValue) → asked_of o left ≡ Some h → unlock_header h [] [] (key_of key ∷ []) ≡ unlocked_by key message
+  asked_unlocks : (h : HeaderValue) → asked_header o left ≡ Some h
+      → unlock_header h [] [] (key_of key ∷ []) ≡ unlocked_by key message
   asked_unlocks h asked =
       let about = asks_about o left h goes asked in
-      let whole : head no_limits (o.taken ++ left) ≡ Some about.parts = ap (λ (s : Settings). head s (o.taken ++ left)) (sym settings) ∙ about.whole in
+      let whole : head no_limits (o.taken ++ left) ≡ Some about.parts =
+      ap (λ (s : Settings). head s (o.taken ++ left)) (sym settings) ∙ about.whole in
       ap (λ (g : HeaderValue). unlock_header g [] [] (key_of key ∷ [])) about.is
-      ∙ head_read key (o.taken ++ left) more about.parts (header no_limits (start (o.taken ++ left))) refl whole
+      ∙ head_read key (o.taken ++ left) more about.parts
+      (header no_limits (start (o.taken ++ left))) refl whole
       ∙ ap (unlocked_by key) (sym front)
 
   -- what is kept is the answer to the message's header
-  pub kept_on : (heard : Heard) → IsHeard (asking (key_of key) new bore bears) o.given (asked_of o left) ⊥ heard → (a : Unlocking) → (keeping o heard).answer ≡ Some a → a ≡ unlocked_by key message
+  pub kept_on : (heard : Heard) → HeardBy (key_of key) new o left ⊥ heard → (a : Unlocking)
+      → (keeping o heard).answer ≡ Some a → a ≡ unlocked_by key message
   kept_on Nothing hears a is = kept a is
   kept_on (Found m) (h, asked, finds) a is =
       let finds_here = rw given at finds in
@@ -134,13 +150,16 @@ module _ (key : List ℕ) (new : WrapKeyValue) (bore bears : List JournalLine �
       same ∙ sym unlocks ∙ asked_unlocks h asked
   kept_on (Named fault) (h, asked, none) a is =
       let none_here = rw given at none in
-      let refuses = (answers key new).finds_none (request_of [] h) (managers.Fault fault) none_here in
+      let refuses =
+      (answers key new).finds_none (request_of [] h) (managers.Fault fault) none_here in
       let same : a ≡ Refuses fault = cc in
       same ∙ sym refuses ∙ asked_unlocks h asked
   kept_on Failed hears a is = kept a is
 
-  never_failed : IsHeard (asking (key_of key) new bore bears) o.given (asked_of o left) ⊥ Failed → ⊥
-  never_failed (h, asked, none) = let none_here = rw given at none in (answers key new).finds_none (request_of [] h) managers.KeyringFault none_here
+  never_failed : HeardBy (key_of key) new o left ⊥ Failed → ⊥
+  never_failed (h, asked, none) =
+      let none_here = rw given at none in
+      (answers key new).finds_none (request_of [] h) managers.KeyringFault none_here
 
   -- no fault is found in a whole message
   faulty_by : (heard : Heard) (fault : Fault) (kept_now : Option Unlocking) → (keeping o heard).answer ≡ kept_now → ((a : Unlocking) → kept_now ≡ Some a → a ≡ unlocked_by key message)
@@ -158,30 +177,39 @@ module _ (key : List ℕ) (new : WrapKeyValue) (bore bears : List JournalLine �
       ap (λ (j : Judged). j.verdict) ((line_by_line (o.taken ++ left) no_limits (unlocked_by key message)).header_is_faulty fault refused) in
       front_sound no_limits (o.taken ++ left) more (unlocked_by key message) fault (ap (λ (b : List ℕ). (judged b no_limits (unlocked_by key message)).verdict) (sym front) ∙ whole) faulty
 
-  never_faulty : (heard : Heard) (fault : Fault) → IsHeard (asking (key_of key) new bore bears) o.given (asked_of o left) ⊥ heard
-      → (judged message no_limits (unlocked_by key message)).verdict ≡ Whole → FindsFault o left heard fault → ⊥
-  never_faulty heard fault hears whole finds = faulty_by heard fault (keeping o heard).answer refl (kept_on heard hears) whole finds
+  never_faulty : (heard : Heard) (fault : Fault) → HeardBy (key_of key) new o left ⊥ heard
+      → (judged message no_limits (unlocked_by key message)).verdict ≡ Whole
+      → FindsFault o left heard fault → ⊥
+  never_faulty heard fault hears whole finds =
+      faulty_by heard fault (keeping o heard).answer refl (kept_on heard hears) whole finds
 
-  heard_failed : (heard : Heard) → heard ≡ Failed → IsHeard (asking (key_of key) new bore bears) o.given (asked_of o left) ⊥ heard → ⊥
-  heard_failed heard is hears = never_failed (subst (λ (x : Heard). IsHeard (asking (key_of key) new bore bears) o.given (asked_of o left) ⊥ x) is hears)
+  heard_failed : (heard : Heard) → heard ≡ Failed → HeardBy (key_of key) new o left ⊥ heard → ⊥
+  heard_failed heard is hears = never_failed (subst (HeardBy (key_of key) new o left ⊥) is hears)
 
   -- only memory can be wanting in a step
-  step_goes : (heard : Heard) (error : DeskError) (r : Result ℕ OpenError) → step_answer o left heard ≡ r → IsHeard (asking (key_of key) new bore bears) o.given (asked_of o left) ⊥ heard
-      → (judged message no_limits (unlocked_by key message)).verdict ≡ Whole → (s : SessionValue) → Err error ≡ (answered (open_answer r) s (Some s)).answer → error ≡ errors.Memory
+  step_goes : (heard : Heard) (error : DeskError) (r : Result ℕ OpenError)
+      → step_answer o left heard ≡ r → HeardBy (key_of key) new o left ⊥ heard
+      → (judged message no_limits (unlocked_by key message)).verdict ≡ Whole → (s : SessionValue)
+      → Err error ≡ (answered (open_answer r) s (Some s)).answer → error ≡ errors.Memory
   step_goes heard error (Ok n) is hears whole s fails = absurd cc
   step_goes heard error (Err (opens.Fault fault)) is hears whole s fails =
-      let exactly : IsFedExactly o left heard = feeds_exactly o left heard goes (may_hear (asking (key_of key) new bore bears) o.given (asked_of o left) ⊥ heard hears) in
+      let exactly : IsFedExactly o left heard =
+      fed_exactly (key_of key) new o left heard goes hears in
       absurd (never_faulty heard fault hears whole (exactly.fault fault is))
   step_goes heard error (Err opens.KeyringFault) is hears whole s fails =
-      let exactly : IsFedExactly o left heard = feeds_exactly o left heard goes (may_hear (asking (key_of key) new bore bears) o.given (asked_of o left) ⊥ heard hears) in
+      let exactly : IsFedExactly o left heard =
+      fed_exactly (key_of key) new o left heard goes hears in
       absurd (heard_failed heard (exactly.failed is).0 hears)
   step_goes heard error (Err opens.Stopped) is hears whole s fails =
-      let exactly : IsFedExactly o left heard = feeds_exactly o left heard goes (may_hear (asking (key_of key) new bore bears) o.given (asked_of o left) ⊥ heard hears) in
+      let exactly : IsFedExactly o left heard =
+      fed_exactly (key_of key) new o left heard goes hears in
       absurd (exactly.unstopped is)
   step_goes heard error (Err opens.Memory) is hears whole s fails = cc
 
-surely_heard : (manager : Asking) (o : OpeningValue) (left : List ℕ) (heard : Heard) → IsHeard manager o.given (asked_of o left) (false ≡ true) heard → IsHeard manager o.given (asked_of o left) ⊥ heard
-surely_heard manager o left heard hears = sure manager o.given (asked_of o left) (false ≡ true) heard false_true hears
+surely_heard : (old new : WrapKeyValue) (o : OpeningValue) (left : List ℕ) (heard : Heard)
+    → HeardBy old new o left (false ≡ true) heard → HeardBy old new o left ⊥ heard
+surely_heard old new o left heard hears =
+    sure (saying old new) 0 o.given (asked_header o left) (false ≡ true) heard false_true hears
   where
     false_true : false ≡ true → ⊥
     false_true e = cc
@@ -209,7 +237,7 @@ few_opened desk key id message text left count is =
 
 -- the call answers the number that was drawn
 pub opens_so : (short : Bool) (id number : ℕ) → Ok id ≡ (open_opened no_limits [] short number).answer
-    → (id ≡ number) × ((open_opened no_limits [] short number).left ≡ Some (Opening (opened no_limits [])))
+    → (id ≡ number) × ((open_opened no_limits [] short number).left ≡ Some (Opening (new_session no_limits [])))
 opens_so true id number is = absurd cc
 opens_so false id number is = (cc, refl)
 
@@ -224,7 +252,7 @@ opening_first desk next key id last message text idle whole begun same =
     let goes = opened_goes no_limits [] in
     let number : idle.value.last + 1 ≡ id = sym so.0 in
     record {
-      session = opened no_limits [];
+      session = new_session no_limits [];
       at = record {
         value = after_call idle.value (idle.value.last + 1) begun.short (OpenOpen no_limits []);
         stands = begun.stands;
@@ -252,17 +280,22 @@ record IsLiveTurn (desk : Desk WrapKeyValue) (key : List ℕ) (id : ℕ) (turn :
   ring : manager_of desk ≡ key_of key
   live : value.live id ≡ turn.left
 
-module _ (desk next : Desk WrapKeyValue) (key : List ℕ) (id : ℕ) (message text left more : List ℕ) (count : ℕ) (is : IsOpening desk key id message text (left ++ more) count) (some : 1 ≤ length left)
-    (bore bears : List JournalLine → Type 0) where
+module _ (desk next : Desk WrapKeyValue) (key : List ℕ) (id : ℕ) (message text left more : List ℕ)
+    (count : ℕ) (is : IsOpening desk key id message text (left ++ more) count)
+    (some : 1 ≤ length left) where
   front_of : message ≡ (is.session.taken ++ left) ++ more
   front_of = is.front ∙ sym (append_assoc is.session.taken left more)
 
-  fed_on : (used : ℕ) (out : List ℕ) (heard : Heard) → IsHeard (asking (key_of key) (manager_of next) bore bears) is.session.given (asked_of is.session left) ⊥ heard
-      → step_answer is.session left heard ≡ Ok used → (at : IsLive next key id (Opening (stepped is.session left heard (Ok used)))) → out ≡ (stepped is.session left heard (Ok used)).out
+  fed_on : (used : ℕ) (out : List ℕ) (heard : Heard)
+      → HeardBy (key_of key) (manager_of next) is.session left ⊥ heard
+      → step_answer is.session left heard ≡ Ok used
+      → (at : IsLive next key id (Opening (stepped is.session left heard (Ok used))))
+      → out ≡ (stepped is.session left heard (Ok used)).out
       → IsOpening next key id message text (drop used left ++ more) (count + length out)
   fed_on used out heard hears answer at out_is =
       let o : OpeningValue = is.session in
-      let exactly : IsFedExactly o left heard = feeds_exactly o left heard is.goes (may_hear (asking (key_of key) (manager_of next) bore bears) o.given (asked_of o left) ⊥ heard hears) in
+      let exactly : IsFedExactly o left heard =
+      fed_exactly (key_of key) (manager_of next) o left heard is.goes hears in
       let fed = exactly.used used some answer in
       record {
         session = stepped o left heard (Ok used);
@@ -270,9 +303,13 @@ module _ (desk next : Desk WrapKeyValue) (key : List ℕ) (id : ℕ) (message te
         settings = fed.feeds.settings ∙ is.settings;
         none_given = fed.feeds.pairs ∙ is.none_given;
         goes = fed.feeds.goes;
-        front = is.front ∙ ap (λ (b : List ℕ). o.taken ++ (b ++ more)) (sym (take-append-drop used left))
-            ∙ ap (λ (b : List ℕ). o.taken ++ b) (append_assoc (take used left) (drop used left) more) ∙ sym (append_assoc o.taken (take used left) (drop used left ++ more));
-        kept = λ a kept_is. kept_on key (manager_of next) bore bears message more left o is.goes is.settings is.none_given front_of is.kept heard hears a kept_is;
+        front = is.front ∙ ap (λ (b : List ℕ). o.taken ++ (b ++ more))
+            (sym (take-append-drop used left))
+            ∙ ap (λ (b : List ℕ). o.taken ++ b)
+            (append_assoc (take used left) (drop used left) more)
+            ∙ sym (append_assoc o.taken (take used left) (drop used left ++ more));
+        kept = kept_on key (manager_of next) message more left o is.goes is.settings
+            is.none_given front_of is.kept heard hears;
         counted = omega (
           arith,
           is.counted,
@@ -283,60 +320,90 @@ module _ (desk next : Desk WrapKeyValue) (key : List ℕ) (id : ℕ) (message te
         is_whole = is.is_whole;
       }
 
-  heard_now : (heard : Heard) → IsHeard (asking (manager_of desk) (manager_of next) bore bears) is.session.given (asked_of is.session left) (false ≡ true) heard
-      → IsHeard (asking (key_of key) (manager_of next) bore bears) is.session.given (asked_of is.session left) ⊥ heard
+  heard_now : (heard : Heard)
+      → HeardBy (manager_of desk) (manager_of next) is.session left (false ≡ true) heard
+      → HeardBy (key_of key) (manager_of next) is.session left ⊥ heard
   heard_now heard hears =
-      let here = subst (λ (w : WrapKeyValue). IsHeard (asking w (manager_of next) bore bears) is.session.given (asked_of is.session left) (false ≡ true) heard) is.at.ring hears in
-      surely_heard (asking (key_of key) (manager_of next) bore bears) is.session left heard here
+      let here =
+      subst (λ (w : WrapKeyValue). HeardBy w (manager_of next) is.session left (false ≡ true)
+      heard) is.at.ring hears in
+      surely_heard (key_of key) (manager_of next) is.session left heard here
 
   -- a step that used so many bytes
-  on_by : (used : ℕ) (out : List ℕ) (short : Bool) (heard : Heard) → MayHear (asking (manager_of desk) (manager_of next) bore bears) (Some (Opening is.session)) left heard short
-      → Ok used ≡ (fed (Some (Opening is.session)) left heard short).answer → (at : IsLiveTurn next key id (fed (Some (Opening is.session)) left heard short)) → out ≡ (fed (Some (Opening is.session)) left heard short).out
-      → IsOpening next key id message text (drop used left ++ more) (count + length out) × (1 ≤ used) × (used ≤ length left)
+  on_by : (used : ℕ) (out : List ℕ) (short : Bool) (heard : Heard)
+      → MayHearBy (manager_of desk) (manager_of next) left heard short (Some (Opening is.session))
+      → Ok used ≡ (fed (Some (Opening is.session)) left heard short).answer
+      → (at : IsLiveTurn next key id (fed (Some (Opening is.session)) left heard short))
+      → out ≡ (fed (Some (Opening is.session)) left heard short).out
+      → IsOpening next key id message text (drop used left ++ more) (count + length out)
+      × (1 ≤ used) × (used ≤ length left)
   on_by used out true heard hears answer at out_is = absurd cc
   on_by used out false heard hears answer at out_is =
       let o : OpeningValue = is.session in
       let here = heard_now heard hears.0 in
       let machine = feeds_machines.opened o left heard false used (sym answer) in
-      let exactly : IsFedExactly o left heard = feeds_exactly o left heard is.goes (may_hear (asking (key_of key) (manager_of next) bore bears) o.given (asked_of o left) ⊥ heard here) in
+      let exactly : IsFedExactly o left heard =
+      fed_exactly (key_of key) (manager_of next) o left heard is.goes here in
       let fed_so = exactly.used used some machine.steps in (
         fed_on used out heard here machine.steps
-            (record { value = at.value; stands = at.stands; drawn = at.drawn; ring = at.ring; live = at.live ∙ machine.left }) (out_is ∙ machine.out),
+            (record {
+              value = at.value;
+              stands = at.stands;
+              drawn = at.drawn;
+              ring = at.ring;
+              live = at.live ∙ machine.left;
+            })
+            (out_is ∙ machine.out),
         fed_so.some,
         fed_so.within,
       )
 
-  not_by : (error : DeskError) (short : Bool) (heard : Heard) → MayHear (asking (manager_of desk) (manager_of next) bore bears) (Some (Opening is.session)) left heard short
-      → Err error ≡ (fed (Some (Opening is.session)) left heard short).answer → error ≡ errors.Memory
+  not_by : (error : DeskError) (short : Bool) (heard : Heard)
+      → MayHearBy (manager_of desk) (manager_of next) left heard short (Some (Opening is.session))
+      → Err error ≡ (fed (Some (Opening is.session)) left heard short).answer
+      → error ≡ errors.Memory
   not_by error true heard hears answer = cc
   not_by error false heard hears answer =
       let o : OpeningValue = is.session in
-      step_goes key (manager_of next) bore bears message more left o is.goes is.settings is.none_given front_of is.kept heard error (step_answer o left heard) refl (heard_now heard hears.0) is.is_whole.whole
-      (Opening (stepped o left heard (step_answer o left heard))) answer
+      step_goes key (manager_of next) message more left o is.goes is.settings is.none_given
+      front_of is.kept heard error (step_answer o left heard) refl (heard_now heard hears.0)
+      is.is_whole.whole (Opening (stepped o left heard (step_answer o left heard))) answer
 
-  ring_of : TellsOn (default_tells (raw_meaning (manager_of desk))) (default_tells (raw_meaning (manager_of next))) → manager_of next ≡ key_of key
+  ring_of : TellsOn (manager_now (manager_of desk)).tells (manager_now (manager_of next)).tells
+      → manager_of next ≡ key_of key
   ring_of tells = same_ring (manager_of desk) (manager_of next) key is.at.ring tells
 
-  pub opening_on : (used : ℕ) (out : List ℕ) → (f : Feeds (asking (manager_of desk) (manager_of next) bore bears) is.at.value id 0 left (Ok used) next)
-      → TellsOn (default_tells (raw_meaning (manager_of desk))) (default_tells (raw_meaning (manager_of next))) → out ≡ (after_call is.at.value id f.short (Feed 0 left f.heard)).out
-      → IsOpening next key id message text (drop used left ++ more) (count + length out) × (1 ≤ used) × (used ≤ length left)
+  pub opening_on : (used : ℕ) (out : List ℕ)
+      → (f : Feeds (manager_now (manager_of desk)) (manager_now (manager_of next)) is.at.value
+      id 0 left (Ok used) next)
+      → TellsOn (manager_now (manager_of desk)).tells (manager_now (manager_of next)).tells
+      → out ≡ (after_call is.at.value id f.short (Feed 0 left f.heard)).out
+      → IsOpening next key id message text (drop used left ++ more) (count + length out)
+      × (1 ≤ used) × (used ≤ length left)
   opening_on used out f tells out_is =
       let v : DeskValue = is.at.value in
-      on_by used out f.short f.heard (subst (λ (o : Option SessionValue). MayHear (asking (manager_of desk) (manager_of next) bore bears) o left f.heard f.short) is.at.live f.hears)
+      on_by used out f.short f.heard
+      (subst (MayHearBy (manager_of desk) (manager_of next) left f.heard f.short) is.at.live
+      f.hears)
       (f.answer ∙ ap (λ (o : Option SessionValue). (fed o left f.heard f.short).answer) is.at.live)
       (record {
         value = after_call v id f.short (Feed 0 left f.heard);
         stands = f.stands;
         drawn = is.at.drawn;
         ring = ring_of tells;
-        live = update_here v.live id (fed (v.live id) left f.heard f.short).left ∙ ap (λ (o : Option SessionValue). (fed o left f.heard f.short).left) is.at.live;
+        live = update_here v.live id (fed (v.live id) left f.heard f.short).left
+            ∙ ap (λ (o : Option SessionValue). (fed o left f.heard f.short).left) is.at.live;
       })
       (out_is ∙ ap (λ (o : Option SessionValue). (fed o left f.heard f.short).out) is.at.live)
 
   -- and one that failed
-  pub opening_not : (error : DeskError) → Feeds (asking (manager_of desk) (manager_of next) bore bears) is.at.value id 0 left (Err error) next → error ≡ errors.Memory
+  pub opening_not : (error : DeskError)
+      → Feeds (manager_now (manager_of desk)) (manager_now (manager_of next)) is.at.value
+      id 0 left (Err error) next → error ≡ errors.Memory
   opening_not error f =
-      not_by error f.short f.heard (subst (λ (o : Option SessionValue). MayHear (asking (manager_of desk) (manager_of next) bore bears) o left f.heard f.short) is.at.live f.hears)
+      not_by error f.short f.heard
+      (subst (MayHearBy (manager_of desk) (manager_of next) left f.heard f.short) is.at.live
+      f.hears)
       (f.answer ∙ ap (λ (o : Option SessionValue). (fed o left f.heard f.short).answer) is.at.live)
 
 -- ---- the end

@@ -2,6 +2,7 @@
 use Rattle.std.proofs.Common.{◌≡◌, ◌∙◌, ℕ, ◌+◌, ◌≤◌, Bool, false, List, [], ◌++◌, length, drop, if◌then◌else◌, Option, Some, None, Result, Ok, Err, refl, sym, ap, subst, arith, append_assoc, append-nil, length-append}
 use Rattle.std.specs.Prelude.{option_map}
 use Rattle.std.proofs.lemmas.Map.{update_here}
+use Rattle.keyring_trait.specs.Manager.{ManagerNow}
 use Rattle.keyring_trait.specs.Wrapping.{WrapKeyValue}
 use Rattle.stream_seal.specs.declared.errors.SealError.{SealError}
 use Rattle.stream_seal.specs.declared.errors.SealError.TheVariants as seals
@@ -12,7 +13,6 @@ use Rattle.stream_seal.specs.Feeding.{IsFed, StepFeeds, given_so_far, most_of, m
 use Rattle.stream_seal.specs.Laws.{IsSameMessage}
 use Rattle.stream_seal.proofs.Feeding.{arrives, begin_fed, fails, feeds, finishes, goes_on, refuses_piece}
 use Rattle.stream_seal.proofs.FeedingSteps.{step_feeds}
-use Rattle.stream_open.specs.Asking.{Asking}
 use Rattle.desk_core.specs.declared.errors.DeskError.{DeskError}
 use Rattle.desk_core.specs.declared.live_sessions.Desk.{Desk}
 use Rattle.desk_core.specs.Calls.{Feeds}
@@ -21,7 +21,7 @@ use Rattle.desk_core.specs.Session.{SessionValue, Sealing, answered, asked_by, e
 use Rattle.desk_core.specs.Stands.{Stands, manager_of}
 use Rattle.desk_core.proofs.Fed.{feeds_machines}
 use Rattle.esdk_gen.specs.Generator.{message_with}
-use Rattle.esdk_gen.specs.Sealing.{IsIdle, IsMidway, IsNewSession, IsSealing, SealsText, new_session}
+use Rattle.esdk_gen.specs.Sealing.{IsIdle, IsMidway, IsNewSession, IsSealing, SealsText, gen_session}
 
 -- ---- a session that begins
 
@@ -29,9 +29,9 @@ begins_with : (s : SealingValue) (live : Option SessionValue) (header : List ℕ
 begins_with s live header is header_is = let here : Some (beginning s) ≡ Some header = sym (ap (option_map header_of) is) ∙ header_is in cc
 
 pub seals_first : (desk : Desk WrapKeyValue) (key random : List ℕ) (id : ℕ) (header : List ℕ) → (new : IsNewSession desk key random id) → option_map header_of (new.value.live id) ≡ Some header
-    → IsSealing desk key id (new_session key random) header
+    → IsSealing desk key id (gen_session key random) header
 seals_first desk key random id header new is =
-    let s : SealingValue = new_session key random in
+    let s : SealingValue = gen_session key random in
     let begun = begin_fed s.materials None 4096 s.id (omega arith) in
     record {
       at = new;
@@ -70,14 +70,19 @@ pub record Stepped (v : DeskValue) (id : ℕ) (now : SealingValue) (left : List 
   pub last : w.last ≡ v.last
   pub out : w.out ≡ (stepped now left).out
 
-pub steps_so : (asking : Asking) (v : DeskValue) (id : ℕ) (now : SealingValue) (left : List ℕ) (used : ℕ) (next : Desk WrapKeyValue) → v.live id ≡ Some (Sealing now)
-    → (f : Feeds asking v id 0 left (Ok used) next) → Stepped v id now left used (after_call v id f.short (Feed 0 left f.heard))
-steps_so asking v id now left used next live f =
-    let answer : (fed (Some (Sealing now)) left f.heard f.short).answer ≡ Ok used = sym (f.answer ∙ ap (λ (o : Option SessionValue). (fed o left f.heard f.short).answer) live) in
+pub steps_so : (old new : ManagerNow) (v : DeskValue) (id : ℕ) (now : SealingValue) (left : List ℕ)
+    (used : ℕ) (next : Desk WrapKeyValue) → v.live id ≡ Some (Sealing now)
+    → (f : Feeds old new v id 0 left (Ok used) next)
+    → Stepped v id now left used (after_call v id f.short (Feed 0 left f.heard))
+steps_so old new v id now left used next live f =
+    let answer : (fed (Some (Sealing now)) left f.heard f.short).answer ≡ Ok used =
+    sym (f.answer
+    ∙ ap (λ (o : Option SessionValue). (fed o left f.heard f.short).answer) live) in
     let machine = feeds_machines.sealed now left f.heard f.short used answer in
     record {
       steps = machine.steps;
-      live = update_here v.live id (fed (v.live id) left f.heard f.short).left ∙ ap (λ (o : Option SessionValue). (fed o left f.heard f.short).left) live ∙ machine.left;
+      live = update_here v.live id (fed (v.live id) left f.heard f.short).left
+          ∙ ap (λ (o : Option SessionValue). (fed o left f.heard f.short).left) live ∙ machine.left;
       last = refl;
       out = ap (λ (o : Option SessionValue). (fed o left f.heard f.short).out) live ∙ machine.out;
     }
@@ -86,11 +91,15 @@ steps_so asking v id now left used next live f =
 pub unasked_then : (v : DeskValue) (id : ℕ) (now : SealingValue) (left : List ℕ) → v.live id ≡ Some (Sealing now) → asked_by (v.live id) left ≡ None
 unasked_then v id now left live = ap (λ (o : Option SessionValue). asked_by o left) live
 
-module _ (desk next : Desk WrapKeyValue) (key : List ℕ) (id : ℕ) (s : SealingValue) (piece left message : List ℕ) (m : IsMidway desk key id s piece left message) (some : 1 ≤ length left) where
-  pub midway_on : (asking : Asking) (used : ℕ) (out : List ℕ) → (f : Feeds asking m.at.value id 0 left (Ok used) next) → manager_of next ≡ manager_of desk
-      → out ≡ (after_call m.at.value id f.short (Feed 0 left f.heard)).out → IsMidway next key id s piece (drop used left) (message ++ out)
-  midway_on asking used out f same out_is =
-      let step = steps_so asking m.at.value id m.now left used next m.at.live f in
+module _ (desk next : Desk WrapKeyValue) (key : List ℕ) (id : ℕ) (s : SealingValue)
+    (piece left message : List ℕ) (m : IsMidway desk key id s piece left message)
+    (some : 1 ≤ length left) where
+  pub midway_on : (old new : ManagerNow) (used : ℕ) (out : List ℕ)
+      → (f : Feeds old new m.at.value id 0 left (Ok used) next) → manager_of next ≡ manager_of desk
+      → out ≡ (after_call m.at.value id f.short (Feed 0 left f.heard)).out
+      → IsMidway next key id s piece (drop used left) (message ++ out)
+  midway_on old new used out f same out_is =
+      let step = steps_so old new m.at.value id m.now left used next m.at.live f in
       let given : out ≡ (stepped m.now left).out = out_is ∙ step.out in
       record {
         is_fed = m.is_fed;
@@ -106,7 +115,9 @@ module _ (desk next : Desk WrapKeyValue) (key : List ℕ) (id : ℕ) (s : Sealin
         };
         given = m.given ++ (stepped m.now left).out;
         way = goes_on s piece m.now left m.given used m.way some step.steps;
-        written = ap (λ (b : List ℕ). b ++ out) m.written ∙ append_assoc (given_so_far s) m.given out ∙ ap (λ (o : List ℕ). given_so_far s ++ (m.given ++ o)) given;
+        written = ap (λ (b : List ℕ). b ++ out) m.written
+            ∙ append_assoc (given_so_far s) m.given out
+            ∙ ap (λ (o : List ℕ). given_so_far s ++ (m.given ++ o)) given;
         room = m.room;
       }
 
@@ -118,8 +129,11 @@ module _ (desk next : Desk WrapKeyValue) (key : List ℕ) (id : ℕ) (s : Sealin
   step_goes (Err seals.Stopped) error is fails_so = subst (λ (r : Result ℕ SealError). StepFeeds m.now left (stepped m.now left) r) is (step_feeds m.now left m.way.feeding some)
   step_goes (Err seals.Memory) error is fails_so = subst (λ (r : Result ℕ SealError). StepFeeds m.now left (stepped m.now left) r) is (step_feeds m.now left m.way.feeding some)
 
-  pub never_fails : (asking : Asking) (error : DeskError) → Feeds asking m.at.value id 0 left (Err error) next → ⊥
-  never_fails asking error f = step_goes (step_answer m.now left) error refl (f.answer ∙ ap (λ (o : Option SessionValue). (fed o left f.heard f.short).answer) m.at.live)
+  pub never_fails : (old new : ManagerNow) (error : DeskError)
+      → Feeds old new m.at.value id 0 left (Err error) next → ⊥
+  never_fails old new error f =
+      step_goes (step_answer m.now left) error refl
+      (f.answer ∙ ap (λ (o : Option SessionValue). (fed o left f.heard f.short).answer) m.at.live)
 
 -- and ends
 pub midway_ends : (desk : Desk WrapKeyValue) (key : List ℕ) (id : ℕ) (s : SealingValue) (piece message : List ℕ) → IsMidway desk key id s piece [] message → SealsText desk key id s (s.taken ++ piece) message
@@ -192,6 +206,6 @@ module _ (desk : Desk WrapKeyValue) (key : List ℕ) (id : ℕ) (s : SealingValu
   }
 
 -- what is given of the session that began with these random bytes, and took this text
-pub message_then : (key random text : List ℕ) (t : SealingValue) → IsSameMessage (new_session key random) t → t.taken ≡ text → message_of t.materials t.size t.id t.taken ≡ message_with key random text
+pub message_then : (key random text : List ℕ) (t : SealingValue) → IsSameMessage (gen_session key random) t → t.taken ≡ text → message_of t.materials t.size t.id t.taken ≡ message_with key random text
 unfolding message_with
 message_then key random text t same taken = λ i. message_of (same.materials i) (same.size i) (same.id i) (taken i)

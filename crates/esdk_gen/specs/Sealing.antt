@@ -1,7 +1,7 @@
 -- How the desk stands while the workload's message is sealed.
 use Rattle.std.specs.Prelude.{◌≡◌, ℕ, List, [], ◌++◌, take, drop, Some, None}
 use Rattle.keyring_trait.specs.Wrapping.{WrapKeyValue}
-use Rattle.stream_seal.specs.Session.{SealingValue, opened}
+use Rattle.stream_seal.specs.Session.{SealingValue, new_session}
 use Rattle.stream_seal.specs.Feeding.{IsFed, IsOnTheWay, feed_refusal, given_so_far}
 use Rattle.stream_seal.specs.Laws.{IsSameMessage}
 use Rattle.desk_core.specs.declared.live_sessions.Desk.{Desk}
@@ -31,12 +31,12 @@ pub record IsLive (desk : Desk WrapKeyValue) (key : List ℕ) (id : ℕ) (s : Se
   pub live : value.live id ≡ Some s
 
 -- the session that begins with these random bytes
-abbrev pub new_session : List ℕ → List ℕ → SealingValue
-new_session key random = opened (materials_of key (take 32 (drop 32 random)) (drop 64 random)) None 4096 (take 32 random)
+abbrev pub gen_session : List ℕ → List ℕ → SealingValue
+gen_session key random = new_session (materials_of key (take 32 (drop 32 random)) (drop 64 random)) None 4096 (take 32 random)
 
 -- The session of that number began with these random bytes.
 abbrev pub IsNewSession : Desk WrapKeyValue → List ℕ → List ℕ → ℕ → Type 0
-IsNewSession desk key random id = IsLive desk key id (Sealing (new_session key random))
+IsNewSession desk key random id = IsLive desk key id (Sealing (gen_session key random))
 
 -- The session is fed: it seals in frames of 4,096 bytes, and no length is declared. This is what it gave from the start.
 pub record IsSealing (desk : Desk WrapKeyValue) (key : List ℕ) (id : ℕ) (s : SealingValue) (message : List ℕ) : Type 0 where

@@ -6,7 +6,7 @@ ghost use Rattle.stream_seal.specs.Session.{SealingValue};
 ghost use Rattle.stream_seal.specs.Start.{message_of};
 ghost use Rattle.esdk_gen.specs.Bytes.{gen_bytes};
 ghost use Rattle.esdk_gen.specs.Generator.{message_with};
-ghost use Rattle.esdk_gen.specs.Sealing.{IsIdle, IsMidway, IsNewSession, IsSealing, SealsText, new_session};
+ghost use Rattle.esdk_gen.specs.Sealing.{IsIdle, IsMidway, IsNewSession, IsSealing, SealsText, gen_session};
 
 use crate::bytes::Generator;
 use crate::setting::{KeyDesk, PIECE, request, want_of_memory};
@@ -58,7 +58,7 @@ fn header(alloc: Global, desk: &KeyDesk, id: u64) -> Result<Blob, AllocError>
     requires { (key : List ℕ) × (random : List ℕ) × IsNewSession desk.now key random id }
     ensures { (key : List ℕ) (random : List ℕ) → IsNewSession desk.now key random id
         → IfOk result (λ message.
-        IsSealing desk.now key id (new_session key random) message) }
+        IsSealing desk.now key id (gen_session key random) message) }
 {
     let mut message = Blob::new(alloc);
     match desk.header(id) {

@@ -1,6 +1,5 @@
 -- What holds of an opener's sessions holds of the machine's.
 use Rattle.std.proofs.Common.{ℕ, ◌-◌, ◌<◌, ◌≤◌, length, Some, IfOk}
-use Rattle.stream_open.specs.Asking.{Asking, asking_of}
 use Rattle.desk_core.specs.declared.session.Session.TheVariants as machines
 use Rattle.desk_core.specs.Session.{SessionValue}
 use Rattle.desk_core.specs.Stands.{IsLive, work_in}
@@ -11,12 +10,9 @@ use Rattle.desk_core.proofs.steps.step.Goals as goal
 
 pub returns-in-Opening-clause-steps : goal.returns-in-Opening-clause-steps
 returns-in-Opening-clause-steps g c =
-    let manager : Asking =
-    asking_of (g.M.Manager.meaning c.args.manager.now) (g.M.Manager.meaning c.step_opener.new.manager) (g.M.Manager.tells c.args.manager.now) (g.M.Manager.exact c.args.manager.now)
-    (g.M.Manager.found c.step_opener.new.manager) (g.M.Manager.bears c.args.manager.now) (g.M.Manager.bears c.step_opener.new.manager) c.args.now in
     by_opener
     (λ (s : SessionValue). IsLive s
-    → Steps manager s c.args.id c.args.now c.args.piece.now c.step_opener.result (machines.Opening c.step_opener.new.opener) c.args.journal.now.items c.step_opener.new.journal.items)
+    → Steps (g.M.Manager.state c.args.manager.now) (g.M.Manager.state c.step_opener.new.manager) s c.args.id c.args.now c.args.piece.now c.step_opener.result (machines.Opening c.step_opener.new.opener) c.args.journal.now.items c.step_opener.new.journal.items)
     c.args.session.now c.in-Opening.opener c.in-Opening.is c.step_opener.ensures.steps
 
 pub returns-in-Opening-clause-within : goal.returns-in-Opening-clause-within

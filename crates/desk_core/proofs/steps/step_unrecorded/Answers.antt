@@ -18,4 +18,4 @@ returns-in-Err-clause-steps g c = λ v stands.
 
 pub returns-in-Ok-clause-some : goal.returns-in-Ok-clause-some
 returns-in-Ok-clause-some g c = λ v stands some.
-    uses_some _ v c.args.piece.now c.step.result c.step.new.self c.in-Ok.used (c.step.ensures.steps v stands) c.in-Ok.is some
+    uses_some _ _ c.args.now v c.args.piece.now c.step.result c.step.new.self c.in-Ok.used (c.step.ensures.steps v stands) c.in-Ok.is some

@@ -62,7 +62,7 @@ returns-clause-failures g c =
     let kept : length new ≡ length old = c.run_rounds.auto.progress in
     let as_made : length old ≡ length made.items = ap length c.deref_mut.ensures.value in
     let items = with_items_is made new (omega (arith, kept, as_made, made.ok.0)) in
-    let began : Tally = tally_of (g.F.Shelf.state c.announce.new.shelf) (g.W.Entropy.state c.args.entropy.now).faults (g.M.Manager.meaning (manager_of c.args.desk.now)).faults in
+    let began : Tally = tally_of (g.F.Shelf.state c.announce.new.shelf) (g.W.Entropy.state c.args.entropy.now).faults (g.M.Manager.state (manager_of c.args.desk.now)).meaning.faults in
     let all = c.in_ok-run_rounds.ensures.counts began (counted_none c.jobs-3.result.now began old wait) in
     IfOk-weaker c.report_of.result _ _ (λ lines ended. counted_as c.args.jobs.now.jobs _ _ _ (g.F.Shelf.state c.announce.new.shelf) _ lines c.announce.ensures
     (counted_all c.jobs-3.result.now c.args.jobs.now.jobs began _ new lines c.jobs-3.ensures.jobs (sym items ∙ ended) all)) c.report_of.ensures

@@ -17,7 +17,7 @@ pub returns-in-Err-clause-begins : goal.returns-in-Err-clause-begins
 returns-in-Err-clause-begins g c = λ v s stands live. (
   after_call v c.args.session false DropSession,
   c.drop_session-dropped.ensures.stands v stands,
-  file_failed c.args.session c.args.kind c.args.served s v _ _ c.args.to.now _ c.ended.ensures live (c.in-Err.ensures.makes v s stands live),
+  file_failed c.args.session c.args.kind c.args.served s v _ _ c.args.to.now _ c.ended_job.ensures live (c.in-Err.ensures.makes v s stands live),
 )
 
 pub returns-in-Ok-clause-counts : goal.returns-in-Ok-clause-counts
@@ -27,5 +27,5 @@ returns-in-Ok-clause-counts g c = λ job entropy keyring to.
 
 pub returns-in-Err-clause-counts : goal.returns-in-Err-clause-counts
 returns-in-Err-clause-counts g c = λ job entropy keyring to.
-    ended_counts job c.ended.result _ _ (record { kind = c.args.kind; end = ends.Outside outsides.ShelfFault; served = c.args.served }) c.ended.ensures
+    ended_counts job c.ended_job.result _ _ (record { kind = c.args.kind; end = ends.Outside outsides.ShelfFault; served = c.args.served }) c.ended_job.ensures
     (rose_none entropy entropy (omega arith)) (rose_none keyring keyring (omega arith)) c.in-Err.ensures.cause

@@ -38,7 +38,7 @@ returns-in_ok-wish-in-Encrypt-clause-counts g c = c.open_sealing.ensures.counts 
 
 pub returns-in-Decrypt-clause-counts : goal.returns-in-Decrypt-clause-counts
 returns-in-Decrypt-clause-counts g c =
-    let keyring = (g.M.Manager.meaning (manager_of c.open_opening.new.desk)).faults in
+    let keyring = (g.M.Manager.state (manager_of c.open_opening.new.desk)).meaning.faults in
     IfOk-weaker c.open_opening.result _ _
-    (λ next counts. counts_from c.args.job.now next _ _ _ refl (omega arith) (omega (arith, ap (λ m. (g.M.Manager.meaning m).faults) c.open_opening.ensures.manager)) refl counts)
+    (λ next counts. counts_from c.args.job.now next _ _ _ refl (omega arith) (omega (arith, ap (λ m. (g.M.Manager.state m).meaning.faults) c.open_opening.ensures.manager)) refl counts)
     (c.open_opening.ensures.counts c.args.job.now (g.W.Entropy.state c.args.entropy.now).faults keyring (sym c.as_str-to.ensures.text))

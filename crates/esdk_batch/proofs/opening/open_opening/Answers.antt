@@ -67,5 +67,5 @@ returns-in_ok-end_of-in-Err-clause-counts g c = λ job entropy keyring to.
     let opens = c.in-Err.ensures.opens c.requires.worth.0 c.requires.worth.1 in
     let end = c.in_ok-end_of-in-Err.field-0 in
     let sound = sound_end c.in-Err.error (Ok end) c.in_ok-end_of-in-Err.ensures (open_soundly _ _ opens.short _ c.in-Err.error opens.answer) in
-    ended_counts job c.ended.result _ _ (record { kind = Unseal; end = end; served = None }) c.ended.ensures
+    ended_counts job c.ended_job.result _ _ (record { kind = Unseal; end = end; served = None }) c.ended_job.ensures
     (rose_zero _ entropy entropy sound.entropy (omega arith)) (rose_zero _ keyring keyring sound.keyring (omega arith)) (rose_zero _ _ _ sound.shelf (omega arith))

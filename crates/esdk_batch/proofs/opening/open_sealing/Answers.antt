@@ -8,16 +8,16 @@ use Rattle.desk_core.specs.Session.{Sealing, Turn, seal_opened}
 use Rattle.desk_core.specs.Desk.{DeskValue, after_turn, drawn, lines_of, served_by}
 use Rattle.desk_core.specs.Stands.{manager_of}
 use Rattle.batch_report.specs.declared.job_lines.JobEnd.TheVariants as ends
-use Rattle.esdk_batch.specs.Managing.{Managing, managing_of}
+use Rattle.keyring_trait.specs.Saying.{Saying}
 use Rattle.esdk_batch.specs.Opening.{request_of}
 use Rattle.esdk_batch.proofs.Counting.{rose_none, rose_zero}
 use Rattle.esdk_batch.proofs.Faulting.{entropy_sound, keyring_counted, seal_rose, shelf_sound}
 use Rattle.esdk_batch.proofs.FirstLines.{number_drawn, seal_begun_adds, seal_ended_adds}
 use Rattle.esdk_batch.proofs.FirstTurns.{draws_next, draws_on}
-use Rattle.esdk_batch.proofs.ManagerViews.{Views, admits_same, desk_moment}
+use Rattle.esdk_batch.proofs.Managers.{said, says_same}
 use Rattle.esdk_batch.proofs.Moments.{gains_none, gains_same, sealed_gains}
 use Rattle.esdk_batch.proofs.SealBegins.{draws_nothing, is_begun, opens_none, seal_begins_at, sealing_of}
-use Rattle.esdk_batch.proofs.SealTurns.{has_begun, opened_so, says_at, sealing_live}
+use Rattle.esdk_batch.proofs.SealTurns.{has_begun, opened_so, says, sealing_live}
 use Rattle.esdk_batch.proofs.Openings.{live_after, seal_error_lives, seal_error_none, seal_lives}
 use Rattle.esdk_batch.proofs.TurnCounting.{counts_from, ended_counts}
 use Rattle.esdk_batch.proofs.opening.open_sealing.Goals as goal
@@ -41,35 +41,27 @@ begin-requires g c =
 
 pub returns-in_default-clause-turn : goal.returns-in_default-clause-turn
 returns-in_default-clause-turn g c = λ first last job asked v admits work to request stands.
-    (v, stands, draws_nothing _ job asked v _ _ _ c.ended.result work c.in_default.ensures.bytes c.ended.ensures)
+    (v, stands, draws_nothing _ job asked v _ _ _ c.ended_job.result work c.in_default.ensures.bytes c.ended_job.ensures)
 
 -- ---- a session began
 
 pub returns-in-Ok-opened-clause-turn : goal.returns-in-Ok-opened-clause-turn
 returns-in-Ok-opened-clause-turn g c = λ first last job asked v admits work to request stands.
-    let views : Views g.row.M.Denot = record {
-      meaning = g.M.Manager.meaning;
-      tells = g.M.Manager.tells;
-      exact = g.M.Manager.exact;
-      bears = g.M.Manager.bears;
-      within = g.M.Manager.within;
-      gave = g.M.Manager.gave;
-    } in
-    let manager : Managing = managing_of (g.M.Manager.meaning first) (g.M.Manager.meaning last) (g.M.Manager.tells first) (g.M.Manager.exact first) in
+    let manager : Saying = said g.M.Manager.state first last in
     let random : List ℕ = c.fill.new.out in
-    let o = opened_so views c.args.desk.now c.open_seal-opened.new.self asked c.args.request.now c.args.now random v _ c.served_since-served.result c.journal-lines.result.now request
+    let o = opened_so _ c.open_seal-opened.new.self asked c.args.request.now c.args.now random v _ c.served_since-served.result c.journal-lines.result.now request
     (c.in-Ok-opened.ensures.opens v stands) (c.journal-lines.ensures.lines v stands) c.served_since-served.ensures in
-    let wraps : ℕ = (g.M.Manager.meaning c.args.desk.now.manager).wraps in
+    let wraps : ℕ = (g.M.Manager.state c.args.desk.now.manager).meaning.wraps in
     let count : length random ≡ 64 + 12 * wraps = search rules in
-    let within = admits_same views manager (desk_moment views c.args.desk.now) c.open_seal-opened.new.self.manager c.begin.new.desk.manager
-    c.open_seal-opened.new.self.journal.items c.begin.new.desk.journal.items c.begin.ensures.manager c.begin.ensures.journal admits in
-    let said = says_at views manager c.args.desk.now c.open_seal-opened.new.self asked c.args.now random o.short o.reply within o.replies in
+    let within = says_same g.M.Manager.state first last c.args.desk.now c.open_seal-opened.new.self
+    c.begin.new.desk c.begin.ensures.manager admits in
+    let told = says manager (g.M.Manager.state (manager_of c.args.desk.now)) (g.M.Manager.state (manager_of c.open_seal-opened.new.self)) asked c.args.now random o.short o.reply within o.replies in
     let b = has_begun asked random o.reply o.short (v.last + 1) c.in-Ok-opened.session o.answer in
     let lines : List JournalLine = lines_of (v.last + 1) Seal c.args.now asked.declared (served_by o.reply) in
     let turn : Turn ℕ = seal_opened (request_of asked) random o.reply o.short (v.last + 1) in
     let u : DeskValue = after_turn (drawn v) (v.last + 1) lines turn in
     let file = c.begin.ensures.begins u (Sealing (sealing_of asked random b.materials)) o.stands (sealing_live v asked random o.reply o.short c.in-Ok-opened.session b) in
-    let begun = is_begun manager asked c.args.request.now random o.reply o.short (v.last + 1) c.in-Ok-opened.session wraps c.served_since-served.result b request c.requires.some count within.wraps said
+    let begun = is_begun manager asked c.args.request.now random o.reply o.short (v.last + 1) c.in-Ok-opened.session wraps c.served_since-served.result b request c.requires.some count within.wraps told
     o.serves in (
       file.0,
       file.1,
@@ -90,16 +82,8 @@ returns-in-Ok-opened-clause-numbers g c =
 
 pub returns-in-Ok-opened-clause-lines : goal.returns-in-Ok-opened-clause-lines
 returns-in-Ok-opened-clause-lines g c = λ job asked v work request stands.
-    let views : Views g.row.M.Denot = record {
-      meaning = g.M.Manager.meaning;
-      tells = g.M.Manager.tells;
-      exact = g.M.Manager.exact;
-      bears = g.M.Manager.bears;
-      within = g.M.Manager.within;
-      gave = g.M.Manager.gave;
-    } in
     let random : List ℕ = c.fill.new.out in
-    let o = opened_so views c.args.desk.now c.open_seal-opened.new.self asked c.args.request.now c.args.now random v _ c.served_since-served.result c.journal-lines.result.now request
+    let o = opened_so _ c.open_seal-opened.new.self asked c.args.request.now c.args.now random v _ c.served_since-served.result c.journal-lines.result.now request
     (c.in-Ok-opened.ensures.opens v stands) (c.journal-lines.ensures.lines v stands) c.served_since-served.ensures in
     let b = has_begun asked random o.reply o.short (v.last + 1) c.in-Ok-opened.session o.answer in
     let lines : List JournalLine = lines_of (v.last + 1) Seal c.args.now asked.declared (served_by o.reply) in
@@ -117,48 +101,32 @@ returns-in-Ok-opened-clause-lines g c = λ job asked v work request stands.
 
 pub returns-in_ok-end_of-in-Err-clause-turn : goal.returns-in_ok-end_of-in-Err-clause-turn
 returns-in_ok-end_of-in-Err-clause-turn g c = λ first last job asked v admits work to request stands.
-    let views : Views g.row.M.Denot = record {
-      meaning = g.M.Manager.meaning;
-      tells = g.M.Manager.tells;
-      exact = g.M.Manager.exact;
-      bears = g.M.Manager.bears;
-      within = g.M.Manager.within;
-      gave = g.M.Manager.gave;
-    } in
-    let manager : Managing = managing_of (g.M.Manager.meaning first) (g.M.Manager.meaning last) (g.M.Manager.tells first) (g.M.Manager.exact first) in
+    let manager : Saying = said g.M.Manager.state first last in
     let random : List ℕ = c.fill.new.out in
-    let o = opened_so views c.args.desk.now c.open_seal-opened.new.self asked c.args.request.now c.args.now random v _ c.served_since-served.result c.journal-lines.result.now request
+    let o = opened_so _ c.open_seal-opened.new.self asked c.args.request.now c.args.now random v _ c.served_since-served.result c.journal-lines.result.now request
     (c.in-Err.ensures.opens v stands) (c.journal-lines.ensures.lines v stands) c.served_since-served.ensures in
-    let wraps : ℕ = (g.M.Manager.meaning c.args.desk.now.manager).wraps in
+    let wraps : ℕ = (g.M.Manager.state c.args.desk.now.manager).meaning.wraps in
     let count : length random ≡ 64 + 12 * wraps = search rules in
-    let said = says_at views manager c.args.desk.now c.open_seal-opened.new.self asked c.args.now random o.short o.reply admits o.replies in
+    let told = says manager (g.M.Manager.state (manager_of c.args.desk.now)) (g.M.Manager.state (manager_of c.open_seal-opened.new.self)) asked c.args.now random o.short o.reply admits o.replies in
     let lines : List JournalLine = lines_of (v.last + 1) Seal c.args.now asked.declared (served_by o.reply) in
     let turn : Turn ℕ = seal_opened (request_of asked) random o.reply o.short (v.last + 1) in (
       _,
       o.stands,
-      opens_none manager job asked v _ lines _ _ _ random o.reply o.short (v.last + 1) wraps c.in-Err.error c.in_ok-end_of-in-Err.field-0 c.served_since-served.result c.ended-in-Err.result work
+      opens_none manager job asked v _ lines _ _ _ random o.reply o.short (v.last + 1) wraps c.in-Err.error c.in_ok-end_of-in-Err.field-0 c.served_since-served.result c.ended_job-in-Err.result work
           (draws_next v lines turn) (stands.undrawn (v.last + 1) (omega arith))
-          (update_here v.live (v.last + 1) turn.left ∙ seal_error_none (request_of asked) random o.reply o.short (v.last + 1) c.in-Err.error o.answer) c.in-Ok.ensures.bytes count admits.wraps said o.serves o.answer c.in_ok-end_of-in-Err.ensures c.ended-in-Err.ensures,
+          (update_here v.live (v.last + 1) turn.left ∙ seal_error_none (request_of asked) random o.reply o.short (v.last + 1) c.in-Err.error o.answer) c.in-Ok.ensures.bytes count admits.wraps told o.serves o.answer c.in_ok-end_of-in-Err.ensures c.ended_job-in-Err.ensures,
     )
 
 pub returns-in_ok-end_of-in-Err-clause-lines : goal.returns-in_ok-end_of-in-Err-clause-lines
 returns-in_ok-end_of-in-Err-clause-lines g c = λ job asked v work request stands.
-    let views : Views g.row.M.Denot = record {
-      meaning = g.M.Manager.meaning;
-      tells = g.M.Manager.tells;
-      exact = g.M.Manager.exact;
-      bears = g.M.Manager.bears;
-      within = g.M.Manager.within;
-      gave = g.M.Manager.gave;
-    } in
     let random : List ℕ = c.fill.new.out in
-    let o = opened_so views c.args.desk.now c.open_seal-opened.new.self asked c.args.request.now c.args.now random v _ c.served_since-served.result c.journal-lines.result.now request
+    let o = opened_so _ c.open_seal-opened.new.self asked c.args.request.now c.args.now random v _ c.served_since-served.result c.journal-lines.result.now request
     (c.in-Err.ensures.opens v stands) (c.journal-lines.ensures.lines v stands) c.served_since-served.ensures in
     let turn : Turn ℕ = seal_opened (request_of asked) random o.reply o.short (v.last + 1) in
     let u : DeskValue = after_turn (drawn v) (v.last + 1) (lines_of (v.last + 1) Seal c.args.now asked.declared (served_by o.reply)) turn in (
       u,
       o.stands,
-      seal_ended_adds job asked c.ended-in-Err.result v u c.args.now c.in_ok-end_of-in-Err.field-0 c.served_since-served.result (served_by o.reply) work c.ended-in-Err.ensures refl o.serves,
+      seal_ended_adds job asked c.ended_job-in-Err.result v u c.args.now c.in_ok-end_of-in-Err.field-0 c.served_since-served.result (served_by o.reply) work c.ended_job-in-Err.ensures refl o.serves,
     )
 
 -- ---- the moment
@@ -186,14 +154,14 @@ returns-in_err-end_of-in-Err-clause-moment g c =
 
 pub returns-in_default-clause-counts : goal.returns-in_default-clause-counts
 returns-in_default-clause-counts g c = λ job to.
-    ended_counts job c.ended.result _ _ (record { kind = Seal; end = ends.Outside outsides.EntropyFault; served = None }) c.ended.ensures c.in_default.ensures.cause.failed
+    ended_counts job c.ended_job.result _ _ (record { kind = Seal; end = ends.Outside outsides.EntropyFault; served = None }) c.ended_job.ensures c.in_default.ensures.cause.failed
     (rose_none _ _ (omega arith)) (rose_none _ _ (omega arith))
 
 pub returns-in-Ok-opened-clause-counts : goal.returns-in-Ok-opened-clause-counts
 returns-in-Ok-opened-clause-counts g c = λ job to.
     counts_from job c.begin.result _ _ _ refl c.fill.ensures.cause.later
-    (omega (arith, c.in-Ok-opened.ensures.goes.later, ap (λ m. (g.M.Manager.meaning m).faults) c.begin.ensures.manager)) refl
-    (c.begin.ensures.counts job (g.W.Entropy.state c.fill.new.self).faults (g.M.Manager.meaning (manager_of c.begin.new.desk)).faults to)
+    (omega (arith, c.in-Ok-opened.ensures.went.goes.later, ap (λ m. (g.M.Manager.state m).meaning.faults) c.begin.ensures.manager)) refl
+    (c.begin.ensures.counts job (g.W.Entropy.state c.fill.new.self).faults (g.M.Manager.state (manager_of c.begin.new.desk)).meaning.faults to)
 
 pub returns-in_ok-end_of-in-Err-clause-counts : goal.returns-in_ok-end_of-in-Err-clause-counts
 returns-in_ok-end_of-in-Err-clause-counts g c = λ job to.
@@ -202,7 +170,7 @@ returns-in_ok-end_of-in-Err-clause-counts g c = λ job to.
     let named = c.in_ok-end_of-in-Err.ensures in
     let old = manager_of c.args.desk.now in
     let new = manager_of c.open_seal-opened.new.self in
-    let rose = seal_rose (g.M.Manager.meaning old) (g.M.Manager.meaning new) (g.M.Manager.tells old) (g.M.Manager.exact old) (g.M.Manager.gave new) c.args.request.now.wish c.args.now c.requires.worth.0 c.args.request.now c.fill.new.out c.in-Err.error c.open_seal-opened.new.self (opened.opens c.requires.worth.0 c.requires.worth.1) in
-    ended_counts job c.ended-in-Err.result _ _ (record { kind = Seal; end = end; served = c.served_since-served.result }) c.ended-in-Err.ensures
+    let rose = seal_rose (g.M.Manager.state old) (g.M.Manager.state new) c.args.now c.requires.worth.0 c.args.request.now c.fill.new.out c.in-Err.error c.open_seal-opened.new.self (opened.opens c.requires.worth.0 c.requires.worth.1) in
+    ended_counts job c.ended_job-in-Err.result _ _ (record { kind = Seal; end = end; served = c.served_since-served.result }) c.ended_job-in-Err.ensures
     (rose_zero _ _ _ (entropy_sound c.in-Err.error end named) c.fill.ensures.cause.later)
-    (keyring_counted c.in-Err.error end _ _ named opened.goes.later rose) (rose_zero _ _ _ (shelf_sound c.in-Err.error end named) (omega arith))
+    (keyring_counted c.in-Err.error end _ _ named opened.went.goes.later rose) (rose_zero _ _ _ (shelf_sound c.in-Err.error end named) (omega arith))

@@ -3,7 +3,6 @@ use Rattle.std.proofs.Common.{◌<◌, length, get_or, sym, ap, ◌∙◌, inr, 
 use Rattle.std.proofs.lemmas.List.{get_or_default}
 use Rattle.esdk_batch.specs.Progress.{is_ended}
 use Rattle.esdk_batch.proofs.AllCounting.{counted_after, has_file_at}
-use Rattle.esdk_batch.proofs.Managers.{admits_between}
 use Rattle.esdk_batch.proofs.Moments.{reads_turn}
 use Rattle.esdk_batch.proofs.Standing.{others_after}
 use Rattle.esdk_batch.proofs.Windows.{round_begun, round_skips, round_turns}
@@ -11,7 +10,7 @@ use Rattle.esdk_batch.proofs.rounds.run_round.Goals as goal
 
 pub loop-at-preserved-then-is_ended : goal.loop-at-preserved-then-is_ended
 loop-at-preserved-then-is_ended g c = record {
-  on = round_skips _ _ c.args.jobs.now c.args.width c.args.first c.args.desk.now c.loop-at.desk c.args.progress.now c.loop-at.progress _ _ _ _ c.loop-at.at c.loop-at.turns
+  on = round_skips _ c.args.jobs.now c.args.width c.args.first c.args.desk.now c.loop-at.desk c.args.progress.now c.loop-at.progress _ _ _ _ c.loop-at.at c.loop-at.turns
       c.loop-at.invariant.on (omega (arith, c.loop-at-test.true)) c.requires.first c.index-progress-at.result c.index-progress-at.is (ap is_ended c.index-progress-at.is ∙ sym c.is_ended.ensures ∙ c.if-is_ended.true);
   counts = c.loop-at.invariant.counts;
   moments = c.loop-at.invariant.moments;
@@ -28,11 +27,10 @@ loop-at-preserved g c =
     let was = get_or_default progress at c.index-progress-at-in-loop-at.result one within in
     let each = c.loop-at.invariant.on.each in
     record {
-      on = round_turns _ _ c.args.jobs.now c.args.width c.args.first c.args.desk.now c.loop-at.desk c.args.progress.now progress _ _ _ _ at c.loop-at.turns
+      on = round_turns _ c.args.jobs.now c.args.width c.args.first c.args.desk.now c.loop-at.desk c.args.progress.now progress _ _ _ _ at c.loop-at.turns
           c.loop-at.invariant.on (omega (arith, c.loop-at-test.true)) c.requires.first one was
           c.index-jobs-at.result c.take_turn.new.progress c.take_turn.new.desk _ _ c.index-jobs-at.is c.requires.apart runs
           (omega (arith, c.if-turns-width.false, c.loop-at.invariant.on.few))
-          (λ a b. admits_between _ _)
           (record { turn = turn.turn; numbers = turn.numbers; bytes = turn.draws; lines = turn.lines; kind = turn.kind; falls = turn.falls; went = turn.went; kept = turn.kept });
       counts = λ began first.
           let all = c.loop-at.invariant.counts began first in

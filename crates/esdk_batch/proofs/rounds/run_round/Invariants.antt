@@ -1,20 +1,16 @@
 -- The jobs before this one that hadn't ended had their turns.
 use Rattle.desk_core.specs.Stands.{journal_of, manager_of}
 use Rattle.esdk_batch.specs.Failures.{AllCounted, Tally, tally_of}
-use Rattle.esdk_batch.specs.Managing.{manager_now, managing_of}
 use Rattle.esdk_batch.specs.Moments.{ReadsClock}
 use Rattle.esdk_batch.proofs.Windows.{RoundOn}
 use Rattle.esdk_batch.proofs.rounds.run_round.Given as goal
 
 abbrev pub invariant-loop-at : goal.invariant-loop-at
 invariant-loop-at g l = record {
-  on : RoundOn
-      (λ desk. manager_now (g.M.Manager.meaning (manager_of desk)) (g.M.Manager.tells (manager_of desk)) (g.M.Manager.exact (manager_of desk))
-      (g.M.Manager.bears (manager_of desk) (journal_of desk)) (g.M.Manager.within (manager_of desk)))
-      (λ first last. managing_of (g.M.Manager.meaning first) (g.M.Manager.meaning last) (g.M.Manager.tells first) (g.M.Manager.exact first))
+  on : RoundOn g.M.Manager.state
       l.jobs l.width l.first l.fn.desk l.desk l.fn.progress l.progress (g.F.Shelf.state l.fn.shelf).files (g.F.Shelf.state l.shelf).files
       (g.W.Entropy.state l.fn.entropy) (g.W.Entropy.state l.entropy) l.at l.turns;
-  counts : (began : Tally) → AllCounted l.jobs began (tally_of (g.F.Shelf.state l.fn.shelf) (g.W.Entropy.state l.fn.entropy).faults (g.M.Manager.meaning (manager_of l.fn.desk)).faults) l.fn.progress
-      → AllCounted l.jobs began (tally_of (g.F.Shelf.state l.shelf) (g.W.Entropy.state l.entropy).faults (g.M.Manager.meaning (manager_of l.desk)).faults) l.progress;
+  counts : (began : Tally) → AllCounted l.jobs began (tally_of (g.F.Shelf.state l.fn.shelf) (g.W.Entropy.state l.fn.entropy).faults (g.M.Manager.state (manager_of l.fn.desk)).meaning.faults) l.fn.progress
+      → AllCounted l.jobs began (tally_of (g.F.Shelf.state l.shelf) (g.W.Entropy.state l.entropy).faults (g.M.Manager.state (manager_of l.desk)).meaning.faults) l.progress;
   moments : ReadsClock (g.C.Clock.moments l.fn.clock) (g.C.Clock.moments l.clock) (journal_of l.fn.desk) (journal_of l.desk);
 }

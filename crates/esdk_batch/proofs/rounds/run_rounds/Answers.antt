@@ -11,7 +11,7 @@ pub loop-first-preserved : goal.loop-first-preserved
 loop-first-preserved g c =
     let round = c.in_ok-run_round.ensures in
     record {
-      on = rounds_more _ _ c.args.jobs.now c.args.width c.args.desk.now c.loop-first.desk c.run_round.new.desk c.args.progress.now c.loop-first.progress c.run_round.new.progress _ _ _ _ _ _
+      on = rounds_more _ c.args.jobs.now c.args.width c.args.desk.now c.loop-first.desk c.run_round.new.desk c.args.progress.now c.loop-first.progress c.run_round.new.progress _ _ _ _ _ _
           c.loop-first.invariant.on (omega (arith, c.run_round.auto.progress, c.loop-first.invariant.on.each)) round.room round.ready round.opened round.went round.others round.told round.stand;
       counts = λ began first. round.counts began (c.loop-first.invariant.counts began first);
       moments = reads_more _ _ _ _ _ _ c.loop-first.invariant.moments round.moments;

@@ -3,7 +3,6 @@ use Rattle.std.proofs.Common.{◌≡◌, true, take}
 use Rattle.std.specs.Prelude.{All}
 use Rattle.desk_core.specs.Stands.{journal_of, manager_of}
 use Rattle.esdk_batch.specs.Failures.{AllCounted, Tally, tally_of}
-use Rattle.esdk_batch.specs.Managing.{manager_now, managing_of}
 use Rattle.esdk_batch.specs.Moments.{ReadsClock}
 use Rattle.esdk_batch.specs.Progress.{all_turns_left, is_ended}
 use Rattle.esdk_batch.proofs.Windows.{RoundsOn}
@@ -11,14 +10,11 @@ use Rattle.esdk_batch.proofs.rounds.run_rounds.Given as goal
 
 abbrev pub invariant-loop-first : goal.invariant-loop-first
 invariant-loop-first g l = record {
-  on : RoundsOn
-      (λ desk. manager_now (g.M.Manager.meaning (manager_of desk)) (g.M.Manager.tells (manager_of desk)) (g.M.Manager.exact (manager_of desk))
-      (g.M.Manager.bears (manager_of desk) (journal_of desk)) (g.M.Manager.within (manager_of desk)))
-      (λ first last. managing_of (g.M.Manager.meaning first) (g.M.Manager.meaning last) (g.M.Manager.tells first) (g.M.Manager.exact first))
+  on : RoundsOn g.M.Manager.state
       l.jobs l.width l.fn.desk l.desk l.fn.progress l.progress (g.F.Shelf.state l.fn.shelf).files (g.F.Shelf.state l.shelf).files
       (g.W.Entropy.state l.fn.entropy) (g.W.Entropy.state l.entropy);
-  counts : (began : Tally) → AllCounted l.jobs began (tally_of (g.F.Shelf.state l.fn.shelf) (g.W.Entropy.state l.fn.entropy).faults (g.M.Manager.meaning (manager_of l.fn.desk)).faults) l.fn.progress
-      → AllCounted l.jobs began (tally_of (g.F.Shelf.state l.shelf) (g.W.Entropy.state l.entropy).faults (g.M.Manager.meaning (manager_of l.desk)).faults) l.progress;
+  counts : (began : Tally) → AllCounted l.jobs began (tally_of (g.F.Shelf.state l.fn.shelf) (g.W.Entropy.state l.fn.entropy).faults (g.M.Manager.state (manager_of l.fn.desk)).meaning.faults) l.fn.progress
+      → AllCounted l.jobs began (tally_of (g.F.Shelf.state l.shelf) (g.W.Entropy.state l.entropy).faults (g.M.Manager.state (manager_of l.desk)).meaning.faults) l.progress;
   moments : ReadsClock (g.C.Clock.moments l.fn.clock) (g.C.Clock.moments l.clock) (journal_of l.fn.desk) (journal_of l.desk);
   past : All (λ one. is_ended one ≡ true) (take l.past l.progress);
 }

@@ -14,7 +14,7 @@ pub returns-in-Err-clause-turn : goal.returns-in-Err-clause-turn
 returns-in-Err-clause-turn g c = λ first last v admits stands has. (
   after_call v c.args.live.session false DropSession,
   c.drop_session-dropped.ensures.stands v stands,
-  unread_so _ c.args.job.now c.args.live c.ended.result c.kind_of-kind.result c.as_str.result.now has.0 v _ _ c.in-Err.outside c.kind_of-kind.ensures c.ended.ensures c.as_str.ensures.text has.1
+  unread_so _ c.args.job.now c.args.live c.ended_job.result c.kind_of-kind.result c.as_str.result.now has.0 v _ _ c.in-Err.outside c.kind_of-kind.ensures c.ended_job.ensures c.as_str.ensures.text has.1
       c.in-Err.ensures.reads c.read_piece.ensures.stays,
 )
 
@@ -23,8 +23,8 @@ returns-then-count-eq0-clause-turn g c = λ first last v admits stands has.
     let ends = c.in_ok-end.ensures.ends v has.0 stands has.1 in (
       ends.0,
       ends.1,
-      finished_so _ c.args.job.now c.args.live c.ended-then-count-eq0.result c.kind_of-kind.result c.as_str.result.now c.as_str-to.result.now has.0 v ends.0 _ _ _ c.read_piece.new.buffer c.in-Ok.count
-          c.in_ok-end.end c.kind_of-kind.ensures c.ended-then-count-eq0.ensures c.as_str.ensures.text c.as_str-to.ensures.text c.read_piece.ensures.stays has.1
+      finished_so _ c.args.job.now c.args.live c.ended_job-then-count-eq0.result c.kind_of-kind.result c.as_str.result.now c.as_str-to.result.now has.0 v ends.0 _ _ _ c.read_piece.new.buffer c.in-Ok.count
+          c.in_ok-end.end c.kind_of-kind.ensures c.ended_job-then-count-eq0.ensures c.as_str.ensures.text c.as_str-to.ensures.text c.read_piece.ensures.stays has.1
           c.in-Ok.ensures.reads.0 c.if-count-eq0.true ends.2,
     )
 
@@ -32,7 +32,7 @@ pub returns-then-count-eq0-clause-lines : goal.returns-then-count-eq0-clause-lin
 returns-then-count-eq0-clause-lines g c = λ v stands knows.
     let s = known c.args.job.now.work c.args.live v.live knows in
     let ends = c.in_ok-end.ensures.ends v s.0 stands s.1 in
-    (ends.0, ends.1, no_lines_so c.args.job.now c.args.live c.ended-then-count-eq0.result c.kind_of-kind.result c.in_ok-end.end v ends.0 c.ended-then-count-eq0.ensures ends.2.desk.journal)
+    (ends.0, ends.1, no_lines_so c.args.job.now c.args.live c.ended_job-then-count-eq0.result c.kind_of-kind.result c.in_ok-end.end v ends.0 c.ended_job-then-count-eq0.ensures ends.2.desk.journal)
 
 pub returns-in-Some-clause-turn : goal.returns-in-Some-clause-turn
 returns-in-Some-clause-turn g c = λ first last v admits stands has.
@@ -42,8 +42,8 @@ returns-in-Some-clause-turn g c = λ first last v admits stands has.
     let journal : journal_of c.feed_piece.new.desk ≡ feeds.0.journal = feeds.1.journal in (
       feeds.0,
       feeds.1,
-      broken_so _ c.args.job.now c.args.live c.ended-in-Some.result c.kind_of-kind.result c.as_str.result.now c.either-served.result has.0 v feeds.0 _ _ c.read_piece.new.buffer c.in-Ok.count
-          c.in-Some.end c.kind_of-kind.ensures c.ended-in-Some.ensures c.as_str.ensures.text has.1 c.in-Ok.ensures.reads.0 fed
+      broken_so _ c.args.job.now c.args.live c.ended_job-in-Some.result c.kind_of-kind.result c.as_str.result.now c.either-served.result has.0 v feeds.0 _ _ c.read_piece.new.buffer c.in-Ok.count
+          c.in-Some.end c.kind_of-kind.ensures c.ended_job-in-Some.ensures c.as_str.ensures.text has.1 c.in-Ok.ensures.reads.0 fed
           (reported_is c.args.live.served c.served_since.result c.either-served.result (journal_of c.feed_piece.new.desk) v.journal fed.gained _ c.either-served.ensures
           c.served_since.ensures (journal ∙ fed.desk.journal) (ap length (c.journal-lines.ensures.lines v stands))),
     )
@@ -52,7 +52,7 @@ pub returns-in-Some-clause-numbers : goal.returns-in-Some-clause-numbers
 returns-in-Some-clause-numbers g c =
     let ready = c.requires.ready in
     let feeds = c.in_ok-end-2.ensures.feeds (manager_of c.args.desk.now) (manager_of c.feed_piece.new.desk) ready.0 ready.2.0 (admits_between _ _) ready.1 ready.2.1 in
-    draws_none c.args.live c.ended-in-Some.result c.kind_of-kind.result c.in-Some.end c.either-served.result _ _ c.ended-in-Some.ensures
+    draws_none c.args.live c.ended_job-in-Some.result c.kind_of-kind.result c.in-Some.end c.either-served.result _ _ c.ended_job-in-Some.ensures
     (feeds.1.last ∙ feeds.2.desk.last ∙ sym ready.1.last)
 
 pub returns-in-Some-clause-lines : goal.returns-in-Some-clause-lines
@@ -64,7 +64,7 @@ returns-in-Some-clause-lines g c = λ v stands knows.
     let journal : journal_of c.feed_piece.new.desk ≡ feeds.0.journal = feeds.1.journal in (
       feeds.0,
       feeds.1,
-      broken_lines_so _ c.args.job.now c.args.live c.ended-in-Some.result c.kind_of-kind.result c.either-served.result v feeds.0 _ _ _ c.in-Some.end knows fed c.ended-in-Some.ensures
+      broken_lines_so _ c.args.job.now c.args.live c.ended_job-in-Some.result c.kind_of-kind.result c.either-served.result v feeds.0 _ _ _ c.in-Some.end knows fed c.ended_job-in-Some.ensures
           (reported_is c.args.live.served c.served_since.result c.either-served.result (journal_of c.feed_piece.new.desk) v.journal fed.gained _ c.either-served.ensures
           c.served_since.ensures (journal ∙ fed.desk.journal) (ap length (c.journal-lines.ensures.lines v stands))),
     )
@@ -118,23 +118,23 @@ returns-in_err-end-clause-moment g c = gains_none c.args.now _ _ c.end_session.e
 
 pub returns-in-Err-clause-counts : goal.returns-in-Err-clause-counts
 returns-in-Err-clause-counts g c = λ entropy has.
-    unread_counts c.args.job.now c.ended.result c.kind_of-kind.result c.args.live.served c.as_str.result.now (g.F.Shelf.state c.args.shelf.now) (g.F.Shelf.state c.read_piece.new.shelf) entropy _ _ c.args.live.at c.in-Err.outside c.ended.ensures c.as_str.ensures.text
-    (ap (λ m. (g.M.Manager.meaning m).faults) c.drop_session-dropped.ensures.manager) c.in-Err.ensures.reads
+    unread_counts c.args.job.now c.ended_job.result c.kind_of-kind.result c.args.live.served c.as_str.result.now (g.F.Shelf.state c.args.shelf.now) (g.F.Shelf.state c.read_piece.new.shelf) entropy _ _ c.args.live.at c.in-Err.outside c.ended_job.ensures c.as_str.ensures.text
+    (ap (λ m. (g.M.Manager.state m).meaning.faults) c.drop_session-dropped.ensures.manager) c.in-Err.ensures.reads
 
 pub returns-then-count-eq0-clause-counts : goal.returns-then-count-eq0-clause-counts
 returns-then-count-eq0-clause-counts g c = λ entropy has.
     let there = there_mid _ _ c.args.job.now.to c.as_str-to.result.now c.read_piece.ensures.stays c.as_str-to.ensures.text has in
-    let keyring = (g.M.Manager.meaning (manager_of c.end_session.new.desk)).faults in
-    counts_from c.args.job.now c.ended-then-count-eq0.result _ _ _ refl (omega arith)
-    (omega (arith, ap (λ m. (g.M.Manager.meaning m).faults) c.in_ok-end.ensures.manager)) refl
-    (piece_ended c.args.job.now c.ended-then-count-eq0.result c.as_str-to.result.now (g.F.Shelf.state c.args.shelf.now) (g.F.Shelf.state c.read_piece.new.shelf) (g.F.Shelf.state c.end_session.new.shelf) entropy keyring keyring c.in-Ok.ensures.reads.1
-    (record { kind = c.kind_of-kind.result; end = c.in_ok-end.end; served = c.args.live.served }) c.ended-then-count-eq0.ensures (c.in_ok-end.ensures.counts keyring there))
+    let keyring = (g.M.Manager.state (manager_of c.end_session.new.desk)).meaning.faults in
+    counts_from c.args.job.now c.ended_job-then-count-eq0.result _ _ _ refl (omega arith)
+    (omega (arith, ap (λ m. (g.M.Manager.state m).meaning.faults) c.in_ok-end.ensures.manager)) refl
+    (piece_ended c.args.job.now c.ended_job-then-count-eq0.result c.as_str-to.result.now (g.F.Shelf.state c.args.shelf.now) (g.F.Shelf.state c.read_piece.new.shelf) (g.F.Shelf.state c.end_session.new.shelf) entropy keyring keyring c.in-Ok.ensures.reads.1
+    (record { kind = c.kind_of-kind.result; end = c.in_ok-end.end; served = c.args.live.served }) c.ended_job-then-count-eq0.ensures (c.in_ok-end.ensures.counts keyring there))
 
 pub returns-in-Some-clause-counts : goal.returns-in-Some-clause-counts
 returns-in-Some-clause-counts g c = λ entropy has.
     let there = there_mid _ _ c.args.job.now.to c.as_str-to.result.now c.read_piece.ensures.stays c.as_str-to.ensures.text has in
-    piece_ended c.args.job.now c.ended-in-Some.result c.as_str-to.result.now (g.F.Shelf.state c.args.shelf.now) (g.F.Shelf.state c.read_piece.new.shelf) (g.F.Shelf.state c.feed_piece.new.shelf) entropy _ _ c.in-Ok.ensures.reads.1
-    (record { kind = c.kind_of-kind.result; end = c.in-Some.end; served = c.either-served.result }) c.ended-in-Some.ensures
+    piece_ended c.args.job.now c.ended_job-in-Some.result c.as_str-to.result.now (g.F.Shelf.state c.args.shelf.now) (g.F.Shelf.state c.read_piece.new.shelf) (g.F.Shelf.state c.feed_piece.new.shelf) entropy _ _ c.in-Ok.ensures.reads.1
+    (record { kind = c.kind_of-kind.result; end = c.in-Some.end; served = c.either-served.result }) c.ended_job-in-Some.ensures
     (piece_as c.as_str-to.result.now _ _ (g.F.Shelf.state c.read_piece.new.shelf) (g.F.Shelf.state c.feed_piece.new.shelf) _ _ c.in-Some.is (c.in_ok-end-2.ensures.counts there))
 
 pub returns-in-None-clause-counts : goal.returns-in-None-clause-counts

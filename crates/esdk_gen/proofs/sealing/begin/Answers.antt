@@ -14,7 +14,9 @@ want_of_memory-requires c =
 
 pub returns-in-Ok-clause-session : goal.returns-in-Ok-clause-session
 returns-in-Ok-clause-session c = λ key idle.
-    session_begins _ _ key c.args.random.now 0 idle (omega arith) c.in-Ok.id (rw c.in_ok-request.ensures at c.in-Ok.ensures.opens idle.value idle.stands) c.in-Ok.ensures.tells
+    session_begins _ _ key c.args.random.now 0 idle (omega arith) c.in-Ok.id
+    (rw c.in_ok-request.ensures at c.in-Ok.ensures.opens idle.value idle.stands)
+    c.in-Ok.ensures.went.tells
 
 pub returns-in-Ok-clause-number : goal.returns-in-Ok-clause-number
 returns-in-Ok-clause-number c = λ key idle.
