@@ -1,7 +1,7 @@
 -- Which words write which numbers.
 use Rattle.std.proofs.Common.{◌≡◌, ◌<◌, ◌≤◌, ◌+◌, ◌^◌, ℕ, zero, suc, Bool, true, false, List, ◌∷◌, ◌++◌, length, replicate, get_or, refl, sym, ap, subst, ◌∙◌, arith, rules, decimal, length-append}
 use Rattle.std.proofs.lemmas.List.{length-replicate}
-use Rattle.std.specs.Prelude.{◌&&◌, nat_le, Ok, Err, if◌then◌else◌}
+use Rattle.std.specs.Prelude.{◌&&◌, nat_le, Some, None, if◌then◌else◌}
 use Rattle.std.specs.Char.{is_ascii_digit}
 use Rattle.std.specs.Int.{IsInRange}
 use Rattle.std.specs.List.{list_all}
@@ -11,8 +11,6 @@ use Rattle.std.proofs.lemmas.List.Folds.{list_all-append}
 use Rattle.std.proofs.lemmas.Str.Parse.{IsNumeralModel, numerals_by_weight}
 use Rattle.std.proofs.lemmas.Fmt.{digits_decimal, digits_value-decimal, decimal_nonempty}
 use Rattle.esdk_args.specs.declared.options.OptionName.{OptionName}
-use Rattle.esdk_args.specs.declared.request.WordsFault.{WordsFault}
-use Rattle.esdk_args.specs.declared.request.WordsFault.TheVariants.{BadNumber}
 use Rattle.esdk_args.specs.Options.{greatest, least}
 use Rattle.esdk_args.specs.Numbers.{decimal_value, is_numeral, number_of}
 use Rattle.esdk_args.specs.Spelling.{Writes, WritesFor}
@@ -52,13 +50,13 @@ is_numeral_when word n w = rw (le-leb 1 (length word) w.some, le-leb (length wor
 
 -- ---- the number of an option
 
-chosen : (b : Bool) (v n : ℕ) (fault : WordsFault) → (if b then Ok v else Err fault) ≡ Ok n → (b ≡ true) × (v ≡ n)
-chosen true v n fault e = (refl, cc)
-chosen false v n fault e = absurd cc
+chosen : (b : Bool) (v n : ℕ) → (if b then Some v else None) ≡ Some n → (b ≡ true) × (v ≡ n)
+chosen true v n e = (refl, cc)
+chosen false v n e = absurd cc
 
-refused : (b : Bool) (v : ℕ) (fault other : WordsFault) → (if b then Ok v else Err fault) ≡ Err other → (b ≡ false) × (fault ≡ other)
-refused true v fault other e = absurd cc
-refused false v fault other e = (refl, cc)
+refused : (b : Bool) (v : ℕ) → (if b then Some v else None) ≡ None → b ≡ false
+refused true v e = absurd cc
+refused false v e = refl
 
 abbrev passes : OptionName → List ℕ → Bool
 passes name word = is_numeral word && nat_le (least name) (decimal_value word) && nat_le (decimal_value word) (greatest name)
@@ -78,33 +76,33 @@ passes_when name word n w =
     (and_from (is_numeral word) (nat_le (least name) v) (is_numeral_when word n w.0) (le-leb (least name) v (omega (arith, e, w.1))))
     (le-leb v (greatest name) (omega (arith, e, w.2)))
 
-pub number_read : (name : OptionName) (word : List ℕ) (n : ℕ) → WritesFor name word n → number_of name word ≡ Ok n
+pub number_read : (name : OptionName) (word : List ℕ) (n : ℕ) → WritesFor name word n
+    → number_of name word ≡ Some n
 unfolding number_of
 number_read name word n w = rw (passes_when name word n w, w.0.value) refl
 
-pub number_writes : (name : OptionName) (word : List ℕ) (n : ℕ) → number_of name word ≡ Ok n → WritesFor name word n
+pub number_writes : (name : OptionName) (word : List ℕ) (n : ℕ) → number_of name word ≡ Some n
+    → WritesFor name word n
 unfolding number_of
 number_writes name word n e =
-    let t = chosen (passes name word) (decimal_value word) n (BadNumber name) e in
+    let t = chosen (passes name word) (decimal_value word) n e in
     subst (WritesFor name word) t.1 (passed name word t.0)
 
-pub number_bad : (name : OptionName) (word : List ℕ) → ((n : ℕ) → ¬ (WritesFor name word n)) → number_of name word ≡ Err (BadNumber name)
+pub number_bad : (name : OptionName) (word : List ℕ) → ((n : ℕ) → ¬ (WritesFor name word n))
+    → number_of name word ≡ None
 unfolding number_of
-number_bad name word other = rw (false_from_ne_true (passes name word) (λ e. other (decimal_value word) (passed name word e))) refl
-
--- a refused number is a bad number of this option
-pub record IsRefused (name : OptionName) (word : List ℕ) (fault : WordsFault) : Type 0 where
-  pub is : BadNumber name ≡ fault
-  pub other : (n : ℕ) → ¬ (WritesFor name word n)
+number_bad name word other =
+    rw (false_from_ne_true (passes name word) (λ e. other (decimal_value word) (passed name word e)))
+    refl
 
 true_other : true ≡ false → ⊥
 true_other e = cc
 
-pub number_refused : (name : OptionName) (word : List ℕ) (fault : WordsFault) → number_of name word ≡ Err fault → IsRefused name word fault
+pub number_refused : (name : OptionName) (word : List ℕ) → number_of name word ≡ None
+    → (n : ℕ) → ¬ (WritesFor name word n)
 unfolding number_of
-number_refused name word fault e =
-    let t = refused (passes name word) (decimal_value word) (BadNumber name) fault e in
-    record { is = t.1; other = λ n w. true_other (sym (passes_when name word n w) ∙ t.0) }
+number_refused name word e n w = true_other
+    (sym (passes_when name word n w) ∙ refused (passes name word) (decimal_value word) e)
 
 -- ---- numbers that are written in decimal
 

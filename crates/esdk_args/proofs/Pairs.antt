@@ -1,17 +1,15 @@
 -- Which words name which pairs, one after another.
 use Rattle.std.proofs.Common.{◌≡◌, ◌≢◌, ◌<◌, ◌+◌, ℕ, zero, suc, true, false, List, [], ◌∷◌, ◌++◌, length, take, drop, get_or, refl, sym, ap, subst, ◌∙◌, inl, inr, arith}
-use Rattle.std.specs.Prelude.{All, is_none, Option, Some, None, Ok, Err, map}
+use Rattle.std.specs.Prelude.{All, is_none, Option, Some, None, map}
 use Rattle.std.specs.List.{filter_map}
 use borrow.Author.Count.{below_more}
 use Rattle.std.proofs.lemmas.Bool.{cases_lt, eq-eqb, ne_eqb}
 use Rattle.std.proofs.lemmas.List.{drop_more, get_or-take, get_or_append_left, get_or_at, length-append, length-map, length-take-le, take-append-drop, take_more}
-use Rattle.std.proofs.lemmas.List.Elements.{All-cons, All-head, All-nil, All-same, All-tail, filter_map-append}
+use Rattle.std.proofs.lemmas.List.Elements.{All-cons, All-head, All-nil, All-tail, filter_map-append}
 use Rattle.std.proofs.lemmas.List.Sums.{fails_before_first, passes_at_first, position_or_len_is}
 use Rattle.esdk_args.specs.declared.pair_words.PairWord.{PairWord}
-use Rattle.esdk_args.specs.declared.request.WordsFault.{WordsFault}
-use Rattle.esdk_args.specs.declared.request.WordsFault.TheVariants.{BadPair}
-use Rattle.esdk_args.specs.PairWords.{number_after, pair_of, pairs_before, pairs_of}
-use Rattle.esdk_args.specs.Spelling.{IsFirstBadPair, IsPair, pair_text}
+use Rattle.esdk_args.specs.PairWords.{bad_pair, number_after, pair_of, pairs_before, pairs_of}
+use Rattle.esdk_args.specs.Spelling.{ArePairs, IsFirstBadPair, IsPair, pair_text}
 use Rattle.esdk_args.proofs.OnePair.{pair_named, pair_read, no_pair}
 
 -- ---- so many words name pairs
@@ -29,15 +27,21 @@ before_bad : (words : List (List ℕ)) (n : ℕ) → n < length words → NamePa
 before_bad words n lt good bad = position_or_len_is (λ word. is_none (pair_of word)) words n [] (omega arith) good (λ _. ap is_none bad)
 
 -- the first word that names no pair is bad
-pub pairs_bad : (words : List (List ℕ)) (n : ℕ) → n < length words → NamePairs words n → pair_of (get_or words n []) ≡ None → pairs_of words ≡ Err (BadPair (number_after n))
-unfolding pairs_of
-pairs_bad words n lt good bad = rw (before_bad words n lt good bad, ne_eqb n (length words) (λ same. omega (arith, same, lt))) refl
+pub pairs_bad : (words : List (List ℕ)) (n : ℕ) → n < length words → NamePairs words n
+    → pair_of (get_or words n []) ≡ None → bad_pair words ≡ Some (number_after n)
+unfolding bad_pair
+pairs_bad words n lt good bad = rw (
+  before_bad words n lt good bad,
+  ne_eqb n (length words) (λ same. omega (arith, same, lt)),
+) refl
 
--- words that all name pairs are those pairs
-pub pairs_good : (words : List (List ℕ)) → NamePairs words (length words) → pairs_of words ≡ Ok (filter_map pair_of words)
-unfolding pairs_of
+-- words that all name pairs have no bad one
+pub pairs_good : (words : List (List ℕ)) → NamePairs words (length words) → bad_pair words ≡ None
+unfolding bad_pair
 pairs_good words good =
-    let all : pairs_before words ≡ length words = position_or_len_is (λ word. is_none (pair_of word)) words (length words) [] (omega arith) good (λ lt. absurd (omega (arith, lt))) in
+    let all : pairs_before words ≡ length words =
+    position_or_len_is (λ word. is_none (pair_of word)) words (length words) [] (omega arith) good
+    (λ lt. absurd (omega (arith, lt))) in
     rw (all, eq-eqb (length words) (length words) refl) refl
 
 -- one more word names a pair
@@ -45,9 +49,10 @@ pub name_more : (words : List (List ℕ)) (n : ℕ) (pair : PairWord) → pair_o
 name_more words n pair is good = below_more (λ k. NamesPair (get_or words k [])) n good (ap is_none is)
 
 -- the pairs of one more word
-pub pairs_more : (words : List (List ℕ)) (n : ℕ) (pair : PairWord) → n < length words → pair_of (get_or words n []) ≡ Some pair
-    → filter_map pair_of (take n words) ++ pair ∷ [] ≡ filter_map pair_of (take (n + 1) words)
-pairs_more words n pair lt is = sym (ap (filter_map pair_of) (take_more words n [] lt) ∙ filter_map-append pair_of (take n words) (get_or words n [] ∷ []) ∙ rw is refl)
+pub pairs_more : (words : List (List ℕ)) (n : ℕ) → n < length words
+    → pairs_of (take (n + 1) words) ≡ pairs_of (take n words) ++ pairs_of (get_or words n [] ∷ [])
+pairs_more words n lt =
+    ap pairs_of (take_more words n [] lt) ∙ filter_map-append pair_of (take n words) (get_or words n [] ∷ [])
 
 -- ---- from pairs to their words
 
@@ -62,10 +67,14 @@ pairs_back : (pairs : List PairWord) → All IsPair pairs → filter_map pair_of
 pairs_back [] all = refl
 pairs_back (pair ∷ pairs) all = rw (pair_read pair (All-head IsPair pair pairs all), pairs_back pairs (All-tail IsPair pair pairs all)) refl
 
--- the words of pairs are read as these pairs
-pub pairs_read : (pairs : List PairWord) → All IsPair pairs → pairs_of (map pair_text pairs) ≡ Ok pairs
-pairs_read pairs all =
-    pairs_good (map pair_text pairs) (rw (length-map pairs pair_text) (name_all pairs all)) ∙ ap Ok (pairs_back pairs all)
+-- the words of pairs are good, and read as these pairs
+pub pairs_taken : (pairs : List PairWord) → All IsPair pairs → bad_pair (map pair_text pairs) ≡ None
+pairs_taken pairs all =
+    pairs_good (map pair_text pairs) (rw (length-map pairs pair_text) (name_all pairs all))
+
+pub pairs_read : (words : List (List ℕ)) (pairs : List PairWord) → ArePairs words pairs
+    → pairs_of words ≡ pairs
+pairs_read words pairs are = ap pairs_of are.0 ∙ pairs_back pairs are.1
 
 -- a word behind them
 bad_at : (pairs : List PairWord) (bad : List ℕ) (behind : List (List ℕ)) → get_or (map pair_text pairs ++ bad ∷ behind) (length pairs) [] ≡ bad
@@ -80,7 +89,7 @@ name_before pairs bad behind all k lt =
 
 -- the first word that names no pair, behind those of pairs, is bad
 bad_named : (pairs : List PairWord) (bad : List ℕ) (behind : List (List ℕ)) → All IsPair pairs → ((pair : PairWord) → IsPair pair → bad ≢ pair_text pair)
-    → pairs_of (map pair_text pairs ++ bad ∷ behind) ≡ Err (BadPair (number_after (length pairs)))
+    → bad_pair (map pair_text pairs ++ bad ∷ behind) ≡ Some (number_after (length pairs))
 bad_named pairs bad behind all other =
     let words = map pair_text pairs ++ bad ∷ behind in
     let at = bad_at pairs bad behind in
@@ -88,10 +97,11 @@ bad_named pairs bad behind all other =
     pairs_bad words (length pairs) lt (name_before pairs bad behind all) (ap pair_of at ∙ no_pair bad other)
 
 -- the first bad pair word is named
-pub first_bad_named : (words : List (List ℕ)) (n : ℕ) → IsFirstBadPair words n → pairs_of words ≡ Err (BadPair n)
+pub first_bad_named : (words : List (List ℕ)) (n : ℕ) → IsFirstBadPair words n
+    → bad_pair words ≡ Some n
 first_bad_named words n b =
-    ap pairs_of b.are ∙ bad_named b.before b.bad b.behind b.pairs b.no_pair
-    ∙ ap (λ k. Err (BadPair k)) (sym b.number)
+    ap bad_pair b.are ∙ bad_named b.before b.bad b.behind b.pairs b.no_pair
+    ∙ ap (λ k. Some k) (sym b.number)
 
 -- ---- from words to their pairs
 
@@ -132,18 +142,16 @@ are_read words =
       | inr past ↦ all_pairs (λ k lt. fails_before_first names words k [] (omega (arith, past, lt)))
     ]
 
--- words that are read as pairs are the words of these
-pub pairs_named : (words : List (List ℕ)) (pairs : List PairWord) → pairs_of words ≡ Ok pairs → (words ≡ map pair_text pairs) × All IsPair pairs
-pairs_named words pairs e = by_reading (are_read words)
+-- words of which none is bad are the words of the pairs that are read
+pub pairs_named : (words : List (List ℕ)) → bad_pair words ≡ None → ArePairs words (pairs_of words)
+pairs_named words e = by_reading (are_read words)
   where
-    by_reading : AreRead words → (words ≡ map pair_text pairs) × All IsPair pairs
-    by_reading (all_pairs good) =
-        let same : filter_map pair_of words ≡ pairs = cc (sym (pairs_good words good) ∙ e) in
-        let named = these words good in
-        (named.are ∙ ap (map pair_text) same, All-same IsPair pairs (filter_map pair_of words) (sym same) named.pairs)
-    by_reading (first_bad n lt good none) = absurd (unlike (sym (pairs_bad words n lt good none) ∙ e))
+    by_reading : AreRead words → ArePairs words (pairs_of words)
+    by_reading (all_pairs good) = let named = these words good in (named.are, named.pairs)
+    by_reading (first_bad n lt good none) =
+        absurd (unlike (sym (pairs_bad words n lt good none) ∙ e))
       where
-        unlike : Err (BadPair (number_after n)) ≡ Ok pairs → ⊥
+        unlike : Some (number_after n) ≡ None → ⊥
         unlike other = cc
 
 front_is : (words : List (List ℕ)) (n : ℕ) → n < length words → NamePairs words n → NamePairs (take n words) (length (take n words))
@@ -169,13 +177,16 @@ bad_there words n lt good none =
     unlike : (pair : PairWord) → None ≡ Some pair → ⊥
     unlike pair other = cc
 
--- a fault of pair words is that of the first bad one
-pub first_bad_is : (words : List (List ℕ)) (fault : WordsFault) → pairs_of words ≡ Err fault → (n : ℕ) × (BadPair n ≡ fault) × IsFirstBadPair words n
-first_bad_is words fault e = by_reading (are_read words)
+-- the number of a bad pair word is that of the first
+pub first_bad_is : (words : List (List ℕ)) (n : ℕ) → bad_pair words ≡ Some n
+    → IsFirstBadPair words n
+first_bad_is words n e = by_reading (are_read words)
   where
-    by_reading : AreRead words → (n : ℕ) × (BadPair n ≡ fault) × IsFirstBadPair words n
+    by_reading : AreRead words → IsFirstBadPair words n
     by_reading (all_pairs good) = absurd (unlike (sym (pairs_good words good) ∙ e))
       where
-        unlike : Ok (filter_map pair_of words) ≡ Err fault → ⊥
+        unlike : None ≡ Some n → ⊥
         unlike other = cc
-    by_reading (first_bad n lt good none) = (number_after n, cc (sym (pairs_bad words n lt good none) ∙ e), bad_there words n lt good none)
+    by_reading (first_bad k lt good none) =
+        let same : number_after k ≡ n = cc (sym (pairs_bad words k lt good none) ∙ e) in
+        subst (IsFirstBadPair words) same (bad_there words k lt good none)

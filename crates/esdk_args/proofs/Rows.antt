@@ -1,23 +1,21 @@
 -- What is read of `clap`'s matches, by their rows.
-use Rattle.std.proofs.Common.{◌≡◌, ◌⊎◌, ◌∙◌, ℕ, true, List, Err, refl, sym, ap, subst, inl, inr}
+use Rattle.std.proofs.Common.{◌≡◌, ◌⊎◌, ◌∙◌, ℕ, List, Err, refl, sym, ap, subst, inl, inr}
 use Rattle.std.specs.Prelude.{Option, Some, None, option_and_then, option_map, find}
 use Rattle.std.specs.Str.{bytes_eq}
 use Rattle.clap.specs.Facts.{Entry}
 use Rattle.clap.specs.Matches.{matched_of}
 use Rattle.clap.specs.Walk.{Row, row_of, rows_of}
-use Rattle.clap.specs.Faults.{fault_of, is_simple_and_free}
+use Rattle.clap.specs.Faults.{fault_of}
 use Rattle.clap.specs.Kinds.{IsAmong}
-use Rattle.clap.specs.Simple.{is_simple}
 use Rattle.clap.specs.declared.error.kind.ErrorKind.{ErrorKind}
 use Rattle.clap.specs.declared.error.kind.ErrorKind.TheVariants.{OutOfMemory}
 use Rattle.clap.specs.declared.parser.matches.Found.{Found}
 use Rattle.clap.specs.declared.parser.matches.MatchedArg.{MatchedArg}
 use Rattle.clap.proofs.WalkLemmas.{find_row}
 use Rattle.esdk_args.specs.declared.commands.CommandName.{CommandName}
-use Rattle.esdk_args.specs.declared.commands.CommandName.TheVariants as commands
 use Rattle.esdk_args.specs.Commands.{app_of_command}
 use Rattle.esdk_args.specs.Found.{Parses, refusal_of}
-use Rattle.esdk_args.specs.Words.{source_in}
+use Rattle.esdk_args.specs.Values.{source_in}
 
 -- where a value came from
 pub source_rows : (f : Found) (id : List ℕ) → option_and_then (λ (a : MatchedArg). a.source) (matched_of f id) ≡ source_in id (rows_of f)
@@ -26,23 +24,6 @@ source_rows f id = go (find (λ e. bytes_eq e.0.now id) f.entries.items) ∙ ap 
     go : (o : Option Entry) → option_and_then (λ (a : MatchedArg). a.source) (option_map (λ e. e.1) o) ≡ option_and_then (λ (r : Row). r.source) (option_map row_of o)
     go None = refl
     go (Some e) = refl
-
--- each command is one of which `clap` says all
-pub simple_and_free : (name : CommandName) → is_simple_and_free (app_of_command name) ≡ true
-simple_and_free commands.List = refl
-simple_and_free commands.Encrypt = refl
-simple_and_free commands.Decrypt = refl
-simple_and_free commands.Batch = refl
-simple_and_free commands.Gen = refl
-simple_and_free commands.Migrate = refl
-
-pub simple : (name : CommandName) → is_simple (app_of_command name) ≡ true
-simple commands.List = refl
-simple commands.Encrypt = refl
-simple commands.Decrypt = refl
-simple commands.Batch = refl
-simple commands.Gen = refl
-simple commands.Migrate = refl
 
 -- an error that isn't want of memory is a refusal
 pub refuses : (name : CommandName) (words : List (List ℕ)) (kind : ErrorKind) → (kind ≡ OutOfMemory) ⊎ IsAmong kind (fault_of (app_of_command name) words)

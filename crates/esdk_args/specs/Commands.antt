@@ -5,17 +5,24 @@
 --     batch --jobs NAME
 --     gen --seed N --size N
 --     migrate --keyring NAME [--retire N]
-use Rattle.std.specs.Prelude.{ℕ, Bool, true, false, List, [], ◌∷◌, map, filter, fold, Option, Some, None, codes, if◌then◌else◌}
+use Rattle.std.specs.Prelude.{ℕ, Bool, true, false, List, [], ◌∷◌, map, filter, find, fold}
+use Rattle.std.specs.Prelude.{Option, Some, codes}
 use Rattle.std.specs.Str.{bytes_eq}
 use Rattle.clap.specs.Words.{App, Rule, new_app, new_rule, with_rule}
 use Rattle.clap.specs.Simple.{on_top}
 use Rattle.clap.specs.declared.builder.action.ArgAction.TheVariants.{Append, SetTrue}
 use Rattle.esdk_args.specs.declared.commands.Argument.{Argument}
-use Rattle.esdk_args.specs.declared.commands.Argument.TheVariants.{Keyring, Jobs, RequiredNumber, Number, AllowUncommitted, Pairs}
+use Rattle.esdk_args.specs.declared.commands.Argument.TheVariants.{Required, Optional, Flag, Pairs}
 use Rattle.esdk_args.specs.declared.commands.CommandName.{CommandName}
 use Rattle.esdk_args.specs.declared.commands.CommandName.TheVariants as commands
-use Rattle.esdk_args.specs.declared.options.OptionName.TheVariants.{Frame, MaxKeys, MaxUnit, Retire, Seed, Size}
-use Rattle.esdk_args.specs.Options.{option_name}
+use Rattle.esdk_args.specs.declared.options.FlagOption.TheVariants.{AllowUncommitted}
+use Rattle.esdk_args.specs.declared.options.NameOption.TheVariants.{Keyring, Jobs}
+use Rattle.esdk_args.specs.declared.options.OptionName.TheVariants.{Frame, MaxKeys, MaxUnit}
+use Rattle.esdk_args.specs.declared.options.OptionName.TheVariants.{Retire, Seed, Size}
+use Rattle.esdk_args.specs.declared.options.ValueOption.TheVariants.{Name, Number}
+use Rattle.esdk_args.specs.Options.{flag_name, value_name}
+
+-- ---- the rows
 
 -- the command as it is written
 abbrev pub command_text : CommandName → List ℕ
@@ -26,45 +33,47 @@ command_text commands.Batch = codes "batch"
 command_text commands.Gen = codes "gen"
 command_text commands.Migrate = codes "migrate"
 
--- what may stand behind it
+-- what may stand behind it, in the order in which it is judged; pair words come last
 abbrev pub arguments : CommandName → List Argument
-arguments commands.List = AllowUncommitted ∷ []
-arguments commands.Encrypt = Keyring ∷ Number Frame ∷ Number MaxKeys ∷ Pairs ∷ []
-arguments commands.Decrypt = Keyring ∷ Number MaxKeys ∷ Number MaxUnit ∷ AllowUncommitted ∷ Pairs ∷ []
-arguments commands.Batch = Jobs ∷ []
-arguments commands.Gen = RequiredNumber Seed ∷ RequiredNumber Size ∷ []
-arguments commands.Migrate = Keyring ∷ Number Retire ∷ []
+arguments commands.List = Flag AllowUncommitted ∷ []
+arguments commands.Encrypt =
+    Required (Name Keyring) ∷ Optional (Number Frame) ∷ Optional (Number MaxKeys) ∷ Pairs ∷ []
+arguments commands.Decrypt =
+    Required (Name Keyring) ∷ Optional (Number MaxKeys) ∷ Optional (Number MaxUnit)
+    ∷ Flag AllowUncommitted ∷ Pairs ∷ []
+arguments commands.Batch = Required (Name Jobs) ∷ []
+arguments commands.Gen = Required (Number Seed) ∷ Required (Number Size) ∷ []
+arguments commands.Migrate = Required (Name Keyring) ∷ Optional (Number Retire) ∷ []
+
+-- all of them
+abbrev pub every_command : List CommandName
+every_command =
+    commands.List ∷ commands.Encrypt ∷ commands.Decrypt ∷ commands.Batch ∷ commands.Gen
+    ∷ commands.Migrate ∷ []
 
 -- the command that the word names
 abbrev pub command_named : List ℕ → Option CommandName
-command_named word =
-    if bytes_eq word (codes "list") then Some commands.List
-    else if bytes_eq word (codes "encrypt") then Some commands.Encrypt
-    else if bytes_eq word (codes "decrypt") then Some commands.Decrypt
-    else if bytes_eq word (codes "batch") then Some commands.Batch
-    else if bytes_eq word (codes "gen") then Some commands.Gen
-    else if bytes_eq word (codes "migrate") then Some commands.Migrate
-    else None
+command_named word = find (λ name. bytes_eq word (command_text name)) every_command
 
--- the name of an argument
+-- ---- one argument
+
+-- its name
 abbrev pub argument_name : Argument → List ℕ
-argument_name Keyring = codes "keyring"
-argument_name Jobs = codes "jobs"
-argument_name (RequiredNumber name) = option_name name
-argument_name (Number name) = option_name name
-argument_name AllowUncommitted = codes "allow-uncommitted"
+argument_name (Required option) = value_name option
+argument_name (Optional option) = value_name option
+argument_name (Flag flag) = flag_name flag
 argument_name Pairs = codes "pairs"
 
 -- whether it has to stand there
 abbrev pub is_required : Argument → Bool
-is_required Keyring = true
-is_required Jobs = true
-is_required (RequiredNumber name) = true
+is_required (Required option) = true
 is_required argument = false
 
 -- the names of the options that have to stand behind a command
 abbrev pub required_options : CommandName → List (List ℕ)
 required_options name = map argument_name (filter is_required (arguments name))
+
+-- ---- the command of `clap`
 
 -- an option of one text value
 abbrev pub option_rule : List ℕ → Rule
@@ -74,18 +83,22 @@ option_rule name = record (new_rule name) { long = Some name }
 abbrev pub required_rule : List ℕ → Rule
 required_rule name = record (option_rule name) { required = true }
 
--- The argument as `clap` has it: an option that is required, an option, a flag, and a positional with any number of values.
+-- The argument as `clap` has it: an option that is required, an option, a flag, and a positional
+-- with any number of values.
 abbrev pub argument_rule : Argument → Rule
-argument_rule Keyring = required_rule (codes "keyring")
-argument_rule Jobs = required_rule (codes "jobs")
-argument_rule (RequiredNumber name) = required_rule (option_name name)
-argument_rule (Number name) = option_rule (option_name name)
-argument_rule AllowUncommitted = record (option_rule (codes "allow-uncommitted")) { action = Some SetTrue }
+argument_rule (Required option) = required_rule (value_name option)
+argument_rule (Optional option) = option_rule (value_name option)
+argument_rule (Flag flag) = record (option_rule (flag_name flag)) { action = Some SetTrue }
 argument_rule Pairs = record (new_rule (codes "pairs")) { action = Some Append }
 
--- a command of `clap` with no argument; the program's name isn't among its words, and it has neither a help flag nor a version flag
+-- a command of `clap` with no argument; the program's name isn't among its words, and it has
+-- neither a help flag nor a version flag
 abbrev pub bare_app : List ℕ → App
-bare_app name = on_top (λ s. record s { no_binary_name = true; disable_help_flag = true; disable_version_flag = true }) (new_app name)
+bare_app name = on_top (λ s. record s {
+  no_binary_name = true;
+  disable_help_flag = true;
+  disable_version_flag = true;
+}) (new_app name)
 
 -- the command of `clap` with these arguments
 abbrev pub app_with : List ℕ → List Argument → App

@@ -1,18 +1,13 @@
--- Steps that may have a fault.
+-- What a call may answer in place of a reading.
 use Rattle.std.specs.Prelude.{◌≡◌, Result, Ok, Err}
 use Rattle.esdk_args.specs.declared.request.WordsFault.{WordsFault}
-use Rattle.esdk_args.specs.declared.request.WordsFault.TheVariants.{NotRead, BadNumber, BadPair, Memory}
-
--- the fault, or what the next step makes of the value
-infixl 10 ◌>>=◌
-abbrev pub ◌>>=◌ : {A B : Type 0} → Result A WordsFault → (A → Result B WordsFault) → Result B WordsFault
-Ok x >>= f = f x
-Err fault >>= f = Err fault
+use Rattle.esdk_args.specs.declared.request.WordsFault.TheVariants.{NotRead, BadNumber, BadPair}
+use Rattle.esdk_args.specs.declared.request.WordsFault.TheVariants.{Memory}
 
 -- This value, or this fault; want of memory may come at any time.
-abbrev pub Answers : {A : Type 0} → Result A WordsFault → Result A WordsFault → Type 0
-Answers (Ok value) reading = reading ≡ Ok value
-Answers (Err NotRead) reading = reading ≡ Err NotRead
-Answers (Err (BadNumber name)) reading = reading ≡ Err (BadNumber name)
-Answers (Err (BadPair n)) reading = reading ≡ Err (BadPair n)
-Answers (Err Memory) reading = Unit {0}
+abbrev pub AnswersWords : {A : Type 0} → Result A WordsFault → Result A WordsFault → Type 0
+AnswersWords (Ok value) reading = reading ≡ Ok value
+AnswersWords (Err NotRead) reading = reading ≡ Err NotRead
+AnswersWords (Err (BadNumber name)) reading = reading ≡ Err (BadNumber name)
+AnswersWords (Err (BadPair n)) reading = reading ≡ Err (BadPair n)
+AnswersWords (Err Memory) reading = Unit {0}

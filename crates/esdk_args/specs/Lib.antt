@@ -4,6 +4,8 @@ pub mod Faults
 pub mod Numbers
 pub mod PairWords
 pub mod Found
+pub mod Values
+pub mod Building
 pub mod Words
 pub mod Spelling
 pub mod Plain

@@ -1,35 +1,25 @@
 -- The numbers of the options.
-use Rattle.std.specs.Prelude.{ℕ, ◌+◌, ◌-◌, ◌*◌, ◌^◌, Bool, ◌&&◌, nat_le, List, [], ◌∷◌, length, Option, Some, None, Result, Ok, Err, if◌then◌else◌}
+use Rattle.std.specs.Prelude.{ℕ, ◌+◌, ◌-◌, ◌*◌, ◌^◌, Bool, ◌&&◌, nat_le, List, [], ◌∷◌, length}
+use Rattle.std.specs.Prelude.{Option, Some, None, if◌then◌else◌}
 use Rattle.std.specs.Char.{is_ascii_digit}
 use Rattle.std.specs.List.{list_all}
 use Rattle.esdk_args.specs.declared.options.OptionName.{OptionName}
-use Rattle.esdk_args.specs.declared.options.OptionName.TheVariants.{Frame}
-use Rattle.esdk_args.specs.declared.request.WordsFault.{WordsFault}
-use Rattle.esdk_args.specs.declared.request.WordsFault.TheVariants.{BadNumber}
-use Rattle.esdk_args.specs.Faults.{◌>>=◌}
 use Rattle.esdk_args.specs.Options.{greatest, least}
 
--- the decimal value of ASCII digits: `0` is 48, and each digit is worth ten times one at the next place
+-- the decimal value of ASCII digits: `0` is 48, and each digit is worth ten times one at the next
+-- place
 unfoldable pub decimal_value : List ℕ → ℕ
 decimal_value [] = 0
 decimal_value (digit ∷ digits) = (digit - 48) * 10 ^ length digits + decimal_value digits
 
 -- 1 to 20 ASCII digits
 abbrev pub is_numeral : List ℕ → Bool
-is_numeral word = nat_le 1 (length word) && nat_le (length word) 20 && list_all is_ascii_digit word
+is_numeral word =
+    nat_le 1 (length word) && nat_le (length word) 20 && list_all is_ascii_digit word
 
--- the number that the option's word writes, in the option's range
-unfoldable pub number_of : OptionName → List ℕ → Result ℕ WordsFault
+-- the number that the option's word writes, where it is in the option's range
+unfoldable pub number_of : OptionName → List ℕ → Option ℕ
 number_of name word =
-    if is_numeral word && nat_le (least name) (decimal_value word) && nat_le (decimal_value word) (greatest name) then Ok (decimal_value word)
-    else Err (BadNumber name)
-
--- the number, where its option is given
-abbrev pub number_given : OptionName → Option (List ℕ) → Result (Option ℕ) WordsFault
-number_given name None = Ok None
-number_given name (Some word) = number_of name word >>= λ n. Ok (Some n)
-
--- a frame length that isn't given is 4,096
-abbrev pub frame_given : Option (List ℕ) → Result ℕ WordsFault
-frame_given None = Ok 4096
-frame_given (Some word) = number_of Frame word
+    if is_numeral word && nat_le (least name) (decimal_value word)
+    && nat_le (decimal_value word) (greatest name) then Some (decimal_value word)
+    else None

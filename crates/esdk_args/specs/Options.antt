@@ -1,16 +1,15 @@
--- The options that take a number.
-use Rattle.std.specs.Prelude.{ℕ, List, codes}
+-- The options, by what stands behind them: a name, a number, or nothing.
+use Rattle.std.specs.Prelude.{ℕ, List, ◌++◌, codes}
+use Rattle.esdk_args.specs.declared.options.FlagOption.{FlagOption}
+use Rattle.esdk_args.specs.declared.options.FlagOption.TheVariants.{AllowUncommitted}
+use Rattle.esdk_args.specs.declared.options.NameOption.TheVariants.{Keyring, Jobs}
 use Rattle.esdk_args.specs.declared.options.OptionName.{OptionName}
-use Rattle.esdk_args.specs.declared.options.OptionName.TheVariants.{Frame, MaxKeys, MaxUnit, Retire, Seed, Size}
+use Rattle.esdk_args.specs.declared.options.OptionName.TheVariants.{Frame, MaxKeys, MaxUnit}
+use Rattle.esdk_args.specs.declared.options.OptionName.TheVariants.{Retire, Seed, Size}
+use Rattle.esdk_args.specs.declared.options.ValueOption.{ValueOption}
+use Rattle.esdk_args.specs.declared.options.ValueOption.TheVariants.{Name, Number}
 
--- the option as it is written
-abbrev pub option_text : OptionName → List ℕ
-option_text Frame = codes "--frame"
-option_text MaxKeys = codes "--max-keys"
-option_text MaxUnit = codes "--max-unit"
-option_text Retire = codes "--retire"
-option_text Seed = codes "--seed"
-option_text Size = codes "--size"
+-- ---- an option with a number
 
 -- its name, which stands behind two dashes
 abbrev pub option_name : OptionName → List ℕ
@@ -35,3 +34,25 @@ greatest MaxUnit = 68719476704
 greatest Retire = 1048576
 greatest Seed = 18446744073709551615
 greatest Size = 67108864
+
+-- ---- the others
+
+-- the name of an option with a value
+abbrev pub value_name : ValueOption → List ℕ
+value_name (Name Keyring) = codes "keyring"
+value_name (Name Jobs) = codes "jobs"
+value_name (Number option) = option_name option
+
+-- the name of a flag
+abbrev pub flag_name : FlagOption → List ℕ
+flag_name AllowUncommitted = codes "allow-uncommitted"
+
+-- ---- as they are written
+
+-- a name behind two dashes
+abbrev pub dashed : List ℕ → List ℕ
+dashed name = codes "--" ++ name
+
+-- the option with a number as it is written
+abbrev pub option_text : OptionName → List ℕ
+option_text option = dashed (option_name option)

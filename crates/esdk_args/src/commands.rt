@@ -2,21 +2,12 @@
 
 ghost use Rattle.std.specs.Prelude.{◌≡◌, false, IfOk};
 ghost use Rattle.clap.specs.Words.{app_of, rule_of, with_rule};
-ghost use Rattle.esdk_args.specs.declared.commands.Argument.TheVariants.{AllowUncommitted, Pairs};
+ghost use Rattle.esdk_args.specs.declared.commands.Argument.TheVariants.{Flag, Pairs};
 ghost use Rattle.esdk_args.specs.Commands.{app_of_command, argument_rule, arguments, bare_app, command_named, command_text, option_rule, required_rule};
 
-use crate::options::{OptionName, option_name};
+use crate::options::{FlagOption, NameOption, OptionName, ValueOption, flag_name, value_name};
 use clap::{Arg, ArgAction, Command};
 use std::alloc::{AllocError, Global};
-
-/// The name of the keyring's option.
-pub(crate) const KEYRING: &str = "keyring";
-
-/// The name of the job file's option.
-pub(crate) const JOBS: &str = "jobs";
-
-/// The name of the flag of `list` and `decrypt`: messages without a commitment may be read.
-pub(crate) const ALLOW_UNCOMMITTED: &str = "allow-uncommitted";
 
 /// The name of the pair words.
 pub(crate) const PAIRS: &str = "pairs";
@@ -35,48 +26,47 @@ pub(crate) enum CommandName {
 /// What may stand behind a command.
 #[derive(Clone, Copy)]
 pub(crate) enum Argument {
-    /// `--keyring NAME`, which has to stand there.
-    Keyring,
-    /// `--jobs NAME`, which has to stand there.
-    Jobs,
-    /// An option with a number, which has to stand there.
-    RequiredNumber(OptionName),
-    /// An option with a number.
-    Number(OptionName),
-    /// The flag `--allow-uncommitted`.
-    AllowUncommitted,
-    /// Any number of pair words.
+    /// An option with a value, which has to stand there.
+    Required(ValueOption),
+    /// An option with a value.
+    Optional(ValueOption),
+    /// A flag.
+    Flag(FlagOption),
+    /// Any number of pair words, behind all other arguments.
     Pairs,
 }
 
-static LIST: [Argument; 1] = [Argument::AllowUncommitted];
+static LIST: [Argument; 1] = [Argument::Flag(FlagOption::AllowUncommitted)];
 
 static ENCRYPT: [Argument; 4] = [
-    Argument::Keyring,
-    Argument::Number(OptionName::Frame),
-    Argument::Number(OptionName::MaxKeys),
+    Argument::Required(ValueOption::Name(NameOption::Keyring)),
+    Argument::Optional(ValueOption::Number(OptionName::Frame)),
+    Argument::Optional(ValueOption::Number(OptionName::MaxKeys)),
     Argument::Pairs,
 ];
 
 static DECRYPT: [Argument; 5] = [
-    Argument::Keyring,
-    Argument::Number(OptionName::MaxKeys),
-    Argument::Number(OptionName::MaxUnit),
-    Argument::AllowUncommitted,
+    Argument::Required(ValueOption::Name(NameOption::Keyring)),
+    Argument::Optional(ValueOption::Number(OptionName::MaxKeys)),
+    Argument::Optional(ValueOption::Number(OptionName::MaxUnit)),
+    Argument::Flag(FlagOption::AllowUncommitted),
     Argument::Pairs,
 ];
 
-static BATCH: [Argument; 1] = [Argument::Jobs];
+static BATCH: [Argument; 1] = [Argument::Required(ValueOption::Name(NameOption::Jobs))];
 
 static GEN: [Argument; 2] = [
-    Argument::RequiredNumber(OptionName::Seed),
-    Argument::RequiredNumber(OptionName::Size),
+    Argument::Required(ValueOption::Number(OptionName::Seed)),
+    Argument::Required(ValueOption::Number(OptionName::Size)),
 ];
 
-static MIGRATE: [Argument; 2] = [Argument::Keyring, Argument::Number(OptionName::Retire)];
+static MIGRATE: [Argument; 2] = [
+    Argument::Required(ValueOption::Name(NameOption::Keyring)),
+    Argument::Optional(ValueOption::Number(OptionName::Retire)),
+];
 
-/// What may stand behind the command.
-fn arguments(name: CommandName) -> &'static [Argument]
+/// What may stand behind the command, in the order in which it is judged.
+pub(crate) fn arguments(name: CommandName) -> &'static [Argument]
     ensures { result.now ≡ arguments name }
 {
     match name {
@@ -155,11 +145,9 @@ fn rule<'a>(alloc: Global, argument: Argument) -> Arg<'a>
     ensures local { result.global ≡ false }
 {
     match argument {
-        Argument::Keyring => required(alloc, KEYRING),
-        Argument::Jobs => required(alloc, JOBS),
-        Argument::RequiredNumber(name) => required(alloc, option_name(name)),
-        Argument::Number(name) => option(alloc, option_name(name)),
-        Argument::AllowUncommitted => allow_uncommitted(alloc),
+        Argument::Required(name) => required(alloc, value_name(name)),
+        Argument::Optional(name) => option(alloc, value_name(name)),
+        Argument::Flag(name) => flag(alloc, name),
         Argument::Pairs => pairs(alloc),
     }
 }
@@ -172,12 +160,12 @@ fn required<'a>(alloc: Global, name: &'a str) -> Arg<'a>
     option(alloc, name).required(true)
 }
 
-/// The flag `--allow-uncommitted`.
-fn allow_uncommitted<'a>(alloc: Global) -> Arg<'a>
-    ensures rule { rule_of result ≡ argument_rule AllowUncommitted }
+/// A flag.
+fn flag<'a>(alloc: Global, name: FlagOption) -> Arg<'a>
+    ensures rule { rule_of result ≡ argument_rule (Flag name) }
     ensures local { result.global ≡ false }
 {
-    option(alloc, ALLOW_UNCOMMITTED).action(ArgAction::SetTrue)
+    option(alloc, flag_name(name)).action(ArgAction::SetTrue)
 }
 
 /// The pair words: a positional with any number of values.

@@ -1,15 +1,10 @@
 //! Laws about words. A law is a function that does nothing: its contract is what is proved.
 
-ghost use Rattle.esdk_args.specs.Laws.{ReadsList, ReadsEncrypt, ReadsDecrypt, ReadsBatch, ReadsGen, ReadsMigrate, ReadsNoOthers, NamesBadNumbers, NamesBadPairs, NeverMemory, GivesRequired, ReadsPlainLists, ReadsPlainEncryptions, ReadsPlainDecryptions, ReadsPlainBatches, ReadsPlainGenerations, ReadsPlainMigrations, ReadsWrittenNumbers};
+ghost use Rattle.esdk_args.specs.Laws.{ReadsRequests, ReadsNoOthers, NamesBadNumbers, NamesBadPairs, NeverMemory, GivesRequired, ReadsPlainWords, ReadsWrittenNumbers};
 
 /// Which words ask for which request.
 pub fn requests_are_read()
-    ensures list { ReadsList }
-    ensures encrypt { ReadsEncrypt }
-    ensures decrypt { ReadsDecrypt }
-    ensures batch { ReadsBatch }
-    ensures generation { ReadsGen }
-    ensures migrate { ReadsMigrate }
+    ensures { ReadsRequests }
 {}
 
 /// Which words aren't read: those that begin with no command, and those that `clap` refuses. Others
@@ -26,26 +21,21 @@ pub fn required_options_are_given()
     ensures { GivesRequired }
 {}
 
-/// Which words have a bad number, and of which option: the first.
+/// Which words have a bad number, and of which option: the first argument with a fault.
 pub fn bad_numbers_are_named()
     ensures { NamesBadNumbers }
 {}
 
-/// Which words have a bad pair word, and at which number: the first.
+/// Which words have a bad pair word and no bad number, and at which number: the first.
 pub fn bad_pairs_are_named()
     ensures { NamesBadPairs }
 {}
 
 /// What words in the plain form ask for: a command, each option that it requires and each other
-/// that is given as two words in the order of the table, then the flag, then the pair words, where
-/// no value and no pair word begins with `-`.
+/// that is given as two words, and each flag as one, in the order of the table, then the pair
+/// words, where no value and no pair word begins with `-`.
 pub fn plain_words_are_read()
-    ensures list { ReadsPlainLists }
-    ensures encrypt { ReadsPlainEncryptions }
-    ensures decrypt { ReadsPlainDecryptions }
-    ensures batch { ReadsPlainBatches }
-    ensures generation { ReadsPlainGenerations }
-    ensures migrate { ReadsPlainMigrations }
+    ensures { ReadsPlainWords }
 {}
 
 /// A number that is written in decimal is read back, also with zeros before it.

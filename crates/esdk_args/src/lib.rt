@@ -19,6 +19,7 @@
 //! read without a word of `clap`.
 #![tactic(auto)]
 
+mod building;
 mod commands;
 mod laws;
 mod numbers;
@@ -26,6 +27,7 @@ mod options;
 mod pair_words;
 mod parse;
 mod request;
+mod values;
 mod words;
 
 pub use laws::{

@@ -1,7 +1,16 @@
-//! The options that take a number.
+//! The options, by what stands behind them: a name, a number, or nothing.
 
 ghost use Rattle.std.specs.Prelude.{◌≡◌};
-ghost use Rattle.esdk_args.specs.Options.{option_name, option_text, least, greatest};
+ghost use Rattle.esdk_args.specs.Options.{flag_name, option_name, option_text, value_name, least, greatest};
+
+/// An option that takes a name.
+#[derive(Clone, Copy)]
+pub(crate) enum NameOption {
+    /// `--keyring`: the keyring file.
+    Keyring,
+    /// `--jobs`: the job file.
+    Jobs,
+}
 
 /// An option that takes a number.
 #[derive(Debug, Clone, Copy, PartialEq, Eq)]
@@ -20,6 +29,22 @@ pub enum OptionName {
     Seed,
     /// `--size` of `gen`: how many bytes the text has, 0 to 67,108,864.
     Size,
+}
+
+/// An option that takes a value.
+#[derive(Clone, Copy)]
+pub(crate) enum ValueOption {
+    /// One that takes a name.
+    Name(NameOption),
+    /// One that takes a number.
+    Number(OptionName),
+}
+
+/// A flag.
+#[derive(Clone, Copy)]
+pub(crate) enum FlagOption {
+    /// `--allow-uncommitted` of `list` and `decrypt`: messages without a commitment may be read.
+    AllowUncommitted,
 }
 
 /// The option as it is written among the words.
@@ -47,6 +72,26 @@ pub(crate) fn option_name<'a>(name: OptionName) -> &'a str
         OptionName::Retire => "retire",
         OptionName::Seed => "seed",
         OptionName::Size => "size",
+    }
+}
+
+/// The name of an option that takes a value.
+pub(crate) fn value_name<'a>(option: ValueOption) -> &'a str
+    ensures { result.now ≡ value_name option }
+{
+    match option {
+        ValueOption::Name(NameOption::Keyring) => "keyring",
+        ValueOption::Name(NameOption::Jobs) => "jobs",
+        ValueOption::Number(name) => option_name(name),
+    }
+}
+
+/// The name of the flag.
+pub(crate) fn flag_name<'a>(flag: FlagOption) -> &'a str
+    ensures { result.now ≡ flag_name flag }
+{
+    match flag {
+        FlagOption::AllowUncommitted => "allow-uncommitted",
     }
 }
 

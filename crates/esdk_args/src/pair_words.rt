@@ -3,11 +3,9 @@
 ghost use Rattle.std.specs.Prelude.{◌≡◌, IfOk, map};
 ghost use Rattle.std.specs.Option.{option_map};
 ghost use Rattle.std.specs.Io.BufRead.{ends_with_byte, strip_last};
-ghost use Rattle.esdk_args.specs.Faults.{Answers};
 ghost use Rattle.esdk_args.specs.Found.{pair_value};
-ghost use Rattle.esdk_args.specs.PairWords.{key_part, value_part, pair_of, number_after, pairs_of};
+ghost use Rattle.esdk_args.specs.PairWords.{bad_pair, key_part, value_part, pair_of, number_after, pairs_of};
 
-use crate::request::WordsFault;
 use esdk_fields::Text;
 use std::alloc::{AllocError, Global};
 use std::marker::Model;
@@ -56,20 +54,32 @@ struct PairParts<'a> {
     required: bool,
 }
 
-/// What these pair words say. `BadPair` with the number of the first word that has neither form or
-/// whose key is empty: they are counted from 1, and the count stands still at 4,294,967,295.
-/// `Memory` where memory runs out.
-pub(crate) fn pairs_of(alloc: Global, words: &[&str]) -> Result<PairWords, WordsFault>
-    ensures { Answers result (pairs_of (map (λ w. w.now) words.now)) }
+/// What the pair words say of which each names a pair; words that name none are left out.
+/// `AllocError` where memory runs out.
+pub(crate) fn pairs_of(alloc: Global, words: &[&str]) -> Result<PairWords, AllocError>
+    ensures { IfOk result (λ made. made ≡ pairs_of (map (λ w. w.now) words.now)) }
 {
     let mut pairs = Vec::new(alloc);
-    for (before, word) in words.iter().enumerate() {
-        match pair_of(word) {
-            Some(parts) => pairs.push(owned(alloc, parts)?)?,
-            None => return Err(WordsFault::BadPair(number_after(before))),
+    for word in words {
+        if let Some(parts) = pair_of(word) {
+            pairs.push(owned(alloc, parts)?)?;
         }
     }
     Ok(PairWords { words: pairs })
+}
+
+/// The number of the first word that has neither form or whose key is empty: they are counted from
+/// 1, and the count stands still at 4,294,967,295. None where each names a pair.
+pub(crate) fn bad_pair(words: &[&str]) -> Option<u32>
+    ensures { result ≡ bad_pair (map (λ w. w.now) words.now) }
+{
+    for (before, word) in words.iter().enumerate() {
+        match pair_of(word) {
+            Some(_) => {}
+            None => return Some(number_after(before)),
+        }
+    }
+    None
 }
 
 /// The number of the pair word that has so many before it.

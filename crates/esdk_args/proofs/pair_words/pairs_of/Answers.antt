@@ -1,13 +1,14 @@
-use Rattle.std.proofs.Common.{◌≡◌, ◌+◌, ◌<◌, ◌≤◌, ℕ, List, [], ◌∷◌, ◌++◌, get_or, length, map, take, sym, ap, ◌∙◌, arith}
+use Rattle.std.proofs.Common.{◌≡◌, ◌+◌, ◌<◌, ℕ, List, [], ◌∷◌, ◌++◌, get_or, length, map, take, sym, ap, ◌∙◌, arith, append-nil}
 use Rattle.std.specs.Borrow.{Bor}
-use Rattle.std.specs.Prelude.{Ok, Err, Some}
-use Rattle.std.specs.List.{filter_map}
-use Rattle.std.proofs.lemmas.List.{get_or-map, length-map, take_all}
-use Rattle.esdk_args.specs.declared.request.WordsFault.TheVariants.{BadPair}
+use Rattle.std.specs.List.{cons_option}
+use Rattle.std.specs.Prelude.{Some, None}
+use Rattle.std.proofs.lemmas.List.{get_or-map, length-map}
+use Rattle.esdk_args.specs.declared.pair_words.PairWord.{PairWord}
 use Rattle.esdk_args.specs.Found.{pair_value}
-use Rattle.esdk_args.specs.PairWords.{pair_of}
-use Rattle.esdk_args.proofs.Pairs.{name_more, pairs_bad, pairs_good, pairs_more}
+use Rattle.esdk_args.specs.PairWords.{pair_of, pairs_of}
+use Rattle.esdk_args.proofs.Pairs.{pairs_more}
 use Rattle.esdk_args.proofs.pair_words.pairs_of.Goals as goal
+use Rattle.esdk_args.proofs.pair_words.pairs_of.Goals.{in-Some+in_ok-owned+in_ok-push, in_default}
 
 -- the texts of borrowed words
 abbrev texts : List (Bor (List ℕ)) → List (List ℕ)
@@ -17,36 +18,38 @@ texts = map (λ w. w.now)
 abbrev none : Bor (List ℕ)
 none = record { ref_ptr = (0, 0); now = [] }
 
--- the text of the word at this place
-text_at : (words : List (Bor (List ℕ))) (n : ℕ) → n < length words → get_or (texts words) n [] ≡ (get_or words n none).now
-text_at words n lt = get_or-map (λ (w : Bor (List ℕ)). w.now) words n none [] lt
+-- the pairs of one more word
+one_more : (words : List (Bor (List ℕ))) (n : ℕ) → n < length words
+    → pairs_of (take (n + 1) (texts words))
+    ≡ pairs_of (take n (texts words)) ++ pairs_of ((get_or words n none).now ∷ [])
+one_more words n lt =
+    pairs_more (texts words) n (omega (arith, lt, length-map words (λ (w : Bor (List ℕ)). w.now)))
+    ∙ ap (λ w. pairs_of (take n (texts words)) ++ pairs_of (w ∷ []))
+    (get_or-map (λ (w : Bor (List ℕ)). w.now) words n none [] lt)
 
-within : (words : List (Bor (List ℕ))) (n : ℕ) → n < length words → n < length (texts words)
-within words n lt = omega (arith, lt, length-map words (λ (w : Bor (List ℕ)). w.now))
+-- which names this pair, or none
+one_pair : (words : List (Bor (List ℕ))) (n : ℕ) (pair : PairWord) → n < length words
+    → pair_of (get_or words n none).now ≡ Some pair
+    → pairs_of (take (n + 1) (texts words)) ≡ pairs_of (take n (texts words)) ++ pair ∷ []
+one_pair words n pair lt is = one_more words n lt
+    ∙ ap (λ found. pairs_of (take n (texts words)) ++ cons_option found []) is
 
-pub returns-in-None : goal.returns-in-None
-returns-in-None c =
+no_pair : (words : List (Bor (List ℕ))) (n : ℕ) → n < length words
+    → pair_of (get_or words n none).now ≡ None
+    → pairs_of (take (n + 1) (texts words)) ≡ pairs_of (take n (texts words))
+no_pair words n lt is = one_more words n lt
+    ∙ ap (λ found. pairs_of (take n (texts words)) ++ cons_option found []) is
+    ∙ append-nil (pairs_of (take n (texts words)))
+
+pub loop-word-preserved : goal.loop-word-preserved
+loop-word-preserved c =
     let words = c.args.words.now in
-    let n = c.loop-before.before in
-    let lt = c.loop-before-test.true in
-    pairs_bad (texts words) n (within words n lt) c.loop-before.invariant.good (ap pair_of (text_at words n lt) ∙ sym c.in-None.ensures)
-    ∙ ap (λ k. Err (BadPair k)) (sym c.number_after.ensures)
-
-pub loop-before-preserved : goal.loop-before-preserved
-loop-before-preserved c =
-    let words = c.args.words.now in
-    let n = c.loop-before.before in
-    let lt = c.loop-before-test.true in
-    let pair = pair_value c.in-Some.parts in
-    let is : pair_of (get_or (texts words) n []) ≡ Some pair = ap pair_of (text_at words n lt) ∙ sym c.in-Some.ensures in
-    let more : filter_map pair_of (take n (texts words)) ++ pair ∷ [] ≡ filter_map pair_of (take (n + 1) (texts words)) = pairs_more (texts words) n pair (within words n lt) is in
-    record { good = name_more (texts words) n pair is c.loop-before.invariant.good; made = cc (c.in_ok-push-in-Some.ensures.items, c.in_ok-owned-in-Some.ensures) }
-
-pub returns : goal.returns
-returns c =
-    let words = texts c.args.words.now in
-    let n = c.loop-before.before in
-    let long = length-map c.args.words.now (λ (w : Bor (List ℕ)). w.now) in
-    let past : length words ≤ n = omega (arith, long, c.loop-before-test.false) in
-    let all = take_all n words past in
-    pairs_good words (λ k lt. c.loop-before.invariant.good k (omega (arith, past, lt))) ∙ ap Ok (cc)
+    let n = c.loop-word.word-index in
+    let lt = c.loop-word-test.true in
+    let so_far : c.loop-word.pairs.items ≡ pairs_of (take n (texts words)) = c.loop-word.invariant in
+    elim c.match-pair_of.branch [
+      | in-Some+in_ok-owned+in_ok-push w ↦
+          let more = one_pair words n (pair_value w.in-Some.parts) lt (sym w.in-Some.ensures) in
+          cc (w.in_ok-push.ensures.items, w.in_ok-owned.ensures)
+      | in_default w ↦ let more = no_pair words n lt (sym w.in_default.ensures) in cc
+    ]

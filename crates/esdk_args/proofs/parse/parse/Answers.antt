@@ -4,7 +4,8 @@ use Rattle.clap.specs.Faults.{fault_of, is_simple_and_free}
 use Rattle.clap.specs.Kinds.{HasKind}
 use Rattle.clap.specs.Simple.{is_simple, matches_of}
 use Rattle.esdk_args.specs.Found.{Parses, refusal_of}
-use Rattle.esdk_args.proofs.Rows.{refuses, simple, simple_and_free}
+use Rattle.esdk_args.proofs.Rows.{refuses}
+use Rattle.esdk_args.proofs.Table.{simple, simple_and_free}
 use Rattle.esdk_args.proofs.parse.parse.Goals as goal
 
 pub returns-in-Ok : goal.returns-in-Ok
