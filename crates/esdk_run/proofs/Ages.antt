@@ -10,11 +10,8 @@ use Rattle.cmm_caching.specs.Journal.{KeepsWithin}
 use Rattle.cmm_caching.specs.Limits.{LimitsValue}
 use Rattle.job_file.specs.JobFile.{JobFile}
 use Rattle.batch_report.specs.declared.job_lines.JobLine.{JobLine}
-use Rattle.esdk_args.specs.declared.request.Request.{Request}
-use Rattle.esdk_args.specs.declared.request.Request.TheVariants as requests
-use Rattle.esdk_args.specs.declared.request.WordsFault.{WordsFault}
 use Rattle.esdk_batch.specs.Batch.{RunsBatch, SaysWhatWasServed}
-use Rattle.esdk_batch.specs.Managing.{Managing}
+use Rattle.keyring_trait.specs.Saying.{Saying}
 use Rattle.esdk_batch.specs.Moments.{ReadsClock}
 use Rattle.esdk_report.specs.declared.failure.Failure.{Failure}
 use Rattle.esdk_report.specs.Report.{Reports}
@@ -23,7 +20,7 @@ use Rattle.esdk_run.proofs.Showing.{each_has_a_line}
 use Rattle.esdk_run.proofs.Statuses.{not_done, not_seven}
 
 -- a batch whose journal was empty before
-pub serves_in_time : {E : Type 0} (manager : Managing) (file : JobFile) (old new : ShelfState) (entropy spent : EntropyState) (before after shown : List JournalLine) (clock ticked : Option Moments)
+pub serves_in_time : {E : Type 0} (manager : Saying) (file : JobFile) (old new : ShelfState) (entropy spent : EntropyState) (before after shown : List JournalLine) (clock ticked : Option Moments)
     (limits : Option LimitsValue) (r : Result (List JobLine) E) → before ≡ [] → shown ≡ after → limits ≡ file.cache → KeepsWithin limits shown → ReadsClock clock ticked before after
     → IfOk r (RunsBatch manager file 0 old new entropy spent before after) → IfOk r (ServesInTime file clock ticked)
 serves_in_time manager file old new entropy spent before after shown clock ticked limits (Err error) none is_shown is within reads runs = tt
@@ -47,10 +44,3 @@ pub no_ages : (name : List ℕ) (shelf : ShelfState) (output put report reported
     → KeepsAges name shelf output put clock ticked code
 no_ages name shelf output put report reported clock ticked code failure said (inl zero) = absurd (not_done failure code report reported said zero)
 no_ages name shelf output put report reported clock ticked code failure said (inr seven) = absurd (not_seven failure code report reported said seven)
-
--- and as its words ask for it
-pub ages_asked : (words : Result Request WordsFault) (name other : List ℕ) (shelf : ShelfState) (output put : SinkState) (clock ticked : Option Moments) (code : ℕ) → words ≡ Ok (requests.Batch other)
-    → KeepsAges other shelf output put clock ticked code → words ≡ Ok (requests.Batch name) → KeepsAges name shelf output put clock ticked code
-ages_asked words name other shelf output put clock ticked code was keeps is =
-    let same : other ≡ name = (let both : Ok (requests.Batch other) ≡ Ok (requests.Batch name) = sym was ∙ is in cc) in
-    subst (λ (n : List ℕ). KeepsAges n shelf output put clock ticked code) same keeps

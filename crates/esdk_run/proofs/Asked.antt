@@ -1,5 +1,5 @@
 -- What a run comes to whose words ask for this.
-use Rattle.std.proofs.Common.{◌≡◌, ℕ, List, Ok, Err, sym, subst}
+use Rattle.std.proofs.Common.{◌≡◌, ℕ, List, Ok, Err, subst}
 use Rattle.std.specs.Prelude.{IfSome}
 use Rattle.std.specs.declared.result.Result.{Result}
 use Rattle.esdk_args.specs.declared.request.DecryptWords.{DecryptWords}
@@ -49,17 +49,6 @@ gen_asked : (trees : Trees) (words : Result Request WordsFault) (seed size : ℕ
     → words ≡ Ok (requests.Gen seed size) → RunsAs trees words before after unchanged code → GenRuns seed size before after unchanged code
 gen_asked trees words seed size before after unchanged code is runs =
     (subst (λ (w : Result Request WordsFault). RunsAs trees w before after unchanged code) is runs).1
-
--- and the other way round
-pub as_decrypt : (trees : Trees) (words : Result Request WordsFault) (asked : DecryptWords) (before after : Objects) (unchanged : Unchanged) (code : ℕ)
-    → words ≡ Ok (requests.Decrypt asked) → DecryptRuns trees asked before after (without_entropy unchanged) code → RunsAs trees words before after unchanged code
-as_decrypt trees words asked before after unchanged code is runs =
-    subst (λ (w : Result Request WordsFault). RunsAs trees w before after unchanged code) (sym is) runs
-
-pub as_batch : (trees : Trees) (words : Result Request WordsFault) (name : List ℕ) (before after : Objects) (unchanged : Unchanged) (code : ℕ)
-    → words ≡ Ok (requests.Batch name) → BatchRuns trees name before after unchanged code → RunsAs trees words before after unchanged code
-as_batch trees words name before after unchanged code is runs =
-    subst (λ (w : Result Request WordsFault). RunsAs trees w before after unchanged code) (sym is) runs
 
 -- the tree of a run whose words name a keyring file
 pub comes_back : (trees : Trees) (words : Result Request WordsFault) (before after : Objects) (unchanged : Unchanged) (code : ℕ)

@@ -12,11 +12,13 @@ use Rattle.header_codec.specs.Table.{Head, header}
 use Rattle.keyring_trait.specs.declared.journal.JournalLine.{JournalLine}
 use Rattle.keyring_trait.specs.declared.manager_errors.ManagerError.{ManagerError}
 use Rattle.keyring_trait.specs.declared.manager_errors.ManagerError.TheVariants as managers
+use Rattle.keyring_trait.specs.declared.served.Served.{Served}
 use Rattle.keyring_trait.specs.Materials.{EncMaterialsValue}
-use Rattle.keyring_trait.specs.Requests.{DecRequestValue, EncRequestValue}
+use Rattle.keyring_trait.specs.Requests.{DecRequestValue}
+use Rattle.keyring_trait.specs.Saying.{Admits, Saying}
 use Rattle.keyring_trait.specs.Unlocking.{Unlocking, Refuses, Unlocks}
 use Rattle.esdk_encrypt.specs.Encrypt.{draws}
-use Rattle.esdk_decrypt.specs.Decrypt.{Answering, AnswersReading, AnswersRequest, AnswersTo, FailsReading}
+use Rattle.esdk_decrypt.specs.Decrypt.{Answering, AnswersReading, AnswersRequest, AnswersTo, FailsReading, answers_at}
 use Rattle.esdk_decrypt.proofs.Told.{Allows}
 use Rattle.job_file.specs.declared.job.Job.{Job}
 use Rattle.job_file.specs.declared.job.Work.{Work}
@@ -25,19 +27,12 @@ use Rattle.job_file.specs.JobFile.{JobFile}
 use Rattle.batch_report.specs.declared.job_lines.JobLine.{JobLine}
 use Rattle.batch_report.specs.declared.job_lines.JobEnd.{JobEnd}
 use Rattle.batch_report.specs.declared.job_lines.JobEnd.TheVariants as ends
-use Rattle.esdk_batch.specs.Managing.{Managing, no_limits}
+use Rattle.esdk_batch.specs.Answering.{HasAnswer, HasFailed, no_limits, serving}
 use Rattle.esdk_batch.specs.SealStory as seals
 use Rattle.esdk_batch.specs.SealStory.{Seen, SealAsked, SealsSo, held}
 use Rattle.esdk_batch.specs.OpenStory as opens
 use Rattle.esdk_batch.specs.OpenStory.{OpensSo}
 use Rattle.esdk_batch.specs.Batch.{AllCome, RunsBatch, WorksSo, seen_of}
-
--- Whatever the one may say, the other may.
-pub record Covers (from to : Managing) : Type 0 where
-  pub wraps : from.wraps ≡ to.wraps
-  pub gives : (wish : EncRequestValue) (random : List ℕ) (m : EncMaterialsValue) → from.gives wish random m → to.gives wish random m
-  pub gives_none : (wish : EncRequestValue) (error : ManagerError) → from.gives_none wish error → to.gives_none wish error
-  pub answering : Allows from.answering to.answering
 
 -- ---- an answer to a header
 
@@ -61,11 +56,33 @@ answered_more : (from to : Answering) (given : List KeyValue) (b : List ℕ) (an
     → AnswersTo from no_limits given b answer → AnswersTo to no_limits given b answer
 answered_more from to given b answer allows answers = reading_more from to given b (header no_limits (start b)) answer allows answers
 
+-- what the one answers at a moment, with materials that are served so, the other may answer then
+serving_allows : (from to : Saying) (served : Option Served) (moment : ℕ) → Admits to from → Allows (answers_at (serving from served) moment) (answers_at (serving to served) moment)
+serving_allows from to served moment admits = record {
+  finds = λ request m finds. (admits.finds request moment m finds.0, finds.1);
+  finds_none = admits.finds_none;
+}
+
+has_answer_more : (from to : Saying) (given : List KeyValue) (b : List ℕ) (served : Option Served) (answer : Unlocking) → Admits to from
+    → HasAnswer from no_limits given b served answer → HasAnswer to no_limits given b served answer
+has_answer_more from to given b served answer admits has = record {
+  moment = has.moment;
+  answered = answered_more _ _ given b answer (serving_allows from to served has.moment admits) has.answered;
+  unserved = has.unserved;
+}
+
+answers_allow : (from to : Saying) (moment : ℕ) → Admits to from → Allows (answers_at from moment) (answers_at to moment)
+answers_allow from to moment admits = record { finds = λ request m finds. admits.finds request moment m finds; finds_none = admits.finds_none }
+
+has_failed_more : (from to : Saying) (given : List KeyValue) (b : List ℕ) → Admits to from → HasFailed from no_limits given b → HasFailed to no_limits given b
+has_failed_more from to given b admits has =
+    record { moment = has.moment; failed = failing_more _ _ given b (header no_limits (start b)) (answers_allow from to has.moment admits) has.failed }
+
 -- ---- an encrypt job
 
-module _ (from to : Managing) (covers : Covers from to) (asked : SealAsked) (seen : Seen) where
+module _ (from to : Saying) (admits : Admits to from) (asked : SealAsked) (seen : Seen) where
   given_more : (m : EncMaterialsValue) → seals.IsGiven from asked seen m → seals.IsGiven to asked seen m
-  given_more m is = record { count = is.count ∙ ap draws covers.wraps; given = covers.gives _ _ m is.given; served = is.served }
+  given_more m is = record { count = is.count ∙ ap draws admits.wraps; moment = is.moment; given = admits.gives _ is.moment _ m is.given; served = is.served }
 
   sealed_front : seals.SealsFront from asked seen → seals.SealsFront to asked seen
   sealed_front is = record { materials = is.materials; given = given_more is.materials is.given; begins = is.begins; count = is.count; front = is.front }
@@ -78,7 +95,7 @@ module _ (from to : Managing) (covers : Covers from to) (asked : SealAsked) (see
   too_much refusal is = record { front = sealed_front is.front; text = is.text; from = is.from; over = is.over; cause = is.cause }
 
   none_given : (error : ManagerError) → seals.IsGivenNone from asked seen error → seals.IsGivenNone to asked seen error
-  none_given error is = record { count = is.count ∙ ap draws covers.wraps; cause = covers.gives_none _ error is.cause; unserved = is.unserved; same = is.same }
+  none_given error is = record { count = is.count ∙ ap draws admits.wraps; cause = admits.gives_none _ error is.cause; unserved = is.unserved; same = is.same }
 
   left_more : (seen.to ≡ seen.before) ⊎ seals.SealsFront from asked seen → (seen.to ≡ seen.before) ⊎ seals.SealsFront to asked seen
   left_more (inl same) = inl same
@@ -103,11 +120,11 @@ module _ (from to : Managing) (covers : Covers from to) (asked : SealAsked) (see
 
 -- ---- a decrypt job
 
-module _ (from to : Managing) (covers : Covers from to) (given : List KeyValue) (seen : Seen) where
+module _ (from to : Saying) (admits : Admits to from) (given : List KeyValue) (seen : Seen) where
   opened_front : opens.OpensFront from given seen → opens.OpensFront to given seen
   opened_front is = record {
     answer = is.answer;
-    answered = answered_more from.answering to.answering given (held seen.from) is.answer covers.answering is.answered;
+    answered = has_answer_more from to given (held seen.from) seen.served is.answer admits is.answered;
     count = is.count;
     front = is.front;
   }
@@ -118,7 +135,7 @@ module _ (from to : Managing) (covers : Covers from to) (given : List KeyValue) 
 
   opened_more : (bytes : List ℕ) (answer : Unlocking) → opens.Opens from given seen bytes answer → opens.Opens to given seen bytes answer
   opened_more bytes answer is =
-      record { from = is.from; answered = answered_more from.answering to.answering given bytes answer covers.answering is.answered; to = is.to }
+      record { from = is.from; answered = has_answer_more from to given bytes seen.served answer admits is.answered; to = is.to }
 
   opens_more : (end : JobEnd) → OpensSo from given seen end → OpensSo to given seen end
   opens_more ends.Done so = record { bytes = so.bytes; answer = so.answer; opens = opened_more so.bytes so.answer so.opens; whole = so.whole }
@@ -126,7 +143,7 @@ module _ (from to : Managing) (covers : Covers from to) (given : List KeyValue) 
   opens_more (ends.Outside outsides.KeyringFault) so = record {
     bytes = so.bytes;
     from = so.from;
-    failed = failing_more from.answering to.answering given so.bytes (header no_limits (start so.bytes)) covers.answering so.failed;
+    failed = has_failed_more from to given so.bytes admits so.failed;
     unserved = so.unserved;
     to = so.to;
   }
@@ -138,31 +155,31 @@ module _ (from to : Managing) (covers : Covers from to) (given : List KeyValue) 
 
 -- ---- all jobs
 
-works_more : (from to : Managing) (work : Work) (seen : Seen) (end : JobEnd) → Covers from to → WorksSo from work seen end → WorksSo to work seen end
-works_more from to (works.Encrypt length frame context required) seen end covers so =
-    seals_more from to covers (record { declared = length; frame = frame; context = context; required = required }) seen end so
-works_more from to (works.Decrypt given required) seen end covers so = (so.0, opens_more from to covers given seen end so.1)
+works_more : (from to : Saying) (work : Work) (seen : Seen) (end : JobEnd) → Admits to from → WorksSo from work seen end → WorksSo to work seen end
+works_more from to (works.Encrypt length frame context required) seen end admits so =
+    seals_more from to admits (record { declared = length; frame = frame; context = context; required = required }) seen end so
+works_more from to (works.Decrypt given required) seen end admits so = (so.0, opens_more from to admits given seen end so.1)
 
-all_come_more : (from to : Managing) (before after : Option Files) (jobs : List Job) (drawn : List (List ℕ)) (lines : List JobLine) → Covers from to
+all_come_more : (from to : Saying) (before after : Option Files) (jobs : List Job) (drawn : List (List ℕ)) (lines : List JobLine) → Admits to from
     → AllCome from before after jobs drawn lines → AllCome to before after jobs drawn lines
-all_come_more from to before after [] [] [] covers all = all
-all_come_more from to before after (job ∷ jobs) (drawn ∷ draws) (line ∷ lines) covers all = (
+all_come_more from to before after [] [] [] admits all = all
+all_come_more from to before after (job ∷ jobs) (drawn ∷ draws) (line ∷ lines) admits all = (
   record {
     kind = all.0.kind;
     works = λ files left is_before is_after.
-        works_more from to job.work (seen_of job files left drawn line) line.end covers (all.0.works files left is_before is_after);
+        works_more from to job.work (seen_of job files left drawn line) line.end admits (all.0.works files left is_before is_after);
   },
-  all_come_more from to before after jobs draws lines covers all.1,
+  all_come_more from to before after jobs draws lines admits all.1,
 )
-all_come_more from to before after jobs drawn lines covers all = absurd all
+all_come_more from to before after jobs drawn lines admits all = absurd all
 
-pub runs_more : {from to : Managing} {file : JobFile} {last : ℕ} {old new : ShelfState} {entropy spent : EntropyState} {before after : List JournalLine} {lines : List JobLine}
-    → Covers from to → RunsBatch from file last old new entropy spent before after lines → RunsBatch to file last old new entropy spent before after lines
-runs_more {from} {to} {file} {old = old} {new = new} {lines = lines} covers runs = record {
+pub runs_more : {from to : Saying} {file : JobFile} {last : ℕ} {old new : ShelfState} {entropy spent : EntropyState} {before after : List JournalLine} {lines : List JobLine}
+    → Admits to from → RunsBatch from file last old new entropy spent before after lines → RunsBatch to file last old new entropy spent before after lines
+runs_more {from} {to} {file} {old = old} {new = new} {lines = lines} admits runs = record {
   draws = runs.draws;
   gained = runs.gained;
   journal = runs.journal;
-  jobs = all_come_more from to old.files new.files file.jobs runs.draws lines covers runs.jobs;
+  jobs = all_come_more from to old.files new.files file.jobs runs.draws lines admits runs.jobs;
   others = runs.others;
   drawn = runs.drawn;
   served = runs.served;

@@ -9,14 +9,15 @@ use Rattle.keyring_trait.specs.Keyring.{KeyringMeaning}
 use Rattle.keyring_trait.specs.Wrapping.{WrapKeyValue}
 use Rattle.esdk_decrypt.specs.declared.errors.DecryptError.{DecryptError}
 use Rattle.esdk_decrypt.specs.declared.errors.DecryptError.TheVariants as errors
-use Rattle.esdk_decrypt.specs.Decrypt.{EndsSo, HasFault}
-use Rattle.esdk_decrypt.specs.Laws.{IsWholeInput, IsWrittenFor, Written, message_of}
+use Rattle.esdk_decrypt.specs.Decrypt.{DecryptEnds, HasFault}
+use Rattle.esdk_decrypt.specs.Laws.{IsWholeInput, IsWrittenFor, Written, written_message}
 use Rattle.esdk_decrypt.specs.Told.{Reader, asked_by}
 use Rattle.esdk_decrypt.proofs.RoundTrip.{text_decrypted, written_whole}
 use Rattle.esdk_decrypt.proofs.Told.{decrypts_allowed, ends_allowed}
 use Rattle.esdk_decrypt.proofs.WholeInputs.{all_decrypted, first_fault, memory_alone}
 use Rattle.esdk_report.specs.declared.failure.Failure.TheVariants as failures
-use Rattle.esdk_run.specs.Decrypt.{asked_of, limits_of, reader_of}
+use Rattle.esdk_run.specs.Decrypt.{decrypt_asked, limits_of, reader_of}
+use Rattle.esdk_run.specs.Failures.{decryption_failure}
 use Rattle.esdk_run.specs.Objects.{Objects, Unchanged}
 use Rattle.esdk_report.specs.Report.{ShowsContext}
 use Rattle.esdk_run.specs.Run.{DecryptRuns, TellsOrLacksMemory}
@@ -24,7 +25,7 @@ use Rattle.esdk_run.specs.Told.{DecryptsWholeMessages, GivesBack, IfNoneFailed, 
 use Rattle.esdk_run.specs.Trees.{Trees}
 use Rattle.esdk_run.proofs.Given.{one_context}
 use Rattle.esdk_run.proofs.Keys.{reader_allows}
-use Rattle.esdk_run.proofs.Reading.{Ending, failure_of, says_what_is_read}
+use Rattle.esdk_run.proofs.Reading.{Ending, says_what_is_read}
 use Rattle.esdk_run.proofs.Statuses.{fault_status, memory_status, not_done}
 use Rattle.esdk_run.proofs.TreesBack.{HadTree, had_tree, told_then}
 
@@ -33,7 +34,7 @@ use Rattle.esdk_run.proofs.TreesBack.{HadTree, had_tree, told_then}
 -- a decryption with the tree ended as the reader's with the tree's keys does, where no keyring failed
 reader_ends : (asked : DecryptWords) (before after : Objects) (unwritten : Type 0) (code : ℕ) (pairs given : List KeyValue) (tree left : KeyringMeaning)
     (keys : List WrapKeyValue) → pairs ≡ given → tree.keys ≡ Some keys → Stayed tree.faults left.faults
-    → Ending (asked_of asked pairs tree left) before after unwritten code → Ending (asked_by (reader_of asked given keys)) before after unwritten code
+    → Ending (decrypt_asked asked pairs tree left) before after unwritten code → Ending (asked_by (reader_of asked given keys)) before after unwritten code
 reader_ends asked before after unwritten code pairs given tree left keys is told stayed (inl (context, done, shown)) =
     subst (λ (g : List KeyValue). Ending (asked_by (reader_of asked g keys)) before after unwritten code) is
     (inl (context, decrypts_allowed (reader_allows asked pairs tree left keys told stayed) done, shown))
@@ -81,7 +82,7 @@ whole_decrypted reader before after unwritten code bytes whole nothing (inl (con
 whole_decrypted reader before after unwritten code bytes whole nothing (inr (error, ends, said)) =
     let memory : error ≡ errors.Memory =
     memory_alone reader before.input after.input before.output after.output unwritten bytes error whole nothing.reading nothing.writing ends in
-    inr (memory_status (failure_of error) code before.report after.report (ap failure_of memory) said)
+    inr (memory_status (decryption_failure error) code before.report after.report (ap decryption_failure memory) said)
 
 pub decrypts_whole_messages : (trees : Trees) (asked : DecryptWords) (before after : Objects) (unchanged : Unchanged) (code : ℕ)
     → DecryptRuns trees asked before after unchanged code → DecryptsWholeMessages trees asked before after code
@@ -105,8 +106,8 @@ one_shows_none pairs code report reported (inr lacking) one =
     let five : code ≡ 5 = memory_status failures.Memory code report reported refl lacking in omega (arith, five, one)
 
 -- an end that is called a fault is that fault
-fault_ended : (reader : Reader) (before after : Objects) (unwritten : Type 0) (fault : Fault) (error : DecryptError) → failure_of error ≡ failures.Fault fault
-    → EndsSo (asked_by reader) before.input after.input before.output after.output unwritten error → HasFault (asked_by reader) before.input after.input before.output after.output fault
+fault_ended : (reader : Reader) (before after : Objects) (unwritten : Type 0) (fault : Fault) (error : DecryptError) → decryption_failure error ≡ failures.Fault fault
+    → DecryptEnds (asked_by reader) before.input after.input before.output after.output unwritten error → HasFault (asked_by reader) before.input after.input before.output after.output fault
 fault_ended reader before after unwritten fault (errors.Fault other) is ends =
     let same : other ≡ fault = cc in subst (λ (f : Fault). HasFault (asked_by reader) before.input after.input before.output after.output f) same ends
 fault_ended reader before after unwritten fault (errors.Outside outside) is ends = absurd cc
@@ -120,14 +121,14 @@ whole_said asked before after unwritten code given keys bytes told zero (inl (co
   message = all_decrypted (reader_of asked given keys) before.input after.input before.output after.output context bytes told done;
   shown = zero_shows context code before.report after.report shown zero;
 }
-whole_said asked before after unwritten code given keys bytes told zero (inr (error, ends, said)) = absurd (not_done (failure_of error) code before.report after.report said zero)
+whole_said asked before after unwritten code given keys bytes told zero (inr (error, ends, said)) = absurd (not_done (decryption_failure error) code before.report after.report said zero)
 
 fault_said : (asked : DecryptWords) (before after : Objects) (unwritten : Type 0) (code : ℕ) (given : List KeyValue) (keys : List WrapKeyValue) (bytes : List ℕ)
     → before.input.left ≡ Some bytes → code ≡ 1 → Ending (asked_by (reader_of asked given keys)) before after unwritten code
     → NamesFault asked given keys bytes before after
 fault_said asked before after unwritten code given keys bytes told one (inl (context, done, shown)) = absurd (one_shows_none context code before.report after.report shown one)
 fault_said asked before after unwritten code given keys bytes told one (inr (error, ends, said)) =
-    let named = fault_status (failure_of error) code before.report after.report said one in
+    let named = fault_status (decryption_failure error) code before.report after.report said one in
     let first = first_fault (reader_of asked given keys) before.input after.input before.output after.output bytes named.fault told
     (fault_ended (reader_of asked given keys) before after unwritten named.fault error named.is ends) in
     record { fault = named.fault; cause = first.0; gained = first.1; line = named.line }
@@ -144,7 +145,7 @@ says_the_judgement trees asked before after unchanged code runs given keys bytes
 -- ---- round trip
 
 text_given : (reader : Reader) (before after : Objects) (unwritten : Type 0) (code : ℕ) (writers : List WrapKeyValue) (m : Written)
-    → IsWrittenFor reader writers m → before.input.left ≡ Some (message_of m) → code ≡ 0 → Ending (asked_by reader) before after unwritten code
+    → IsWrittenFor reader writers m → before.input.left ≡ Some (written_message m) → code ≡ 0 → Ending (asked_by reader) before after unwritten code
     → GivesBack m.text m.context before after code
 text_given reader before after unwritten code writers m written told zero (inl (context, done, shown)) =
     let given_back = text_decrypted reader writers m before.input after.input before.output after.output context written told done in
@@ -152,7 +153,7 @@ text_given reader before after unwritten code writers m written told zero (inl (
       gained = given_back.0;
       shown = subst (λ (c : List KeyValue). ShowsContext c code before.report after.report) given_back.1 (zero_shows context code before.report after.report shown zero);
     }
-text_given reader before after unwritten code writers m written told zero (inr (error, ends, said)) = absurd (not_done (failure_of error) code before.report after.report said zero)
+text_given reader before after unwritten code writers m written told zero (inr (error, ends, said)) = absurd (not_done (decryption_failure error) code before.report after.report said zero)
 
 pub reads_back : (trees : Trees) (asked : DecryptWords) (before after : Objects) (unchanged : Unchanged) (code : ℕ)
     → DecryptRuns trees asked before after unchanged code → ReadsBack trees asked before after code
@@ -160,6 +161,6 @@ reads_back trees asked before after unchanged code runs given keys writers m rea
     over_reader _ trees asked before after unchanged code given keys runs reads
     (λ ended. (
       λ zero. text_given (reader_of asked given keys) before after unchanged.output code writers m written told zero ended,
-      λ nothing. whole_decrypted (reader_of asked given keys) before after unchanged.output code (message_of m)
+      λ nothing. whole_decrypted (reader_of asked given keys) before after unchanged.output code (written_message m)
           (written_whole (reader_of asked given keys) writers m before.input written told few) nothing ended,
     ))

@@ -27,10 +27,10 @@ use Rattle.batch_report.specs.declared.job_lines.JobEnd.TheVariants as ends
 use Rattle.batch_report.specs.BatchReport.{is_ended_well}
 use Rattle.esdk_batch.specs.Batch.{AllCome, ComesTo, OnlyWritten, WorksSo}
 use Rattle.esdk_batch.specs.Failures.{entropy_fails, keyring_fails, shelf_fails, shelf_fails_of}
-use Rattle.esdk_batch.specs.Managing.{Managing}
+use Rattle.keyring_trait.specs.Saying.{Saying}
 use Rattle.esdk_batch.specs.SealStory.{SealAsked, SealsSo, Seen, held}
 use Rattle.esdk_run.specs.Batch.{HasJobs}
-use Rattle.esdk_run.specs.EachJob.{DoesJob, DoesJobs, DoesWhatItMust, MustOpen, MustSeal, NothingFails, ReadsSo, WorksIfItMust, reader_for}
+use Rattle.esdk_run.specs.EachJob.{DoesJob, DoesJobs, DoesWhatItMust, MustOpen, MustSeal, NoJobFails, ReadsSo, WorksIfItMust, reader_for}
 use Rattle.esdk_run.specs.Objects.{Objects, Unchanged}
 use Rattle.esdk_run.specs.Run.{BatchRuns, RunsAllJobs}
 use Rattle.esdk_run.specs.Serving.{managing_over, refusal_over}
@@ -114,7 +114,7 @@ work_done cache tree left (Decrypt given required) from before to drawn line sta
     (reads_so cache tree left must.keys given required must.steady must.told stayed are_given (seen_with from before to line.served drawn) line.end so.1)
 
 -- what is said of a job holds where the shelf tells the file that it reads: no job writes that, so that the shelf tells still
-works_told : (manager : Managing) (jobs : List Job) (job : Job) (before after : Option Files) (drawn bytes : List ℕ) (line : JobLine) → OnlyWritten jobs before after
+works_told : (manager : Saying) (jobs : List Job) (job : Job) (before after : Option Files) (drawn bytes : List ℕ) (line : JobLine) → OnlyWritten jobs before after
     → is_written jobs job.from ≡ false → ComesTo manager job before after drawn line → Holds before job.from bytes
     → WorksSo manager job.work (seen_with (file_of before job.from) (file_of before job.to) (file_of after job.to) line.served drawn) line.end
 works_told manager jobs job None after drawn bytes line others unread comes holds = absurd cc
@@ -157,7 +157,7 @@ read_tree_is_held trees name old new read held tree held_tree same holds has =
 read_faults : (trees : Trees) (name : List ℕ) (old new : ShelfState) (read : JobFile) (tree : KeyringMeaning) → HasJobs trees name old new read tree → new.faults ≡ old.faults
 read_faults trees name old new read tree has = has.keyring.file.faults ∙ has.jobs.read.faults
 
-jobs_done : (trees : Trees) (name : List ℕ) (before after : Objects) (code : ℕ) (runs : RunsAllJobs trees name before after code) → NothingFails trees runs.runs.tree before after
+jobs_done : (trees : Trees) (name : List ℕ) (before after : Objects) (code : ℕ) (runs : RunsAllJobs trees name before after code) → NoJobFails trees runs.runs.tree before after
     → DoesJobs runs.runs.tree before.shelf.files runs.runs.file.jobs before.output after.output
 jobs_done trees name before after code runs nothing =
     let all = runs.runs in
@@ -181,7 +181,7 @@ does_what_it_must trees name before after unchanged code (inl runs) file tree ho
     let same : runs.runs.file ≡ file = jobs_are_held before.shelf has.between name holds.bytes file runs.runs.file holds.holds holds.is has.jobs in
     let same_tree : runs.runs.tree ≡ tree =
     read_tree_is_held trees name before.shelf runs.runs.read runs.runs.file file runs.runs.tree tree same holds.keyring has in
-    let nothing_read : NothingFails trees runs.runs.tree before after = subst (λ (t : KeyringMeaning). NothingFails trees t before after) (sym same_tree) nothing in
+    let nothing_read : NoJobFails trees runs.runs.tree before after = subst (λ (t : KeyringMeaning). NoJobFails trees t before after) (sym same_tree) nothing in
     inr (subst (λ (f : JobFile). DoesJobs tree before.shelf.files f.jobs before.output after.output) same
     (subst (λ (t : KeyringMeaning). DoesJobs t before.shelf.files runs.runs.file.jobs before.output after.output) same_tree
     (jobs_done trees name before after code runs nothing_read)))

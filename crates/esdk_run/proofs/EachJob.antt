@@ -20,12 +20,13 @@ use Rattle.keyring_trait.specs.declared.served.Served.{Served}
 use Rattle.keyring_trait.specs.Keyring.{KeyringMeaning}
 use Rattle.keyring_trait.specs.Materials.{DecMaterialsValue}
 use Rattle.keyring_trait.specs.Requests.{DecRequestValue}
+use Rattle.keyring_trait.specs.Saying.{Saying}
 use Rattle.keyring_trait.specs.Unlocking.{Refuses, Unlocking, Unlocks, offences, pair_offence, reserved_stored}
 use Rattle.keyring_trait.specs.Wrapping.{WrapKeyValue, first_some}
 use Rattle.cmm_caching.specs.Limits.{LimitsValue}
 use Rattle.message_format.specs.Judgement.{Judged, content, header_of, judged}
 use Rattle.stream_open.specs.Asking.{request_of}
-use Rattle.esdk_decrypt.specs.Decrypt.{AnswersReading, AnswersRequest, AnswersTo, FailsReading, FailsTo, fault_at_end}
+use Rattle.esdk_decrypt.specs.Decrypt.{AnswersReading, AnswersRequest, FailsReading, answers_at, fault_at_end}
 use Rattle.esdk_decrypt.specs.Told.{Reader, answering_by, judged_by}
 use Rattle.esdk_decrypt.proofs.Readers.{judged_reader}
 use Rattle.esdk_decrypt.proofs.Told.{Allows}
@@ -36,7 +37,7 @@ use Rattle.batch_report.specs.declared.job_lines.JobLine.{JobLine}
 use Rattle.batch_report.specs.declared.job_lines.JobEnd.{JobEnd}
 use Rattle.batch_report.specs.declared.job_lines.JobEnd.TheVariants as ends
 use Rattle.esdk_batch.specs.Batch.{AllCome, WorksSo}
-use Rattle.esdk_batch.specs.Managing.{Managing, no_limits}
+use Rattle.esdk_batch.specs.Answering.{HasAnswer, HasFailed, no_limits, serving}
 use Rattle.esdk_batch.specs.OpenStory.{Opens, OpensFront, OpensSo}
 use Rattle.esdk_batch.specs.SealStory.{Seen, held}
 use Rattle.esdk_run.specs.Decrypt.{TreeFinds, TreeFindsNone}
@@ -72,7 +73,7 @@ given_offence stored given required all =
 
 module _ (cache : Option LimitsValue) (tree left : KeyringMeaning) (keys : List WrapKeyValue) (given : List KeyValue) (required : List (List ℕ))
     (steady : tree.steady ≡ true) (told : tree.keys ≡ Some keys) (stayed : Stayed tree.faults left.faults) (are_given : list_all (holds given) required ≡ true) where
-  abbrev over : Managing
+  abbrev over : Saying
   over = managing_over cache tree left
 
   abbrev reader : Reader
@@ -97,59 +98,62 @@ module _ (cache : Option LimitsValue) (tree left : KeyringMeaning) (keys : List 
   allows : Allows (record { finds = TreeFinds required tree left; finds_none = TreeFindsNone required tree left }) (answering_by reader)
   allows = keys_allow no_limits given required tree left keys told stayed
 
-  request_answered : (request : DecRequestValue) (answer : Unlocking) → request.given ≡ given
-      → AnswersRequest over.answering request answer → AnswersRequest (answering_by reader) request answer
-  request_answered request (Unlocks whole only key) is answers =
-      let m : DecMaterialsValue = record { context = whole; only = only; key = key; served = answers.0 } in
-      (answers.0, allows.finds request m (found request m is answers.1))
-  request_answered request (Refuses fault) is answers =
-      allows.finds_none request (managers.Fault fault)
-      (not_found request (managers.Fault fault)
-      (subst (λ (pairs : List KeyValue). pair_offence request.stored pairs required ≡ pair_offence request.stored pairs []) (sym is) (given_offence request.stored given required are_given)) answers)
+  module _ (served : Option Served) (moment : ℕ) where
+    request_answered : (request : DecRequestValue) (answer : Unlocking) → request.given ≡ given
+        → AnswersRequest (answers_at (serving over served) moment) request answer → AnswersRequest (answering_by reader) request answer
+    request_answered request (Unlocks whole only key) is answers =
+        let m : DecMaterialsValue = record { context = whole; only = only; key = key; served = answers.0 } in
+        (answers.0, allows.finds request m (found request m is answers.1.0))
+    request_answered request (Refuses fault) is answers =
+        allows.finds_none request (managers.Fault fault)
+        (not_found request (managers.Fault fault)
+        (subst (λ (pairs : List KeyValue). pair_offence request.stored pairs required ≡ pair_offence request.stored pairs []) (sym is) (given_offence request.stored given required are_given)) answers)
 
-  reading_answered : (bytes : List ℕ) (r : Reading Head) (answer : Unlocking) → AnswersReading over.answering given bytes r answer → AnswersReading (answering_by reader) given bytes r answer
-  reading_answered bytes (Read parts body) answer answers = request_answered (request_of given (header_of bytes parts)) answer refl answers
-  reading_answered bytes (Refused fault at) answer is = is
-  reading_answered bytes Wanting answer is = is
+    reading_answered : (bytes : List ℕ) (r : Reading Head) (answer : Unlocking)
+        → AnswersReading (answers_at (serving over served) moment) given bytes r answer → AnswersReading (answering_by reader) given bytes r answer
+    reading_answered bytes (Read parts body) answer answers = request_answered (request_of given (header_of bytes parts)) answer refl answers
+    reading_answered bytes (Refused fault at) answer is = is
+    reading_answered bytes Wanting answer is = is
 
   -- so what is judged by that answer is the reader's judgement
-  judged_so : (bytes : List ℕ) (answer : Unlocking) → AnswersTo over.answering no_limits given bytes answer → judged bytes no_limits answer ≡ judged_by reader bytes
-  judged_so bytes answer answers = judged_reader reader bytes answer (reading_answered bytes (header no_limits (start bytes)) answer answers)
+  judged_so : (bytes : List ℕ) (served : Option Served) (answer : Unlocking) → HasAnswer over no_limits given bytes served answer → judged bytes no_limits answer ≡ judged_by reader bytes
+  judged_so bytes served answer has =
+      judged_reader reader bytes answer (reading_answered served has.moment bytes (header no_limits (start bytes)) answer has.answered)
 
   -- and it doesn't fail
-  none_fails : (bytes : List ℕ) (r : Reading Head) → FailsReading over.answering given bytes r → ⊥
-  none_fails bytes (Read parts body) failed = omega (arith, stayed, failed.1)
-  none_fails bytes (Refused fault at) none = none
-  none_fails bytes Wanting none = none
+  none_fails : (moment : ℕ) (bytes : List ℕ) (r : Reading Head) → FailsReading (answers_at over moment) given bytes r → ⊥
+  none_fails moment bytes (Read parts body) failed = omega (arith, stayed, failed.1)
+  none_fails moment bytes (Refused fault at) none = none
+  none_fails moment bytes Wanting none = none
 
-  never_fails : (bytes : List ℕ) → FailsTo over.answering no_limits given bytes → ⊥
-  never_fails bytes failed = none_fails bytes (header no_limits (start bytes)) failed
+  never_fails : (bytes : List ℕ) → HasFailed over no_limits given bytes → ⊥
+  never_fails bytes has = none_fails has.moment bytes (header no_limits (start bytes)) has.failed
 
   -- ---- what the job comes to
 
   releases : (seen : Seen) (bytes : List ℕ) (answer : Unlocking) → Opens over given seen bytes answer → Releases reader seen bytes
   releases seen bytes answer opens = record {
     from = opens.from;
-    to = subst (λ (j : Judged). seen.to ≡ Some (content j)) (judged_so bytes answer opens.answered) opens.to;
+    to = subst (λ (j : Judged). seen.to ≡ Some (content j)) (judged_so bytes seen.served answer opens.answered) opens.to;
   }
 
   front : (seen : Seen) → (seen.to ≡ Some []) ⊎ OpensFront over given seen → ReleasesFront reader seen
   front seen (inl empty) = record { count = 0; front = empty }
   front seen (inr some) = record {
     count = some.count;
-    front = subst (λ (j : Judged). seen.to ≡ Some (take some.count (content j))) (judged_so (held seen.from) some.answer some.answered) some.front;
+    front = subst (λ (j : Judged). seen.to ≡ Some (take some.count (content j))) (judged_so (held seen.from) seen.served some.answer some.answered) some.front;
   }
 
   pub reads_so : (seen : Seen) (end : JobEnd) → OpensSo over given seen end → ReadsSo reader seen end
   reads_so seen ends.Done opens = record {
     bytes = opens.bytes;
     releases = releases seen opens.bytes opens.answer opens.opens;
-    whole = ap (λ (j : Judged). j.verdict) (sym (judged_so opens.bytes opens.answer opens.opens.answered)) ∙ opens.whole;
+    whole = ap (λ (j : Judged). j.verdict) (sym (judged_so opens.bytes seen.served opens.answer opens.opens.answered)) ∙ opens.whole;
   }
   reads_so seen (ends.Fault fault) has = record {
     bytes = has.bytes;
     releases = releases seen has.bytes has.answer has.opens;
-    cause = ap (λ (j : Judged). fault_at_end j.verdict) (sym (judged_so has.bytes has.answer has.opens.answered)) ∙ has.cause;
+    cause = ap (λ (j : Judged). fault_at_end j.verdict) (sym (judged_so has.bytes seen.served has.answer has.opens.answered)) ∙ has.cause;
   }
   reads_so seen (ends.Outside outsides.KeyringFault) fails = absurd (never_fails fails.bytes fails.failed)
   reads_so seen (ends.Outside outsides.ShelfFault) (inl same) = inl same

@@ -24,7 +24,7 @@ use Rattle.esdk_decrypt.specs.Told.{answering_by}
 use Rattle.esdk_decrypt.specs.Told.{NoneFor as NoneRead}
 use Rattle.esdk_decrypt.proofs.Told.{Allows, offence_unlocks, sound_unlocks}
 use Rattle.esdk_run.specs.Decrypt.{TreeFinds, TreeFindsNone, limits_of, reader_of}
-use Rattle.esdk_run.specs.Encrypt.{TreeGives, asked_of, refusal_asked, writer_of}
+use Rattle.esdk_run.specs.Encrypt.{TreeGives, encrypt_asked, refusal_asked, run_writer}
 use Rattle.esdk_run.specs.Pairs.{required_in}
 use Rattle.esdk_run.specs.Trees.{IsLawful}
 
@@ -35,7 +35,7 @@ keys_wrap tree keys lawful told = sym (subst (λ (o : Option (List WrapKeyValue)
 
 -- its materials are those of the keys
 materials_told : (asked : EncryptWords) (context : List KeyValue) (tree : KeyringMeaning) (keys : List WrapKeyValue) (random : List ℕ) (m : EncMaterialsValue) → IsLawful tree
-    → tree.keys ≡ Some keys → TreeGives asked context tree random m → m ≡ materials_of (writer_of asked context keys) random
+    → tree.keys ≡ Some keys → TreeGives asked context tree random m → m ≡ materials_of (run_writer asked context keys) random
 materials_told asked context tree keys random m lawful told given =
     let key : List ℕ = take 32 random in
     let ivs : List ℕ = drop 32 random in
@@ -46,7 +46,7 @@ materials_told asked context tree keys random m lawful told given =
     λ i. record { context = given.whole i; required = given.required i; key = given.key i; entries = entries i; served = given.served i }
 
 pub told_says_more : (asked : EncryptWords) (context : List KeyValue) (tree left : KeyringMeaning) (keys : List WrapKeyValue) → IsLawful tree → tree.keys ≡ Some keys
-    → SaysMore (asked_of asked context tree left) (asked_by (writer_of asked context keys) (refusal_asked asked context tree) tree.faults left.faults)
+    → SaysMore (encrypt_asked asked context tree left) (asked_by (run_writer asked context keys) (refusal_asked asked context tree) tree.faults left.faults)
 told_says_more asked context tree left keys lawful told = record {
   wraps = keys_wrap tree keys lawful told;
   gives = λ random m given. (given.unrefused, materials_told asked context tree keys random m lawful told given);
@@ -57,7 +57,7 @@ told_says_more asked context tree left keys lawful told = record {
 
 -- What is asked for is granted, where it isn't refused, no keyring failed and the limit allows it; the tree needn't tell its keys.
 pub tree_grants : (asked : EncryptWords) (context : List KeyValue) (tree left : KeyringMeaning) → IsContext context → IsLawful tree → refusal_asked asked context tree ≡ None
-    → IfSome asked.max_keys (λ most. tree.wraps ≤ most) → Stayed tree.faults left.faults → IsGranted (asked_of asked context tree left)
+    → IfSome asked.max_keys (λ most. tree.wraps ≤ most) → Stayed tree.faults left.faults → IsGranted (encrypt_asked asked context tree left)
 tree_grants asked context tree left is_context lawful unrefused allowed stayed = record {
   none = λ error cause. unrefused_memory tree.faults left.faults error stayed (subst (λ (r : Option Refusal). NoneFor r tree.faults left.faults error) unrefused cause);
   context = λ random m given. subst IsContext (sym given.whole) is_context;

@@ -4,6 +4,7 @@ pub mod Chain
 pub mod Keys
 pub mod Endings
 pub mod Files
+pub mod Preparing
 pub mod Statuses
 pub mod Reading
 pub mod TreesBack
@@ -18,3 +19,5 @@ pub mod ReadJobs
 pub mod EachJob
 pub mod DoneJobs
 mod Ages
+mod Keeping
+mod Promising

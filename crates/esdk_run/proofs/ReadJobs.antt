@@ -13,12 +13,12 @@ use Rattle.esdk_fields.specs.declared.refusals.FileRefusal.TheVariants.{BadShape
 use Rattle.context_codec.specs.Context.{KeyValue}
 use Rattle.context_codec.specs.KeySet.{has, with_key}
 use Rattle.context_codec.specs.Parts.{holds}
-use Rattle.keyring_file.specs.JsonValues.{◌>>=◌, ◌>>◌, member_count, provided, text_at, value_of}
+use Rattle.keyring_file.specs.JsonValues.{◌>>=◌, ◌>>◌, member_count, present, provided, text_at, value_of}
 use Rattle.job_file.specs.declared.job.Job.{Job}
 use Rattle.job_file.specs.declared.job.Work.{Work}
 use Rattle.job_file.specs.declared.job.Work.TheVariants.{Encrypt, Decrypt}
 use Rattle.job_file.specs.JobFile.{JobFile, is_written}
-use Rattle.job_file.specs.JobForm.{Head, context_at, decryption_of, encryption_of, head_of, job_of, keys_in, length_at, number_or, present, required_at, unless_absent, with_required, work_named}
+use Rattle.job_file.specs.JobForm.{Head, context_at, decryption_of, encryption_of, head_of, job_of, keys_in, length_at, number_or, required_at, unless_absent, with_required, work_named}
 use Rattle.job_file.specs.Jobs.{clash_among, file_of, jobs_from, jobs_of, or_refuse, read_names, then_read, unless_clash}
 use Rattle.job_file.proofs.Apart.{reads_apart}
 use Rattle.job_file.proofs.Held.{one_more_passes}

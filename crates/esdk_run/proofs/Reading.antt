@@ -9,27 +9,20 @@ use Rattle.keyring_trait.specs.Unlocking.{Unlocking, Unlocks}
 use Rattle.message_format.specs.Judgement.{Judged, content, judged}
 use Rattle.esdk_decrypt.specs.declared.errors.DecryptError.{DecryptError}
 use Rattle.esdk_decrypt.specs.declared.errors.DecryptError.TheVariants as errors
-use Rattle.esdk_decrypt.specs.Decrypt.{Asked, Decrypts, EndsSo, HasFault, Releases, ReleasesFront, fault_at_end, fault_of}
+use Rattle.esdk_decrypt.specs.Decrypt.{Asked, Decrypts, DecryptEnds, HasFault, Releases, ReleasesFront, fault_at_end, fault_of}
 use Rattle.esdk_decrypt.specs.Told.{Reader, asked_by, judged_by}
 use Rattle.esdk_decrypt.proofs.Readers.{answers_unlocking, judged_first, judged_reader, never_fails}
-use Rattle.esdk_report.specs.declared.failure.Failure.{Failure}
-use Rattle.esdk_report.specs.declared.failure.Failure.TheVariants as failures
+use Rattle.esdk_run.specs.Failures.{decryption_failure}
 use Rattle.esdk_run.specs.Objects.{Objects}
 use Rattle.esdk_run.specs.Read.{EndsAsRead, GainsFront, GainsRead, ReadsFault, ReadsWhole, SaysWhatIsRead}
 use Rattle.esdk_report.specs.Report.{Reports}
 use Rattle.esdk_run.specs.Run.{TellsOrLacksMemory}
 
--- what an error is called in the program
-abbrev pub failure_of : DecryptError → Failure
-failure_of (errors.Fault fault) = failures.Fault fault
-failure_of (errors.Outside outside) = failures.Outside outside
-failure_of errors.Memory = failures.Memory
-
 -- how a decryption ended, and what was said of it
 abbrev pub Ending : Asked → Objects → Objects → Type 0 → ℕ → Type 0
 Ending asked before after unwritten code =
     ((context : List KeyValue) × Decrypts asked before.input after.input before.output after.output context × TellsOrLacksMemory context code before.report after.report)
-    ⊎ ((error : DecryptError) × EndsSo asked before.input after.input before.output after.output unwritten error × Reports (failure_of error) code before.report after.report)
+    ⊎ ((error : DecryptError) × DecryptEnds asked before.input after.input before.output after.output unwritten error × Reports (decryption_failure error) code before.report after.report)
 
 -- ---- what was released is what is read
 
@@ -101,7 +94,7 @@ reads_whole reader before after code context done told =
 -- ---- how it ended
 
 ends_as_read : (reader : Reader) (before after : Objects) (unwritten : Type 0) (error : DecryptError) → (unwritten → after.output ≡ before.output)
-    → EndsSo (asked_by reader) before.input after.input before.output after.output unwritten error → EndsAsRead reader before after (failure_of error)
+    → DecryptEnds (asked_by reader) before.input after.input before.output after.output unwritten error → EndsAsRead reader before after (decryption_failure error)
 ends_as_read reader before after unwritten (errors.Fault fault) same has = reads_fault reader before after fault has
 ends_as_read reader before after unwritten (errors.Outside outsides.SourceFault) same fails = record {
   bytes = fails.bytes;
@@ -131,4 +124,4 @@ pub says_what_is_read : (reader : Reader) (before after : Objects) (unwritten : 
     → Ending (asked_by reader) before after unwritten code → SaysWhatIsRead reader before after code
 says_what_is_read reader before after unwritten code same (inl (context, done, told)) = inl (reads_whole reader before after code context done told)
 says_what_is_read reader before after unwritten code same (inr (error, ends, said)) =
-    inr (record { failure = failure_of error; because = ends_as_read reader before after unwritten error same ends; said = said })
+    inr (record { failure = decryption_failure error; because = ends_as_read reader before after unwritten error same ends; said = said })

@@ -10,13 +10,14 @@ use Rattle.context_codec.specs.Context.{KeyValue}
 use Rattle.keyring_trait.specs.declared.manager_errors.ManagerError.{ManagerError}
 use Rattle.keyring_trait.specs.declared.manager_errors.ManagerError.TheVariants as managers
 use Rattle.keyring_trait.specs.Keyring.{KeyringMeaning}
-use Rattle.keyring_trait.specs.Manager.{FindsMaterials, FindsNone, GivesMaterials, GivesNone, ManagerGoes, ManagerMeaning, TellsOn, request_refusal}
+use Rattle.keyring_trait.specs.Manager.{FindsMaterials, FindsNone, GivesMaterials, GivesNone, ManagerNow, Went, request_refusal}
 use Rattle.keyring_trait.specs.Materials.{DecMaterialsValue, EncMaterialsValue}
 use Rattle.keyring_trait.specs.Requests.{DecRequestValue, EncRequestValue}
+use Rattle.keyring_trait.specs.Saying.{Admits, Saying, said_between}
 use Rattle.keyring_trait.specs.Wrapping.{WrapKeyValue, ivs_of, made}
-use Rattle.cmm_default.specs.DefaultCmm.{default_meaning, default_tells}
+use Rattle.cmm_default.specs.DefaultCmm.{default_now, default_tells}
 use Rattle.cmm_caching.specs.Asked.{limits_of}
-use Rattle.cmm_caching.specs.CachingCmm.{CachingExact, CachingTells, caching_meaning}
+use Rattle.cmm_caching.specs.CachingCmm.{caching_now}
 use Rattle.cmm_caching.specs.Journal.{KeepsWithin}
 use Rattle.cmm_caching.specs.Limits.{LimitsValue}
 use Rattle.cmm_caching.specs.Store.{Store}
@@ -26,30 +27,23 @@ use Rattle.job_file.specs.JobFile.{JobFile}
 use Rattle.batch_report.specs.declared.job_lines.JobLine.{JobLine}
 use Rattle.esdk_batch.specs.Batch.{RunsBatch}
 use Rattle.esdk_batch.specs.Failures.{CountsFailures, tally_of}
-use Rattle.esdk_batch.specs.Managing.{Managing, managing_of}
 use Rattle.esdk_encrypt.specs.Told.{NoneFor}
 use Rattle.esdk_run.specs.Batch.{RunsWithin}
 use Rattle.esdk_run.specs.Serving.{TreeOutlasts, TreeServes, TreeServesHeader, TreeServesNone, managing_over, refusal_over}
-use Rattle.esdk_run.proofs.BatchMore.{Covers, runs_more}
+use Rattle.esdk_run.proofs.BatchMore.{runs_more}
 use Rattle.esdk_run.proofs.Chain.{same_keys, where_some}
 
 -- ---- the manager
 
--- what the manager means, tells and is exact by, over a tree and with a cache
-abbrev pub cached : Option Store → KeyringMeaning → ManagerMeaning
-cached store tree = caching_meaning store (default_meaning tree)
-
-abbrev pub cached_tells : Option Store → KeyringMeaning → List WrapKeyValue → Type 0
-cached_tells store tree = CachingTells store (default_meaning tree) (default_tells tree)
-
-abbrev pub cached_exact : Option Store → KeyringMeaning → Type 0
-cached_exact store tree = CachingExact store (default_meaning tree) (Unit {0})
+-- the manager over a tree and with a cache
+abbrev pub cached : Option Store → KeyringMeaning → ManagerNow
+cached store tree = caching_now store (default_now tree)
 
 -- What is so of a manager before its first call.
 pub record Begins (cache : Option LimitsValue) (store : Option Store) (tree : KeyringMeaning) : Type 0 where
   pub limits : limits_of store ≡ cache
-  pub tells : (keys : List WrapKeyValue) → default_tells tree keys → tree.steady ≡ true → cached_tells store tree keys
-  pub exact : cached_exact store tree
+  pub tells : (keys : List WrapKeyValue) → default_tells tree keys → tree.steady ≡ true → (cached store tree).tells keys
+  pub exact : (cached store tree).exact
 
 -- without limits there is no cache
 off_is_plain : (store : Option Store) → limits_of store ≡ None → (is_none store && true) ≡ true
@@ -61,14 +55,14 @@ where_told : (tree : KeyringMeaning) (Q : List WrapKeyValue → Type 0) → ((ke
 where_told tree Q each = where_some tree.keys Q each
 
 -- it refuses what the tree is refused for
-cached_refusal : (store : Option Store) (context : List KeyValue) (tree : KeyringMeaning) → request_refusal (cached store tree) context ≡ refusal_over context tree
+cached_refusal : (store : Option Store) (context : List KeyValue) (tree : KeyringMeaning) → request_refusal (cached store tree).meaning context ≡ refusal_over context tree
 unfolding request_refusal refusal_over
 cached_refusal store context tree = refl
 
 -- ---- materials to encrypt with
 
 serves : (cache : Option LimitsValue) (store : Option Store) (tree : KeyringMeaning) (wish : EncRequestValue) (random : List ℕ) (m : EncMaterialsValue) → Begins cache store tree
-    → GivesMaterials (cached store tree) (cached_tells store tree) (cached_exact store tree) wish random m → TreeServes cache tree wish random m
+    → GivesMaterials (cached store tree) wish random m → TreeServes cache tree wish random m
 serves cache store tree wish random m begins gives = record {
   unrefused = sym (cached_refusal store wish.context tree) ∙ gives.unrefused begins.exact;
   context = gives.context;
@@ -84,7 +78,7 @@ serves cache store tree wish random m begins gives = record {
 }
 
 serves_none : (cache : Option LimitsValue) (store later : Option Store) (tree left : KeyringMeaning) (wish : EncRequestValue) (error : ManagerError) → Begins cache store tree
-    → GivesNone (cached store tree) (cached later left) (cached_exact store tree) wish error → NoneFor (refusal_over wish.context tree) tree.faults left.faults error
+    → GivesNone (cached store tree) (cached later left) wish error → NoneFor (refusal_over wish.context tree) tree.faults left.faults error
 serves_none cache store later tree left wish (managers.Fault fault) begins cause = cause
 serves_none cache store later tree left wish (managers.Refusal refusal) begins cause = sym (cached_refusal store wish.context tree) ∙ cause.1 begins.exact
 serves_none cache store later tree left wish managers.KeyringFault begins cause = (sym (cached_refusal store wish.context tree) ∙ cause.1 begins.exact, cause.0)
@@ -93,13 +87,13 @@ serves_none cache store later tree left wish managers.Memory begins cause = tt
 -- ---- materials to decrypt with
 
 serves_header : (cache : Option LimitsValue) (store later : Option Store) (tree left : KeyringMeaning) (request : DecRequestValue) (m : DecMaterialsValue) → Begins cache store tree
-    → FindsMaterials (cached store tree) (cached later left) (cached_tells store tree) (cached_exact store tree) request m → TreeServesHeader cache tree left request m
+    → FindsMaterials (cached store tree) (cached later left) request m → TreeServesHeader cache tree left request m
 serves_header cache store later tree left request m begins finds = record {
   sound = finds.unfaulted begins.exact;
   context = finds.context;
   only = finds.only;
   opens = λ steady. where_told tree _ (λ keys told.
-      let tells : cached_tells store tree keys = begins.tells keys told steady in
+      let tells : (cached store tree).tells keys = begins.tells keys told steady in
       record {
         opened = rw finds.context at finds.opened keys tells;
         none = λ none. absurd (let no_key : Some m.key ≡ None = none in cc);
@@ -109,7 +103,7 @@ serves_header cache store later tree left request m begins finds = record {
 }
 
 fault_served : (cache : Option LimitsValue) (store later : Option Store) (tree left : KeyringMeaning) (request : DecRequestValue) (fault : Fault) → Begins cache store tree
-    → FindsNone (cached store tree) (cached later left) (cached_tells store tree) (cached_exact store tree) request (managers.Fault fault)
+    → FindsNone (cached store tree) (cached later left) request (managers.Fault fault)
     → TreeServesNone tree left request (managers.Fault fault)
 fault_served cache store later tree left request faults.ReservedKey begins finds = finds.1 begins.exact
 fault_served cache store later tree left request (faults.ContextMismatch key) begins finds = finds.1 begins.exact
@@ -125,7 +119,7 @@ fault_served cache store later tree left request faults.NoKeyOpens begins finds 
 fault_served cache store later tree left request fault begins finds = absurd finds.0
 
 serves_no_header : (cache : Option LimitsValue) (store later : Option Store) (tree left : KeyringMeaning) (request : DecRequestValue) (error : ManagerError) → Begins cache store tree
-    → FindsNone (cached store tree) (cached later left) (cached_tells store tree) (cached_exact store tree) request error → TreeServesNone tree left request error
+    → FindsNone (cached store tree) (cached later left) request error → TreeServesNone tree left request error
 serves_no_header cache store later tree left request (managers.Fault fault) begins finds = fault_served cache store later tree left request fault begins finds
 serves_no_header cache store later tree left request (managers.Refusal refusal) begins none = none
 serves_no_header cache store later tree left request managers.KeyringFault begins failed = (failed.1 begins.exact, failed.0)
@@ -133,63 +127,60 @@ serves_no_header cache store later tree left request managers.Memory begins free
 
 -- ---- all that it may say
 
-pub tree_covers : (cache : Option LimitsValue) (store later : Option Store) (tree left : KeyringMeaning) → Begins cache store tree
-    → Covers (managing_of (cached store tree) (cached later left) (cached_tells store tree) (cached_exact store tree)) (managing_over cache tree left)
-tree_covers cache store later tree left begins = record {
+pub tree_admits : (cache : Option LimitsValue) (store later : Option Store) (tree left : KeyringMeaning) → Begins cache store tree
+    → Admits (managing_over cache tree left) (said_between (cached store tree) (cached later left))
+tree_admits cache store later tree left begins = record {
   wraps = refl;
-  gives = λ wish random m gives. serves cache store tree wish random m begins gives;
+  gives = λ wish now random m gives. serves cache store tree wish random m begins gives;
   gives_none = λ wish error cause. serves_none cache store later tree left wish error begins cause;
-  answering = record {
-    finds = λ request m finds. serves_header cache store later tree left request m begins finds;
-    finds_none = λ request error finds. serves_no_header cache store later tree left request error begins finds;
-  };
+  finds = λ request now m finds. serves_header cache store later tree left request m begins finds;
+  finds_none = λ request error finds. serves_no_header cache store later tree left request error begins finds;
 }
 
 -- ---- what is left of the tree
 
 -- a plain manager has no cache, of which anything is so
-plain_is_right : (store : Option Store) (tree : KeyringMeaning) (keys : List WrapKeyValue) → (is_none store && true) ≡ true → tree.steady ≡ true → default_tells tree keys → cached_tells store tree keys
+plain_is_right : (store : Option Store) (tree : KeyringMeaning) (keys : List WrapKeyValue) → (is_none store && true) ≡ true → tree.steady ≡ true → default_tells tree keys → (cached store tree).tells keys
 plain_is_right None tree keys plain steady told = record { told = told; steady = steady; right = tt }
 plain_is_right (Some s) tree keys plain steady told = absurd cc
 
 pub tree_outlasts : (cache : Option LimitsValue) (store later : Option Store) (tree left : KeyringMeaning) → Begins cache store tree
-    → ManagerGoes (cached store tree) (cached later left) → TellsOn (cached_tells store tree) (cached_tells later left)
-    → ((cached store tree).plain ≡ true → TellsOn (cached_tells later left) (cached_tells store tree)) → TreeOutlasts cache tree left
-tree_outlasts cache store later tree left begins goes tells same =
+    → Went (cached store tree) (cached later left) → TreeOutlasts cache tree left
+tree_outlasts cache store later tree left begins went =
     let on : (steady : tree.steady ≡ true) (keys : List WrapKeyValue) → tree.keys ≡ Some keys → left.keys ≡ Some keys =
-    λ steady keys told. (tells keys (begins.tells keys told steady)).told in
+    λ steady keys told. (went.tells keys (begins.tells keys told steady)).told in
     record {
-      wraps = goes.wraps;
-      refuses = goes.refuses;
-      steady = goes.steady;
-      later = goes.later;
-      still = goes.still;
+      wraps = went.goes.wraps;
+      refuses = went.goes.refuses;
+      steady = went.goes.steady;
+      later = went.goes.later;
+      still = went.goes.still;
       keys = λ steady. where_told tree (λ keys. left.keys ≡ Some keys) (on steady);
       same = λ steady off.
           let plain : (is_none store && true) ≡ true = off_is_plain store (begins.limits ∙ off) in
           same_keys tree.keys left.keys (on steady)
-          (λ keys told. (same plain keys (plain_is_right later left keys (goes.plain ∙ plain) (goes.steady ∙ steady) told)).told);
+          (λ keys told. (went.same plain keys (plain_is_right later left keys (went.goes.plain ∙ plain) (went.goes.steady ∙ steady) told)).told);
     }
 
 -- ---- a batch over such a manager
 
--- what the manager that held the tree `inner`, when it was made, comes to
-abbrev pub manager_over : {N : Type 0} → (N → KeyringMeaning) → (v w : N × Option Store) → Managing
-manager_over meaning v w = managing_of (cached v.1 (meaning v.0)) (cached w.1 (meaning w.0)) (cached_tells v.1 (meaning v.0)) (cached_exact v.1 (meaning v.0))
+-- what the manager may say that held the tree of the first value, and then that of the second
+abbrev pub said_over : {N : Type 0} → (N → KeyringMeaning) → (v w : N × Option Store) → Saying
+said_over meaning v w = said_between (cached v.1 (meaning v.0)) (cached w.1 (meaning w.0))
 
 pub runs_over : {N E : Type 0} (meaning : N → KeyringMeaning) (inner tree left : N) (made first last : N × Option Store) (file : JobFile) (old new : ShelfState) (entropy spent : EntropyState)
     (before after shown : List JournalLine) (r : Result (List JobLine) E) → first ≡ made → made.0 ≡ inner → inner ≡ tree → left ≡ last.0
     → Begins file.cache made.1 (meaning inner) → before ≡ [] → shown ≡ after → KeepsWithin (limits_of first.1) shown
-    → IfOk r (RunsBatch (manager_over meaning first last) file 0 old new entropy spent before after)
+    → IfOk r (RunsBatch (said_over meaning first last) file 0 old new entropy spent before after)
     → IfOk r (RunsWithin (managing_over file.cache (meaning tree) (meaning left)) file old new entropy spent)
 runs_over meaning inner tree left made first last file old new entropy spent before after shown (Err error) is_first is_made is_inner is_left begins none is_shown within runs = tt
 runs_over {N} meaning inner tree left made first last file old new entropy spent before after shown (Ok lines) is_first is_made is_inner is_left begins none is_shown within runs =
     let is : first ≡ (tree, made.1) = is_first ∙ ap (λ (n : N). (n, made.1)) (is_made ∙ is_inner) in
     let begun : Begins file.cache made.1 (meaning tree) = subst (λ (n : N). Begins file.cache made.1 (meaning n)) is_inner begins in
-    let ran : RunsBatch (manager_over meaning (tree, made.1) last) file 0 old new entropy spent before after lines =
-    subst (λ (v : N × Option Store). RunsBatch (manager_over meaning v last) file 0 old new entropy spent before after lines) is runs in
+    let ran : RunsBatch (said_over meaning (tree, made.1) last) file 0 old new entropy spent before after lines =
+    subst (λ (v : N × Option Store). RunsBatch (said_over meaning v last) file 0 old new entropy spent before after lines) is runs in
     let more : RunsBatch (managing_over file.cache (meaning tree) (meaning last.0)) file 0 old new entropy spent before after lines =
-    runs_more (tree_covers file.cache made.1 last.1 (meaning tree) (meaning last.0) begun) ran in
+    runs_more (tree_admits file.cache made.1 last.1 (meaning tree) (meaning last.0) begun) ran in
     let from_none : RunsBatch (managing_over file.cache (meaning tree) (meaning last.0)) file 0 old new entropy spent [] after lines =
     subst (λ (b : List JournalLine). RunsBatch (managing_over file.cache (meaning tree) (meaning last.0)) file 0 old new entropy spent b after lines) none more in
     let limits : limits_of first.1 ≡ file.cache = ap (λ (v : N × Option Store). limits_of v.1) is ∙ begins.limits in
@@ -201,22 +192,18 @@ runs_over {N} meaning inner tree left made first last file old new entropy spent
 
 pub outlasts_over : {N : Type 0} (meaning : N → KeyringMeaning) (cache : Option LimitsValue) (inner tree left : N) (made first last : N × Option Store)
     → first ≡ made → made.0 ≡ inner → inner ≡ tree → left ≡ last.0 → Begins cache made.1 (meaning inner)
-    → ManagerGoes (cached first.1 (meaning first.0)) (cached last.1 (meaning last.0)) → TellsOn (cached_tells first.1 (meaning first.0)) (cached_tells last.1 (meaning last.0))
-    → ((cached first.1 (meaning first.0)).plain ≡ true → TellsOn (cached_tells last.1 (meaning last.0)) (cached_tells first.1 (meaning first.0)))
-    → TreeOutlasts cache (meaning tree) (meaning left)
-outlasts_over {N} meaning cache inner tree left made first last is_first is_made is_inner is_left begins goes tells same =
+    → Went (cached first.1 (meaning first.0)) (cached last.1 (meaning last.0)) → TreeOutlasts cache (meaning tree) (meaning left)
+outlasts_over {N} meaning cache inner tree left made first last is_first is_made is_inner is_left begins went =
     let is : first ≡ (tree, made.1) = is_first ∙ ap (λ (n : N). (n, made.1)) (is_made ∙ is_inner) in
     let begun : Begins cache made.1 (meaning tree) = subst (λ (n : N). Begins cache made.1 (meaning n)) is_inner begins in
     let lasts : TreeOutlasts cache (meaning tree) (meaning last.0) = tree_outlasts cache made.1 last.1 (meaning tree) (meaning last.0) begun
-    (subst (λ (v : N × Option Store). ManagerGoes (cached v.1 (meaning v.0)) (cached last.1 (meaning last.0))) is goes)
-    (subst (λ (v : N × Option Store). TellsOn (cached_tells v.1 (meaning v.0)) (cached_tells last.1 (meaning last.0))) is tells)
-    (subst (λ (v : N × Option Store). (cached v.1 (meaning v.0)).plain ≡ true → TellsOn (cached_tells last.1 (meaning last.0)) (cached_tells v.1 (meaning v.0))) is same) in
+    (subst (λ (v : N × Option Store). Went (cached v.1 (meaning v.0)) (cached last.1 (meaning last.0))) is went) in
     subst (λ (l : N). TreeOutlasts cache (meaning tree) (meaning l)) (sym is_left) lasts
 
 -- the manager fails as often as its tree
 pub counts_over : {N E : Type 0} (meaning : N → KeyringMeaning) (inner tree left : N) (made first last : N × Option Store) (jobs : List Job) (old new : ShelfState) (drawn spent : ℕ)
     (r : Result (List JobLine) E) → first ≡ made → made.0 ≡ inner → inner ≡ tree → left ≡ last.0
-    → IfOk r (CountsFailures jobs (tally_of old drawn (cached first.1 (meaning first.0)).faults) (tally_of new spent (cached last.1 (meaning last.0)).faults))
+    → IfOk r (CountsFailures jobs (tally_of old drawn (cached first.1 (meaning first.0)).meaning.faults) (tally_of new spent (cached last.1 (meaning last.0)).meaning.faults))
     → IfOk r (CountsFailures jobs (tally_of old drawn (meaning tree).faults) (tally_of new spent (meaning left).faults))
 counts_over meaning inner tree left made first last jobs old new drawn spent (Err error) is_first is_made is_inner is_left counts = tt
 counts_over {N} meaning inner tree left made first last jobs old new drawn spent (Ok lines) is_first is_made is_inner is_left counts =

@@ -18,11 +18,11 @@ use Rattle.cmm_caching.specs.Store.{use_bytes}
 use Rattle.job_file.specs.declared.job.Job.{Job}
 use Rattle.batch_report.specs.declared.job_lines.JobLine.{JobLine}
 use Rattle.esdk_batch.specs.Batch.{AllCome, Answered, SaysWhatWasServed, in_line, in_report, length_of}
-use Rattle.esdk_batch.specs.Managing.{Managing}
+use Rattle.keyring_trait.specs.Saying.{Saying}
 use Rattle.esdk_run.specs.Served.{AreServedWithin, IsServedDirectly, bytes_shown, seals_shown, seals_under, shows_number}
 
 -- each job has a line
-pub each_has_a_line : (manager : Managing) (before after : Option Files) (jobs : List Job) (drawn : List (List ℕ)) (lines : List JobLine)
+pub each_has_a_line : (manager : Saying) (before after : Option Files) (jobs : List Job) (drawn : List (List ℕ)) (lines : List JobLine)
     → AllCome manager before after jobs drawn lines → length lines ≡ length jobs
 each_has_a_line manager before after [] [] [] all = refl
 each_has_a_line manager before after (job ∷ jobs) (drawn ∷ draws) (line ∷ lines) all = ap suc (each_has_a_line manager before after jobs draws lines all.1)
@@ -42,7 +42,7 @@ direct_first : (kind : Kind) (size : Option ℕ) (served : Option Served) (rest 
 direct_first kind size None rest all = (tt, all)
 direct_first kind size (Some s) rest all = (All-head IsDirect _ rest all, All-tail IsDirect (record { kind = kind; served = s; length = size }) rest all)
 
-direct_lines : (manager : Managing) (before after : Option Files) (jobs : List Job) (drawn : List (List ℕ)) (lines : List JobLine)
+direct_lines : (manager : Saying) (before after : Option Files) (jobs : List Job) (drawn : List (List ℕ)) (lines : List JobLine)
     → AllCome manager before after jobs drawn lines → All IsDirect (filter_map in_report (zip jobs lines)) → All IsServedDirectly lines
 direct_lines manager before after [] [] [] all direct = All-nil IsServedDirectly
 direct_lines manager before after (job ∷ jobs) (drawn ∷ draws) (line ∷ lines) all direct =
@@ -116,7 +116,7 @@ bytes_counted n jobs lines gained served =
 -- ---- the limits
 
 -- a journal within the limits is shown by a report within them
-pub shows_limits : (cache : Option LimitsValue) (manager : Managing) (before after : Option Files) (jobs : List Job) (drawn : List (List ℕ)) (lines : List JobLine) (gained : List JournalLine)
+pub shows_limits : (cache : Option LimitsValue) (manager : Saying) (before after : Option Files) (jobs : List Job) (drawn : List (List ℕ)) (lines : List JobLine) (gained : List JournalLine)
     → AllCome manager before after jobs drawn lines → SaysWhatWasServed jobs lines gained → KeepsWithin cache gained → AreServedWithin cache jobs lines
 shows_limits None manager before after jobs drawn lines gained all served within =
     direct_lines manager before after jobs drawn lines all

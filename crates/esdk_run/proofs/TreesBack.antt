@@ -11,7 +11,7 @@ use Rattle.keyring_trait.specs.Wrapping.{WrapKeyValue}
 use Rattle.esdk_decrypt.specs.declared.errors.DecryptError.TheVariants as errors
 use Rattle.esdk_report.specs.declared.failure.Failure.{Failure}
 use Rattle.esdk_report.specs.declared.failure.Failure.TheVariants as failures
-use Rattle.esdk_run.specs.Decrypt.{DecryptFails, asked_of}
+use Rattle.esdk_run.specs.Decrypt.{DecryptFails, decrypt_asked}
 use Rattle.esdk_run.specs.Objects.{Objects, Unchanged}
 use Rattle.esdk_run.specs.Pairs.{context_in}
 use Rattle.esdk_report.specs.Report.{Reports}
@@ -55,7 +55,7 @@ pub record HadTree (trees : Trees) (asked : DecryptWords) (before after : Object
   pub tree : KeyringMeaning
   pub left : KeyringMeaning
   pub has : HasTree trees asked.pairs asked.keyring before.shelf after.shelf given tree left
-  pub ended : Ending (asked_of asked given tree left) before after unwritten code
+  pub ended : Ending (decrypt_asked asked given tree left) before after unwritten code
 
 failed_with : (trees : Trees) (asked : DecryptWords) (before after : Objects) (unchanged : Unchanged) (code : ℕ) (left : KeyringMeaning)
     (failure : Failure) → trees.kept ≡ Some left → DecryptFails trees asked before after unchanged failure → Reports failure code before.report after.report

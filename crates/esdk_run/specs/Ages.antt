@@ -13,9 +13,10 @@ use Rattle.esdk_batch.specs.Moments.{ReadsClock}
 use Rattle.esdk_run.specs.Batch.{JobsAre}
 
 -- The report has a line for each job, and there is a journal of what was served. It is within the
--- limits of the file's cache; its answers are those of the report's lines, each once; and its lines
--- bear the moments that the clock told, one in each turn, in their order.
-pub record ServesInTime (file : JobFile) (clock ticked : Option Moments) (lines : List JobLine) : Type 0 where
+-- limits of the file's cache; its answers are those of the report's lines, each once; and the
+-- moments of its lines are, in order, among those that the clock gave.
+pub record ServesInTime (file : JobFile) (clock ticked : Option Moments) (lines : List JobLine)
+    : Type 0 where
   pub each : length lines ≡ length file.jobs
   pub journal : List JournalLine
   pub within : KeepsWithin file.cache journal
@@ -23,19 +24,22 @@ pub record ServesInTime (file : JobFile) (clock ticked : Option Moments) (lines 
   pub moments : ReadsClock clock ticked [] journal
 
 -- So the jobs were served of the file of this name.
-pub record ServesFileInTime (name : List ℕ) (shelf : ShelfState) (clock ticked : Option Moments) (lines : List JobLine) : Type 0 where
+pub record ServesFileInTime (name : List ℕ) (shelf : ShelfState) (clock ticked : Option Moments)
+    (lines : List JobLine) : Type 0 where
   pub file : JobFile
   pub between : ShelfState
   pub jobs : JobsAre shelf between name file
   pub serves : ServesInTime file clock ticked lines
 
 -- The output gained the report of jobs that were served so.
-pub record ShowsAges (name : List ℕ) (shelf : ShelfState) (output put : SinkState) (clock ticked : Option Moments) : Type 0 where
+pub record ShowsAges (name : List ℕ) (shelf : ShelfState) (output put : SinkState)
+    (clock ticked : Option Moments) : Type 0 where
   pub lines : List JobLine
   pub gained : Appends output.written put.written (report_of lines)
   pub serves : ServesFileInTime name shelf clock ticked lines
 
 -- so it is, where the batch was run and reported
-abbrev pub KeepsAges : List ℕ → ShelfState → SinkState → SinkState → Option Moments → Option Moments → ℕ → Type 0
+abbrev pub KeepsAges : List ℕ → ShelfState → SinkState → SinkState → Option Moments
+    → Option Moments → ℕ → Type 0
 KeepsAges name shelf output put clock ticked code =
     (code ≡ 0) ⊎ (code ≡ 7) → ShowsAges name shelf output put clock ticked

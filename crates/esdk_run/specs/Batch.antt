@@ -17,7 +17,7 @@ use Rattle.batch_report.specs.declared.job_lines.JobLine.{JobLine}
 use Rattle.batch_report.specs.BatchReport.{is_done, report_of}
 use Rattle.esdk_batch.specs.Batch.{OnlyWritten, RunsBatch}
 use Rattle.esdk_batch.specs.Failures.{CountsFailures, tally_of}
-use Rattle.esdk_batch.specs.Managing.{Managing}
+use Rattle.keyring_trait.specs.Saying.{Saying}
 use Rattle.esdk_report.specs.declared.failure.Failure.{Failure}
 use Rattle.esdk_report.specs.declared.failure.Failure.TheVariants as failures
 use Rattle.esdk_run.specs.FileReading.{FileFails}
@@ -64,7 +64,7 @@ pub record HasNoJobs (trees : Trees) (name : List ℕ) (old new : ShelfState) (f
 
 -- The jobs had their turns over this manager, and this is said of them. The journal of what it
 -- served is within the limits of the file's cache.
-pub record RunsWithin (manager : Managing) (file : JobFile) (old new : ShelfState) (entropy spent : EntropyState) (lines : List JobLine) : Type 0 where
+pub record RunsWithin (manager : Saying) (file : JobFile) (old new : ShelfState) (entropy spent : EntropyState) (lines : List JobLine) : Type 0 where
   pub journal : List JournalLine
   pub runs : RunsBatch manager file 0 old new entropy spent [] journal lines
   pub within : KeepsWithin file.cache journal

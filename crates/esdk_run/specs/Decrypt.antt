@@ -16,7 +16,7 @@ use Rattle.keyring_trait.specs.Unlocking.{pair_offence}
 use Rattle.keyring_trait.specs.Wrapping.{WrapKeyValue, unwrapped}
 use Rattle.esdk_decrypt.specs.declared.errors.DecryptError.{DecryptError}
 use Rattle.esdk_decrypt.specs.declared.errors.DecryptError.TheVariants as errors
-use Rattle.esdk_decrypt.specs.Decrypt.{Asked, Decrypts, EndsSo}
+use Rattle.esdk_decrypt.specs.Decrypt.{Asked, Decrypts, DecryptEnds}
 use Rattle.esdk_decrypt.specs.Told.{Reader}
 use Rattle.esdk_report.specs.declared.failure.Failure.{Failure}
 use Rattle.esdk_report.specs.declared.failure.Failure.TheVariants as failures
@@ -53,8 +53,8 @@ TreeFindsNone required tree left request (managers.Refusal refusal) = ⊥
 TreeFindsNone required tree left request managers.Memory = ⊤
 
 -- what is asked for, of a tree that means this before and that after the run: with the pairs that the words give, and the keys that they require
-abbrev pub asked_of : DecryptWords → List KeyValue → KeyringMeaning → KeyringMeaning → Asked
-asked_of asked given tree left = record {
+abbrev pub decrypt_asked : DecryptWords → List KeyValue → KeyringMeaning → KeyringMeaning → Asked
+decrypt_asked asked given tree left = record {
   manager = record { finds = TreeFinds (required_in asked.pairs) tree left; finds_none = TreeFindsNone (required_in asked.pairs) tree left };
   settings = limits_of asked;
   given = given;
@@ -77,7 +77,7 @@ pub record DecryptsInput (trees : Trees) (asked : DecryptWords) (before after : 
   pub tree : KeyringMeaning
   pub left : KeyringMeaning
   pub has : HasTree trees asked.pairs asked.keyring before.shelf after.shelf given tree left
-  pub done : Decrypts (asked_of asked given tree left) before.input after.input before.output after.output context
+  pub done : Decrypts (decrypt_asked asked given tree left) before.input after.input before.output after.output context
 
 -- The words give these pairs, the keyring file is read as a tree, and the decryption ended with this error.
 pub record DecryptionFails (trees : Trees) (asked : DecryptWords) (before after : Objects) (unwritten : Type 0) (error : DecryptError) : Type 0 where
@@ -85,7 +85,7 @@ pub record DecryptionFails (trees : Trees) (asked : DecryptWords) (before after 
   pub tree : KeyringMeaning
   pub left : KeyringMeaning
   pub has : HasTree trees asked.pairs asked.keyring before.shelf after.shelf given tree left
-  pub ended : EndsSo (asked_of asked given tree left) before.input after.input before.output after.output unwritten error
+  pub ended : DecryptEnds (decrypt_asked asked given tree left) before.input after.input before.output after.output unwritten error
 
 -- Why an input wasn't decrypted, and what that left. Want of memory is free.
 abbrev pub DecryptFails : Trees → DecryptWords → Objects → Objects → Unchanged → Failure → Type 0
@@ -98,9 +98,3 @@ DecryptFails trees asked before after unchanged (failures.Fault fault) = Decrypt
 DecryptFails trees asked before after unchanged (failures.Refusal refusal) = RefusesWordPairs asked.pairs refusal unchanged.shelf × IsUntouched trees (same_streams unchanged)
 DecryptFails trees asked before after unchanged failures.Memory = IsUntouched trees (same_streams unchanged) ⊎ DecryptionFails trees asked before after unchanged.output errors.Memory
 DecryptFails trees asked before after unchanged failure = ⊥
-
--- what the failure of a decryption is called in the program
-abbrev pub IsDecryptFailure : DecryptError → Failure → Type 0
-IsDecryptFailure (errors.Fault fault) failure = failure ≡ failures.Fault fault
-IsDecryptFailure (errors.Outside outside) failure = failure ≡ failures.Outside outside
-IsDecryptFailure errors.Memory failure = failure ≡ failures.Memory

@@ -24,7 +24,7 @@ use Rattle.batch_report.specs.declared.job_lines.JobEnd.TheVariants as ends
 use Rattle.batch_report.specs.BatchReport.{is_done, report_of}
 use Rattle.esdk_batch.specs.Batch.{seen_of}
 use Rattle.esdk_batch.specs.Files.{most_input}
-use Rattle.esdk_batch.specs.Managing.{no_limits}
+use Rattle.esdk_batch.specs.Answering.{no_limits}
 use Rattle.esdk_batch.specs.SealStory.{SealAsked, Seen, held, most_sealed}
 use Rattle.esdk_run.specs.Batch.{HasJobs}
 use Rattle.esdk_run.specs.Objects.{Objects}
@@ -147,7 +147,7 @@ pub record DoesJobs (tree : KeyringMeaning) (files : Option Files) (jobs : List 
 
 -- No count of faults rose of the shelf, the output, the entropy and the tree, and none is at its
 -- end.
-pub record NothingFails (trees : Trees) (tree : KeyringMeaning) (before after : Objects) : Type 0 where
+pub record NoJobFails (trees : Trees) (tree : KeyringMeaning) (before after : Objects) : Type 0 where
   pub reading : Stayed before.shelf.faults after.shelf.faults
   pub writing : Stayed before.output.faults after.output.faults
   pub drawing : Stayed before.entropy.faults after.entropy.faults
@@ -157,5 +157,5 @@ pub record NothingFails (trees : Trees) (tree : KeyringMeaning) (before after : 
 abbrev pub DoesWhatItMust : Trees → List ℕ → Objects → Objects → ℕ → Type 0
 DoesWhatItMust trees name before after code =
     (file : JobFile) (tree : KeyringMeaning) → HoldsJobs trees before.shelf.files name file tree
-    → NothingFails trees tree before after
+    → NoJobFails trees tree before after
     → (code ≡ 5) ⊎ DoesJobs tree before.shelf.files file.jobs before.output after.output

@@ -12,7 +12,7 @@ use Rattle.keyring_trait.specs.Requests.{required_absent}
 use Rattle.keyring_trait.specs.Wrapping.{WrapKeyValue, first_some, ivs_of, made}
 use Rattle.esdk_encrypt.specs.declared.errors.EncryptError.{EncryptError}
 use Rattle.esdk_encrypt.specs.declared.errors.EncryptError.TheVariants as errors
-use Rattle.esdk_encrypt.specs.Encrypt.{Asked, Encrypts, EndsSo}
+use Rattle.esdk_encrypt.specs.Encrypt.{Asked, Encrypts, EncryptEnds}
 use Rattle.esdk_encrypt.specs.Told.{NoneFor, Writer}
 use Rattle.esdk_report.specs.declared.failure.Failure.{Failure}
 use Rattle.esdk_report.specs.declared.failure.Failure.TheVariants as failures
@@ -39,8 +39,8 @@ pub record TreeGives (asked : EncryptWords) (context : List KeyValue) (tree : Ke
   pub served : materials.served ≡ Direct
 
 -- what is asked for, of a tree that means this before and that after the run
-abbrev pub asked_of : EncryptWords → List KeyValue → KeyringMeaning → KeyringMeaning → Asked
-asked_of asked context tree left = record {
+abbrev pub encrypt_asked : EncryptWords → List KeyValue → KeyringMeaning → KeyringMeaning → Asked
+encrypt_asked asked context tree left = record {
   wraps = tree.wraps;
   gives = TreeGives asked context tree;
   gives_none = NoneFor (refusal_asked asked context tree) tree.faults left.faults;
@@ -49,8 +49,8 @@ asked_of asked context tree left = record {
 }
 
 -- who writes where the tree tells these keys: they, over the context of the words' pairs, with the keys that the words require
-abbrev pub writer_of : EncryptWords → List KeyValue → List WrapKeyValue → Writer
-writer_of asked context keys = record {
+abbrev pub run_writer : EncryptWords → List KeyValue → List WrapKeyValue → Writer
+run_writer asked context keys = record {
   keys = keys;
   context = context;
   required = required_in asked.pairs;
@@ -66,7 +66,7 @@ pub record EncryptsInput (trees : Trees) (asked : EncryptWords) (before after : 
   pub tree : KeyringMeaning
   pub left : KeyringMeaning
   pub has : HasTree trees asked.pairs asked.keyring before.shelf after.shelf context tree left
-  pub done : Encrypts (asked_of asked context tree left) before.input after.input before.output after.output before.entropy after.entropy
+  pub done : Encrypts (encrypt_asked asked context tree left) before.input after.input before.output after.output before.entropy after.entropy
 
 -- The words give a context, the keyring file is read as a tree, and the encryption ended with this error.
 pub record EncryptionFails (trees : Trees) (asked : EncryptWords) (before after : Objects) (untouched : Type 0) (error : EncryptError) : Type 0 where
@@ -74,7 +74,7 @@ pub record EncryptionFails (trees : Trees) (asked : EncryptWords) (before after 
   pub tree : KeyringMeaning
   pub left : KeyringMeaning
   pub has : HasTree trees asked.pairs asked.keyring before.shelf after.shelf context tree left
-  pub ended : EndsSo (asked_of asked context tree left) before.input after.input before.output after.output before.entropy after.entropy untouched ⊤ error
+  pub ended : EncryptEnds (encrypt_asked asked context tree left) before.input after.input before.output after.output before.entropy after.entropy untouched ⊤ error
 
 -- Why an input wasn't encrypted, and what that left. Want of memory is free.
 abbrev pub EncryptFails : Trees → EncryptWords → Objects → Objects → Unchanged → Failure → Type 0
@@ -90,9 +90,3 @@ EncryptFails trees asked before after unchanged (failures.Refusal refusal) =
 EncryptFails trees asked before after unchanged failures.Memory =
     IsUntouched trees (same_streams unchanged × unchanged.entropy) ⊎ EncryptionFails trees asked before after (same_streams unchanged) errors.Memory
 EncryptFails trees asked before after unchanged failure = ⊥
-
--- what the failure of an encryption is called in the program
-abbrev pub IsEncryptFailure : EncryptError → Failure → Type 0
-IsEncryptFailure (errors.Refusal refusal) failure = failure ≡ failures.Refusal refusal
-IsEncryptFailure (errors.Outside outside) failure = failure ≡ failures.Outside outside
-IsEncryptFailure errors.Memory failure = failure ≡ failures.Memory

@@ -1,11 +1,13 @@
 pub mod Decrypt
 pub mod Encrypt
+pub mod Failures
 pub mod FileReading
 pub mod Migrate
 pub mod Objects
 pub mod Run
 pub mod Told
 pub mod Pairs
+pub mod Prepared
 pub mod Read
 pub mod Trees
 pub mod Serving
@@ -14,3 +16,4 @@ pub mod Generate
 pub mod Served
 pub mod EachJob
 pub mod Ages
+pub mod Promises

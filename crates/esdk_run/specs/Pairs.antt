@@ -10,8 +10,6 @@ use Rattle.context_codec.specs.Context.{KeyValue, IsContext}
 use Rattle.context_codec.specs.Insert.{refusal_of}
 use Rattle.context_codec.specs.KeySet.{with_keys}
 use Rattle.esdk_args.specs.declared.pair_words.PairWord.{PairWord}
-use Rattle.esdk_report.specs.declared.failure.Failure.{Failure}
-use Rattle.esdk_report.specs.declared.failure.Failure.TheVariants as failures
 
 -- the pair of a word, if it has a value
 abbrev pub pair_in : PairWord → Option KeyValue
@@ -48,11 +46,6 @@ pub record GivesContext (words : List PairWord) (context : List KeyValue) : Type
 abbrev pub RefusesPairs : Result (List KeyValue) Refusal → PairError → Type 0
 RefusesPairs made (errors.Refusal refusal) = made ≡ Err refusal
 RefusesPairs made errors.Memory = ⊤
-
--- what refused pairs are called in the program
-abbrev pub IsPairsFailure : PairError → Failure → Type 0
-IsPairsFailure (errors.Refusal refusal) failure = failure ≡ failures.Refusal refusal
-IsPairsFailure errors.Memory failure = failure ≡ failures.Memory
 
 -- The words' pairs are refused, and no file is read.
 pub record RefusesWordPairs (words : List PairWord) (refusal : Refusal) (unread : Type 0) : Type 0 where

@@ -7,7 +7,6 @@ use Rattle.esdk_args.specs.declared.request.MigrateWords.{MigrateWords}
 use Rattle.esdk_args.specs.declared.request.Request.{Request}
 use Rattle.esdk_args.specs.declared.request.Request.TheVariants as requests
 use Rattle.esdk_args.specs.declared.request.WordsFault.{WordsFault}
-use Rattle.esdk_args.specs.declared.request.WordsFault.TheVariants as words
 use Rattle.esdk_base.specs.Streams.{SinkState, SourceState}
 use Rattle.esdk_fields.specs.declared.faults.Fault.{Fault}
 use Rattle.context_codec.specs.Context.{KeyValue}
@@ -17,6 +16,7 @@ use Rattle.batch_report.specs.declared.job_lines.JobLine.{JobLine}
 use Rattle.esdk_run.specs.Batch.{BatchFails, RunsJobFile, WritesReport}
 use Rattle.esdk_run.specs.Decrypt.{DecryptFails, DecryptsInput}
 use Rattle.esdk_run.specs.Encrypt.{EncryptFails, EncryptsInput}
+use Rattle.esdk_run.specs.Failures.{words_failure}
 use Rattle.esdk_list.specs.List.{IsListCause, LeavesOutput, Lists}
 use Rattle.esdk_run.specs.Migrate.{MigrateFails, WritesMigrated}
 use Rattle.esdk_run.specs.Generate.{GenFails, WritesLine}
@@ -76,13 +76,6 @@ pub record Fails (cause : Failure → Type 0) (code : ℕ) (report reported : Si
 pub record IsDone (code : ℕ) (report reported : SinkState) : Type 0 where
   pub status : code ≡ 0
   pub same : reported ≡ report
-
--- the failure for which words are refused
-abbrev pub words_failure : WordsFault → Failure
-words_failure words.NotRead = failures.NotRead
-words_failure (words.BadNumber name) = failures.BadNumber name
-words_failure (words.BadPair number) = failures.BadPair number
-words_failure words.Memory = failures.Memory
 
 -- of words that are refused so
 abbrev pub RefusesWords : WordsFault → ℕ → SinkState → SinkState → Type 0

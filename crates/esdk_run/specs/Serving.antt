@@ -16,7 +16,7 @@ use Rattle.keyring_trait.specs.Unlocking.{pair_offence}
 use Rattle.keyring_trait.specs.Wrapping.{first_some, ivs_of, made}
 use Rattle.cmm_caching.specs.Limits.{LimitsValue}
 use Rattle.esdk_encrypt.specs.Told.{NoneFor}
-use Rattle.esdk_batch.specs.Managing.{Managing}
+use Rattle.keyring_trait.specs.Saying.{Saying}
 use Rattle.esdk_run.specs.Decrypt.{OpensNone}
 
 -- ---- to encrypt with
@@ -84,13 +84,13 @@ TreeServesNone tree left request managers.Memory = ⊤
 
 -- over a tree that means this before the batch and that after it, with a cache of these limits, or
 -- none
-abbrev pub managing_over : Option LimitsValue → KeyringMeaning → KeyringMeaning → Managing
+abbrev pub managing_over : Option LimitsValue → KeyringMeaning → KeyringMeaning → Saying
 managing_over cache tree left = record {
   wraps = tree.wraps;
-  gives = TreeServes cache tree;
+  gives = λ wish now. TreeServes cache tree wish;
   gives_none = λ wish error. NoneFor (refusal_over wish.context tree) tree.faults left.faults error;
-  answering =
-      record { finds = TreeServesHeader cache tree left; finds_none = TreeServesNone tree left };
+  finds = λ request now. TreeServesHeader cache tree left request;
+  finds_none = TreeServesNone tree left;
 }
 
 -- What a batch leaves of a tree: all that it tells and means, but for the count of its failures.

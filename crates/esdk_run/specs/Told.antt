@@ -21,10 +21,10 @@ use Rattle.whole_input.specs.File.{most_file}
 use Rattle.message_format.specs.Judgement.{content}
 use Rattle.esdk_encrypt.specs.Laws.{FitsMessage, GainsMessage}
 use Rattle.esdk_decrypt.specs.Decrypt.{fault_at_end}
-use Rattle.esdk_decrypt.specs.Laws.{IsWholeInput, IsWholeMessage, IsWrittenFor, Written, message_of}
+use Rattle.esdk_decrypt.specs.Laws.{IsWholeInput, IsWholeMessage, IsWrittenFor, Written, written_message}
 use Rattle.esdk_decrypt.specs.Told.{judged_by}
 use Rattle.esdk_run.specs.Decrypt.{reader_of}
-use Rattle.esdk_run.specs.Encrypt.{refusal_asked, writer_of}
+use Rattle.esdk_run.specs.Encrypt.{refusal_asked, run_writer}
 use Rattle.esdk_run.specs.Migrate.{value_asked}
 use Rattle.esdk_run.specs.Objects.{Objects}
 use Rattle.esdk_run.specs.Pairs.{context_in}
@@ -97,7 +97,7 @@ abbrev pub WritesTheMessage : Trees → EncryptWords → Objects → Objects →
 WritesTheMessage trees asked before after code = (context : List KeyValue) (left : KeyringMeaning) (keys : List WrapKeyValue) (text written : List ℕ)
     → context_in asked.pairs ≡ Ok context → trees.kept ≡ Some left → left.keys ≡ Some keys
     → before.input.left ≡ Some text → before.output.written ≡ Some written → code ≡ 0
-    → GainsMessage (writer_of asked context keys) text written before.entropy after.output
+    → GainsMessage (run_writer asked context keys) text written before.entropy after.output
 
 -- ---- `decrypt`, where the tree tells its keys and no keyring of it failed
 
@@ -148,7 +148,7 @@ pub record GivesBack (text : List ℕ) (context : List KeyValue) (before after :
 abbrev pub ReadsBack : Trees → DecryptWords → Objects → Objects → ℕ → Type 0
 ReadsBack trees asked before after code = (given : List KeyValue) (keys writers : List WrapKeyValue) (m : Written)
     → Reads trees asked given keys → IsWrittenFor (reader_of asked given keys) writers m
-    → before.input.left ≡ Some (message_of m) → length (message_of m) < 2 ^ 62
+    → before.input.left ≡ Some (written_message m) → length (written_message m) < 2 ^ 62
     → IfNoneFailed trees asked.keyring before.shelf after.shelf
     ((code ≡ 0 → GivesBack m.text m.context before after code) × (NothingFails before after → IsDoneOrMemory code))
 

@@ -74,7 +74,7 @@ pub record IsUntouched (trees : Trees) (unchanged : Type 0) : Type 0 where
 
 -- ---- the trees of a run that was handed these plugs
 
-abbrev means : {P : Type 0} → (P → KeyringMeaning) → Result (Forest P) FileRefusal → Result (List KeyringMeaning) FileRefusal
+abbrev pub means : {P : Type 0} → (P → KeyringMeaning) → Result (Forest P) FileRefusal → Result (List KeyringMeaning) FileRefusal
 means meaning (Ok forest) = Ok (meanings meaning forest)
 means meaning (Err refusal) = Err refusal
 

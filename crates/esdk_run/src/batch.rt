@@ -1,32 +1,32 @@
 //! The command `batch`.
-ghost use Rattle.std.specs.Prelude.{◌≡◌, ◌<◌, ◌^◌, is_some, length, IfErr, IfOk, Ok};
+ghost use Rattle.std.specs.Prelude.{◌≡◌, ◌<◌, ◌^◌, ⊤, is_some, true, length, IfErr, IfOk, Ok};
 ghost use Rattle.esdk_base.specs.Streams.{SinkState, SourceState};
 ghost use Rattle.esdk_batch.specs.Batch.{OnlyWritten};
 ghost use Rattle.esdk_batch.specs.Failures.{CountsFailures, tally_of};
-ghost use Rattle.esdk_run.specs.Ages.{ServesFileInTime, ServesInTime, ShowsAges};
+ghost use Rattle.esdk_run.specs.Ages.{KeepsAges, ServesFileInTime, ServesInTime, ShowsAges};
 ghost use Rattle.esdk_run.specs.Batch.{BatchFails, JobsAre, JobsFail, ReportFails, RunsJobFile, RunsWithin, WritesReport, jobs_in, status_of};
 ghost use Rattle.esdk_run.specs.FileReading.{FileFails, ReadCause};
-ghost use Rattle.esdk_run.specs.Objects.{objects};
-ghost use Rattle.esdk_run.specs.Run.{RunsAllJobs};
+ghost use Rattle.esdk_run.specs.Objects.{as_before, objects};
+ghost use Rattle.esdk_run.specs.Run.{BatchRuns, RunsAllJobs, is_status};
 ghost use Rattle.esdk_run.specs.Serving.{TreeOutlasts, managing_over};
-ghost use Rattle.esdk_run.specs.Trees.{IsLawful, trees_of};
+ghost use Rattle.esdk_run.specs.Trees.{trees_of};
 
+use crate::failures::{file_failure, tree_failure};
 use crate::keyring_input::read_keyring;
-use crate::outcome::{Outcome, without_tree};
+use crate::outcome::{Ended, Outcome, without_tree};
 use batch_report::{BatchReport, report_text};
 use cmm_caching::CachingCmm;
 use cmm_default::DefaultCmm;
 use desk_core::Desk;
 use esdk_base::{Clock, Entropy, Shelf, Sink};
-use esdk_batch::run_batch;
-use esdk_fields::{FileRefusal, Outside};
-use esdk_report::{Failure, Status};
+use esdk_fields::{Outside, Text};
+use esdk_report::{Failure, Status, report_failure};
 use job_file::{Jobs, read_jobs};
-use keyring_file::{Plug, TreeError};
+use keyring_file::Plug;
 use keyring_trait::{Keyring, Manager};
 use multi_keyring::Node;
 use std::alloc::{AllocError, Global};
-use whole_input::{FileError, take_file};
+use whole_input::take_file;
 
 /// Runs the jobs of the job file of this name over the tree that its keyring file is read as, and
 /// writes the report of what they came to. The status says whether all are done. The tree is given
@@ -34,7 +34,50 @@ use whole_input::{FileError, take_file};
 ///
 /// The job file is read first, then the keyring file; then the jobs have their turns; then all of
 /// the report is written at once (`SinkFault`).
-pub fn batch_jobs<P: Keyring, O: Sink, F: Shelf, W: Entropy, C: Clock>(
+pub fn run_batch<P: Keyring, O: Sink, R: Sink, F: Shelf, W: Entropy, C: Clock>(
+    alloc: Global,
+    name: &Text,
+    output: &mut O,
+    report: &mut R,
+    shelf: &mut F,
+    entropy: &mut W,
+    clock: &mut C,
+    plugs: Vec<Plug<P>>,
+) -> Ended<P>
+    requires plugs { length plugs.items < 2 ^ 24 }
+    ensures status { is_status result.status.code ≡ true }
+    ensures runs { (input : SourceState)
+        → BatchRuns (trees_of P.meaning plugs.items result.tree) name.now
+        (objects input (O.state output.old) (F.state shelf.old)
+        (W.state entropy.old) (R.state report.old))
+        (objects input (O.state output.new) (F.state shelf.new)
+        (W.state entropy.new) (R.state report.new))
+        (as_before ⊤ (output.new ≡ output.old) (shelf.new ≡ shelf.old) (entropy.new ≡ entropy.old))
+        result.status.code }
+    ensures ages { KeepsAges name.now (F.state shelf.old) (O.state output.old) (O.state output.new)
+        (C.moments clock.old) (C.moments clock.new) result.status.code }
+{
+    let Outcome { ended, tree } = batch_jobs(
+        alloc,
+        name.as_str(),
+        output,
+        shelf,
+        entropy,
+        clock,
+        plugs,
+    );
+    match ended {
+        Ok(status) => Ended { status, tree },
+        Err(failure) => Ended {
+            status: report_failure(alloc, &failure, report),
+            tree,
+        },
+    }
+}
+
+/// Runs the jobs of the job file of this name over the tree that its keyring file is read as, and
+/// writes the report of what they came to. The status says whether all are done.
+fn batch_jobs<P: Keyring, O: Sink, F: Shelf, W: Entropy, C: Clock>(
     alloc: Global,
     name: &str,
     output: &mut O,
@@ -159,9 +202,7 @@ fn read_job_file<F: Shelf>(alloc: Global, shelf: &mut F, name: &str) -> Result<J
 {
     match take_file(alloc, shelf, name) {
         Ok(bytes) => jobs_in(alloc, bytes.bytes(), name),
-        Err(FileError::Shelf) => Err(Failure::Outside(Outside::ShelfFault)),
-        Err(FileError::TooLong) => Err(Failure::File(FileRefusal::FileTooLong)),
-        Err(FileError::Memory) => Err(Failure::Memory),
+        Err(error) => Err(file_failure(error)),
     }
 }
 
@@ -172,8 +213,7 @@ fn jobs_in(alloc: Global, bytes: &[u8], name: &str) -> Result<Jobs, Failure>
 {
     match read_jobs(alloc, bytes, name) {
         Ok(jobs) => Ok(jobs),
-        Err(TreeError::File(refusal)) => Err(Failure::File(refusal)),
-        Err(TreeError::Memory) => Err(Failure::Memory),
+        Err(error) => Err(tree_failure(error)),
     }
 }
 
@@ -200,15 +240,12 @@ fn run_over<K: Keyring, F: Shelf, W: Entropy, C: Clock>(
         (K.meaning outcome.tree).faults))) }
     ensures others { OnlyWritten jobs.now.jobs (F.state shelf.old).files (F.state shelf.new).files }
     ensures told { is_some (F.state shelf.new).files ≡ is_some (F.state shelf.old).files }
-    ensures lawful { IsLawful (K.meaning tree) }
 {
-    // Called for its clauses alone, which say what every keyring keeps.
-    let _wraps = tree.wraps();
     let manager = CachingCmm::new(alloc, DefaultCmm::new(tree), jobs.cache())?;
     // Called for its clauses alone, which say what every manager keeps.
     let _entries = manager.wraps();
     let mut desk = Desk::new(alloc, manager);
-    let ended = run_batch(alloc, jobs, &mut desk, shelf, entropy, clock);
+    let ended = esdk_batch::run_batch(alloc, jobs, &mut desk, shelf, entropy, clock);
     // Called for its clause alone, which says that the journal is within the limits of the cache.
     let _journal = desk.journal();
     Ok(Outcome {

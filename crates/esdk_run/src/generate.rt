@@ -1,15 +1,36 @@
 //! The command `gen`.
-ghost use Rattle.std.specs.Prelude.{◌≤◌, ◌≡◌, IfErr, OnOk};
+ghost use Rattle.std.specs.Prelude.{◌≤◌, ◌≡◌, true, IfErr, OnOk};
 ghost use Rattle.esdk_run.specs.Generate.{GenFails, WritesLine};
+ghost use Rattle.esdk_run.specs.Run.{EndsBy, is_status};
 
 use esdk_base::Sink;
 use esdk_fields::Outside;
 use esdk_gen::gen_text;
-use esdk_report::Failure;
+use esdk_report::{Failure, Status, report_failure};
 use std::alloc::Global;
 
-/// Writes the line of the generated message of this seed and this size, at once (`SinkFault`).
-pub fn generate_line<O: Sink>(
+/// Writes the line of the generated message of this seed and this size.
+pub fn run_gen<O: Sink, R: Sink>(
+    alloc: Global,
+    seed: u64,
+    size: u64,
+    output: &mut O,
+    report: &mut R,
+) -> Status
+    requires { size ≤ 67108864 }
+    ensures status { is_status result.code ≡ true }
+    ensures runs { EndsBy (WritesLine seed size (O.state output.old) (O.state output.new))
+        (GenFails seed size (O.state output.old) (O.state output.new) (output.new ≡ output.old))
+        result.code (R.state report.old) (R.state report.new) }
+{
+    match generate_line(alloc, seed, size, output) {
+        Ok(()) => Status::DONE,
+        Err(failure) => report_failure(alloc, &failure, report),
+    }
+}
+
+/// Writes that line, at once (`SinkFault`).
+fn generate_line<O: Sink>(
     alloc: Global,
     seed: u64,
     size: u64,

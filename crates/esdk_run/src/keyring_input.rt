@@ -2,16 +2,16 @@
 ghost use Rattle.std.specs.Prelude.{◌≡◌, ◌<◌, ◌^◌, [], ◌∷◌, length, IfErr, IfOk, Ok};
 ghost use Rattle.multi_keyring.specs.Tree.{tree_meaning};
 ghost use Rattle.esdk_run.specs.FileReading.{FileFails, ReadCause};
-ghost use Rattle.esdk_run.specs.Trees.{TreeIs, reading};
+ghost use Rattle.esdk_run.specs.Trees.{IsLawful, TreeIs, reading};
 
+use crate::failures::{file_failure, tree_failure};
 use esdk_base::Shelf;
-use esdk_fields::{FileRefusal, Outside};
 use esdk_report::Failure;
-use keyring_file::{Plug, TreeError, read_tree};
+use keyring_file::{Plug, read_tree};
 use keyring_trait::Keyring;
 use multi_keyring::Node;
 use std::alloc::Global;
-use whole_input::{FileError, take_file};
+use whole_input::take_file;
 
 /// The keyring tree that the file of this name is read as, in which the plugs stand where the file
 /// names them. The shelf stays as it is.
@@ -27,15 +27,14 @@ pub fn read_keyring<P: Keyring, F: Shelf>(
     requires plugs { length plugs.items < 2 ^ 24 }
     ensures tree { IfOk result (λ tree. TreeIs (reading P.meaning plugs.items) (F.state shelf.old)
         (F.state shelf.new) name.now (tree_meaning P.meaning tree)) }
+    ensures lawful { IfOk result (λ tree. IsLawful (tree_meaning P.meaning tree)) }
     ensures cause { IfErr result (FileFails (reading P.meaning plugs.items) (F.state shelf.old)
         (F.state shelf.new) name.now) }
     ensures stays { (F.state shelf.new).files ≡ (F.state shelf.old).files }
 {
     match take_file(alloc, shelf, name) {
         Ok(bytes) => tree_in(alloc, bytes.bytes(), plugs),
-        Err(FileError::Shelf) => Err(Failure::Outside(Outside::ShelfFault)),
-        Err(FileError::TooLong) => Err(Failure::File(FileRefusal::FileTooLong)),
-        Err(FileError::Memory) => Err(Failure::Memory),
+        Err(error) => Err(file_failure(error)),
     }
 }
 
@@ -44,11 +43,15 @@ fn tree_in<P: Keyring>(alloc: Global, bytes: &[u8], plugs: Vec<Plug<P>>) -> Resu
     requires plugs { length plugs.items < 2 ^ 24 }
     ensures tree { IfOk result (λ tree. reading P.meaning plugs.items bytes.now ≡ Ok
         (tree_meaning P.meaning tree ∷ [])) }
+    ensures lawful { IfOk result (λ tree. IsLawful (tree_meaning P.meaning tree)) }
     ensures cause { IfErr result (ReadCause (reading P.meaning plugs.items) bytes.now) }
 {
     match read_tree(alloc, bytes, plugs) {
-        Ok(tree) => Ok(tree),
-        Err(TreeError::File(refusal)) => Err(Failure::File(refusal)),
-        Err(TreeError::Memory) => Err(Failure::Memory),
+        Ok(tree) => {
+            // Called for its clauses alone, which say what every keyring keeps.
+            let _wraps = tree.wraps();
+            Ok(tree)
+        }
+        Err(error) => Err(tree_failure(error)),
     }
 }

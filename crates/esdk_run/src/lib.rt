@@ -3,16 +3,17 @@
 #![tactic(auto)]
 
 mod batch;
-mod commands;
 mod decrypt;
 mod encrypt;
+mod failures;
 mod generate;
 mod keyring_input;
+mod list;
 mod migrate;
 mod outcome;
 mod pair_input;
+mod prepared;
 mod top_call;
-mod words;
 
 pub use outcome::Ended;
 pub use top_call::run;

@@ -1,15 +1,17 @@
 //! The command `migrate`.
-ghost use Rattle.std.specs.Prelude.{◌≡◌, IfErr, IfOk, OnOk};
+ghost use Rattle.std.specs.Prelude.{◌≡◌, true, IfErr, IfOk, OnOk};
 ghost use Rattle.esdk_run.specs.FileReading.{FileFails, ReadCause};
 ghost use Rattle.esdk_run.specs.Migrate.{IsMigrated, IsTextOf, MigrateFails, WritesMigrated, value_asked};
+ghost use Rattle.esdk_run.specs.Run.{EndsBy, is_status};
 
+use crate::failures::{file_failure, tree_failure};
 use esdk_args::MigrateWords;
 use esdk_base::{Shelf, Sink};
-use esdk_fields::{Blob, FileRefusal, Outside};
-use esdk_report::Failure;
-use keyring_file::{TreeError, migrate};
+use esdk_fields::{Blob, Outside};
+use esdk_report::{Failure, Status, report_failure};
+use keyring_file::migrate;
 use std::alloc::Global;
-use whole_input::{FileError, take_file};
+use whole_input::take_file;
 
 /// Writes the keyring file in version 2, with the key retired whose number the words give. The
 /// shelf stays as it is.
@@ -17,7 +19,29 @@ use whole_input::{FileError, take_file};
 /// The file is taken first (`ShelfFault` where a read failed or the file isn't there, `FileTooLong`
 /// where it has more than 1,048,576 bytes); then its bytes are judged; then all of its text is
 /// written at once (`SinkFault`).
-pub fn migrate_file<O: Sink, F: Shelf>(
+pub fn run_migrate<O: Sink, R: Sink, F: Shelf>(
+    alloc: Global,
+    asked: &MigrateWords,
+    output: &mut O,
+    report: &mut R,
+    shelf: &mut F,
+) -> Status
+    ensures status { is_status result.code ≡ true }
+    ensures runs { EndsBy (WritesMigrated asked.now (F.state shelf.old) (F.state shelf.new)
+        (O.state output.old) (O.state output.new))
+        (MigrateFails asked.now (F.state shelf.old) (F.state shelf.new)
+        (O.state output.old) (O.state output.new) (output.new ≡ output.old))
+        result.code (R.state report.old) (R.state report.new) }
+    ensures files { (F.state shelf.new).files ≡ (F.state shelf.old).files }
+{
+    match migrate_file(alloc, asked, output, shelf) {
+        Ok(()) => Status::DONE,
+        Err(failure) => report_failure(alloc, &failure, report),
+    }
+}
+
+/// Writes that text, at once (`SinkFault`).
+fn migrate_file<O: Sink, F: Shelf>(
     alloc: Global,
     asked: &MigrateWords,
     output: &mut O,
@@ -48,9 +72,7 @@ fn file_text<F: Shelf>(alloc: Global, asked: &MigrateWords, shelf: &mut F) -> Re
 {
     match take_file(alloc, shelf, asked.keyring.as_str()) {
         Ok(bytes) => text_of(alloc, asked, bytes.bytes()),
-        Err(FileError::Shelf) => Err(Failure::Outside(Outside::ShelfFault)),
-        Err(FileError::TooLong) => Err(Failure::File(FileRefusal::FileTooLong)),
-        Err(FileError::Memory) => Err(Failure::Memory),
+        Err(error) => Err(file_failure(error)),
     }
 }
 
@@ -61,7 +83,6 @@ fn text_of(alloc: Global, asked: &MigrateWords, bytes: &[u8]) -> Result<Blob, Fa
 {
     match migrate(alloc, bytes, asked.retire) {
         Ok(text) => Ok(text),
-        Err(TreeError::File(refusal)) => Err(Failure::File(refusal)),
-        Err(TreeError::Memory) => Err(Failure::Memory),
+        Err(error) => Err(tree_failure(error)),
     }
 }

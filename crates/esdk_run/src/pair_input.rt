@@ -1,10 +1,9 @@
 //! The context and the required keys that the words of a command give.
 ghost use Rattle.std.specs.Prelude.{◌≡◌, Ok, IfErr, IfOk, OnOk, option_to_list};
-ghost use Rattle.esdk_run.specs.Pairs.{GivesContext, IsPairsFailure, RefusesPairs, context_in, inserted, pair_in, required_in};
+ghost use Rattle.esdk_run.specs.Pairs.{GivesContext, RefusesPairs, context_in, inserted, pair_in, required_in};
 
 use context_codec::{Context, KeySet, PairError};
 use esdk_args::PairWord;
-use esdk_report::Failure;
 use std::alloc::{AllocError, Global};
 
 /// The context of the pairs of these words, which are inserted in the order of the words.
@@ -52,14 +51,4 @@ pub fn required_of(alloc: Global, words: &[PairWord]) -> Result<KeySet, AllocErr
         }
     }
     Ok(KeySet::of(keys))
-}
-
-/// What refused pairs are called in the program.
-pub fn pairs_failure(error: PairError) -> Failure
-    ensures { IsPairsFailure error result }
-{
-    match error {
-        PairError::Refusal(refusal) => Failure::Refusal(refusal),
-        PairError::Memory => Failure::Memory,
-    }
 }

@@ -1,11 +1,11 @@
 //! Wraps over the context with the one pair `tenant`=`acme`, made by AES-256-GCM of Python's
-//! `cryptography` (over OpenSSL): the wrapping keys have the bytes 00 to 1f and 20 to 3f, the
-//! namespace `ns` and the name `k`, and the data key and the initialization vector have the bytes
-//! 22.
+//! `cryptography` (over OpenSSL): the wrapping keys have the bytes 00 to 1f, 20 to 3f and 40 to 5f,
+//! the namespace `ns` and the name `k`, and the data key and the initialization vector have the
+//! bytes 22.
 
 use context_codec::Context;
 use edk_codec::DataKeyEntry;
-use keyring_trait::{Keyring, Wrapped};
+use keyring_trait::{DataKey, Keyring, RingError, Wrapped};
 use raw_aes_keyring::RawAes;
 use std::alloc::Global;
 
@@ -30,6 +30,15 @@ pub(crate) fn other_key() -> [u8; 32] {
         0x20, 0x21, 0x22, 0x23, 0x24, 0x25, 0x26, 0x27, 0x28, 0x29, 0x2a, 0x2b, 0x2c, 0x2d, 0x2e,
         0x2f, 0x30, 0x31, 0x32, 0x33, 0x34, 0x35, 0x36, 0x37, 0x38, 0x39, 0x3a, 0x3b, 0x3c, 0x3d,
         0x3e, 0x3f,
+    ]
+}
+
+/// The bytes of the third wrapping key.
+fn third_key() -> [u8; 32] {
+    [
+        0x40, 0x41, 0x42, 0x43, 0x44, 0x45, 0x46, 0x47, 0x48, 0x49, 0x4a, 0x4b, 0x4c, 0x4d, 0x4e,
+        0x4f, 0x50, 0x51, 0x52, 0x53, 0x54, 0x55, 0x56, 0x57, 0x58, 0x59, 0x5a, 0x5b, 0x5c, 0x5d,
+        0x5e, 0x5f,
     ]
 }
 
@@ -62,12 +71,37 @@ pub(crate) fn other_cipher() -> [u8; 48] {
     ]
 }
 
-/// The keyring of the first wrapping key. None where memory runs out.
-pub(crate) fn known_ring(alloc: Global) -> Option<RawAes> {
-    match RawAes::new(alloc, "ns", "k", wrapping_key()) {
+/// The data key wrapped under the third wrapping key, with the tag.
+pub(crate) fn third_cipher() -> [u8; 48] {
+    [
+        0xd9, 0x36, 0x4c, 0x75, 0x77, 0x75, 0x8c, 0x68, 0xcc, 0xbe, 0x8e, 0xe1, 0x8a, 0xa2, 0xa5,
+        0x22, 0x77, 0x06, 0xb6, 0x03, 0x3b, 0x10, 0x5c, 0x16, 0x6e, 0xd9, 0x7c, 0x7e, 0xb3, 0x8a,
+        0x04, 0x0b, 0x86, 0x70, 0x6d, 0x1f, 0x03, 0x55, 0x10, 0xa8, 0x60, 0xe1, 0x39, 0xdc, 0xe5,
+        0x15, 0xad, 0xdb,
+    ]
+}
+
+/// The keyring of this wrapping key. None where memory runs out.
+fn ring_of(alloc: Global, key: [u8; 32]) -> Option<RawAes> {
+    match RawAes::new(alloc, "ns", "k", key) {
         Ok(ring) => Some(ring),
         Err(_) => None,
     }
+}
+
+/// The keyring of the first wrapping key. None where memory runs out.
+pub(crate) fn known_ring(alloc: Global) -> Option<RawAes> {
+    ring_of(alloc, wrapping_key())
+}
+
+/// The keyring of the other wrapping key. None where memory runs out.
+pub(crate) fn other_ring(alloc: Global) -> Option<RawAes> {
+    ring_of(alloc, other_key())
+}
+
+/// The keyring of the third wrapping key. None where memory runs out.
+pub(crate) fn third_ring(alloc: Global) -> Option<RawAes> {
+    ring_of(alloc, third_key())
 }
 
 /// The pair that the known wraps are made over.
@@ -93,20 +127,21 @@ fn known_entry(alloc: Global, cipher: &[u8; 48]) -> Option<DataKeyEntry> {
     }
 }
 
-/// This entry alone, in a row. None where memory runs out.
-fn row_of(alloc: Global, entry: DataKeyEntry) -> Option<Vec<DataKeyEntry>> {
-    let mut entries = Vec::new(alloc);
-    match entries.push(entry) {
-        Ok(()) => Some(entries),
-        Err(_) => None,
+/// Whether the entry of this ciphertext stands behind the others now.
+pub(crate) fn pushed(alloc: Global, entries: &mut Vec<DataKeyEntry>, cipher: &[u8; 48]) -> bool {
+    match known_entry(alloc, cipher) {
+        Some(entry) => entries.push(entry).is_ok(),
+        None => false,
     }
 }
 
 /// The entry of this ciphertext alone, in a row. None where memory runs out.
 pub(crate) fn known_entries(alloc: Global, cipher: &[u8; 48]) -> Option<Vec<DataKeyEntry>> {
-    match known_entry(alloc, cipher) {
-        Some(entry) => row_of(alloc, entry),
-        None => None,
+    let mut entries = Vec::new(alloc);
+    if pushed(alloc, &mut entries, cipher) {
+        Some(entries)
+    } else {
+        None
     }
 }
 
@@ -151,15 +186,9 @@ pub(crate) fn wraps<K: Keyring>(alloc: Global, keyring: &mut K, cipher: &[u8; 48
     }
 }
 
-/// Whether a keyring finds the data key in these entries over this context, or finds no key. None
-/// where it fails, or finds another key.
-fn opened_over<K: Keyring>(
-    alloc: Global,
-    keyring: &mut K,
-    context: &Context,
-    entries: &[DataKeyEntry],
-) -> Option<bool> {
-    match keyring.on_decrypt(alloc, context, entries) {
+/// Whether the answer is the data key, or no key. None where it is an error or another key.
+pub(crate) fn found(answer: Result<Option<DataKey>, RingError>) -> Option<bool> {
+    match answer {
         Ok(Some(key)) if *key.bytes() == DATA_KEY => Some(true),
         Ok(None) => Some(false),
         _ => None,
@@ -175,5 +204,5 @@ pub(crate) fn opened<K: Keyring>(
 ) -> Option<bool> {
     let context = context_of(alloc, &TENANT)?;
     let entries = known_entries(alloc, cipher)?;
-    opened_over(alloc, keyring, &context, &entries)
+    found(keyring.on_decrypt(alloc, &context, &entries))
 }

@@ -22,9 +22,13 @@ mod desk;
 #[cfg(test)]
 mod file_keyrings;
 #[cfg(test)]
+mod headers;
+#[cfg(test)]
 mod keyrings;
 #[cfg(test)]
 mod known_wraps;
+#[cfg(test)]
+mod leaves;
 #[cfg(test)]
 mod managers;
 #[cfg(test)]

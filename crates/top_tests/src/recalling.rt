@@ -35,22 +35,12 @@ type Cached = CachingCmm<Recalling<DefaultCmm<RawAes>>>;
 impl<M: Manager> Manager for Recalling<M> {
     ghost use Rattle.std.specs.Prelude.{◌≡◌, Some};
 
-    ghost meaning = { λ r. M.meaning r.manager };
-
-    ghost tells = { λ r. M.tells r.manager };
-
-    ghost exact = { λ r. M.exact r.manager };
-
-    ghost bears = { λ r. M.bears r.manager };
-
-    ghost within = { λ r. M.within r.manager };
-
-    /// It recalls the key of these materials, and this moment.
-    ghost gave = { λ r request now random made. r.gave ≡ Some
-        (record { key = made.key; moment = now }) };
-
-    ghost found = { λ r request now found. r.found ≡ Some
-        (record { key = found.key; moment = now }) };
+    /// It is what the manager that it asks is, but for the last answers: it recalls the key of these
+    /// materials, and this moment.
+    ghost state = { λ r. record (M.state r.manager) {
+      gave = λ request now random made. r.gave ≡ Some (record { key = made.key; moment = now });
+      found = λ request now found. r.found ≡ Some (record { key = found.key; moment = now });
+    } };
 
     fn wraps(&self) -> u32 {
         self.manager.wraps()

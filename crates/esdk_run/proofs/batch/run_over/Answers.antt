@@ -16,7 +16,7 @@ returns-clause-runs g c =
     c.new-desk.result.journal.items c.run_batch-ended.new.desk.journal.items c.journal-journal.result.now c.run_batch-ended.result
     c.new-desk.ensures.manager c.in_ok-manager.ensures.inner c.new.ensures (c.into_ring.ensures ∙ c.into_inner.ensures ∙ (λ i. (c.into_manager.ensures i).0)) begins
     c.new-desk.ensures.stands.journal c.journal-journal.ensures.journal
-    (c.run_batch-ended.ensures.limits c.journal-journal.result.now (c.journal-journal.ensures.within (c.run_batch-ended.ensures.bears c.new-desk.ensures.bears)))
+    (c.run_batch-ended.ensures.went.limits c.journal-journal.result.now (c.journal-journal.ensures.within (c.run_batch-ended.ensures.bears c.new-desk.ensures.bears)))
     (c.run_batch-ended.ensures.runs empty_desk c.new-desk.ensures.stands)
 
 pub returns-clause-ages : goal.returns-clause-ages
@@ -25,7 +25,7 @@ returns-clause-ages g c =
     c.new-desk.result.journal.items c.run_batch-ended.new.desk.journal.items c.journal-journal.result.now (g.C.Clock.moments c.args.clock.now) (g.C.Clock.moments c.run_batch-ended.new.clock)
     (limits_of c.new-desk.result.manager.1) c.run_batch-ended.result c.new-desk.ensures.stands.journal c.journal-journal.ensures.journal
     (ap (λ (v : g.row.K.Denot × Option Store). limits_of v.1) c.new-desk.ensures.manager ∙ c.in_ok-manager.ensures.limits ∙ c.cache.ensures)
-    (c.run_batch-ended.ensures.limits c.journal-journal.result.now (c.journal-journal.ensures.within (c.run_batch-ended.ensures.bears c.new-desk.ensures.bears)))
+    (c.run_batch-ended.ensures.went.limits c.journal-journal.result.now (c.journal-journal.ensures.within (c.run_batch-ended.ensures.bears c.new-desk.ensures.bears)))
     c.run_batch-ended.ensures.moments (c.run_batch-ended.ensures.runs empty_desk c.new-desk.ensures.stands)
 
 pub returns-clause-goes : goal.returns-clause-goes
@@ -34,7 +34,7 @@ returns-clause-goes g c =
     record { limits = c.in_ok-manager.ensures.limits ∙ c.cache.ensures; tells = c.in_ok-manager.ensures.tells; exact = c.in_ok-manager.ensures.exact tt } in
     outlasts_over g.K.Keyring.meaning c.args.jobs.now.cache c.new.result c.args.tree c.into_ring.result c.in_ok-manager.manager c.new-desk.result.manager c.run_batch-ended.new.desk.manager
     c.new-desk.ensures.manager c.in_ok-manager.ensures.inner c.new.ensures (c.into_ring.ensures ∙ c.into_inner.ensures ∙ (λ i. (c.into_manager.ensures i).0)) begins
-    c.run_batch-ended.ensures.goes c.run_batch-ended.ensures.tells c.run_batch-ended.ensures.same
+    c.run_batch-ended.ensures.went
 
 pub returns-clause-failures : goal.returns-clause-failures
 returns-clause-failures g c =

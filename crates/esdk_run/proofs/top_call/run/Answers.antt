@@ -1,48 +1,96 @@
-use Rattle.std.proofs.Common.{ap}
-use Rattle.esdk_run.proofs.Asked.{comes_back, done_asked, encrypt_asked, judgement_asked, judgements_asked, jobs_asked, limits_asked, line_asked, migration_asked, others_asked, reads_asked, round_trip_asked, whole_asked}
-use Rattle.esdk_run.proofs.Encryption.{encrypts_what_fits, writes_the_message}
+use Rattle.std.proofs.Common.{ap, refl}
+use Rattle.esdk_args.specs.declared.request.Request.TheVariants as requests
+use Rattle.esdk_run.proofs.Keeping.{batch_keeps, decrypt_keeps, encrypt_keeps, gen_keeps, list_keeps, migrate_keeps, refused_keeps}
+use Rattle.esdk_run.proofs.Promising.{promised, refused_runs, runs_asked}
 use Rattle.esdk_run.proofs.top_call.run.Goals as goal
 
-pub returns-clause-message : goal.returns-clause-message
-returns-clause-message g c = λ asked is.
-    writes_the_message _ asked _ _ _ _ (encrypt_asked _ _ asked _ _ _ _ is c.carry_out.ensures.runs)
+-- ---- `list`
 
-pub returns-clause-fits : goal.returns-clause-fits
-returns-clause-fits g c = λ asked is.
-    encrypts_what_fits _ asked _ _ _ _ (encrypt_asked _ _ asked _ _ _ _ is c.carry_out.ensures.runs)
+pub returns-in-Ok-List-clause-runs : goal.returns-in-Ok-List-clause-runs
+returns-in-Ok-List-clause-runs g c =
+    runs_asked _ _ (requests.List c.in-Ok-List.asked) _ _ _ _ (rw c.in-Ok-List.field-0-is at c.in-Ok-List.ensures.read)
+    (refl, c.run_list.ensures.runs)
 
-pub returns-clause-judgement : goal.returns-clause-judgement
-returns-clause-judgement g c = λ asked is. judgement_asked _ _ asked _ _ _ _ is c.carry_out.ensures.runs
+pub returns-in-Ok-List-clause-promises : goal.returns-in-Ok-List-clause-promises
+returns-in-Ok-List-clause-promises g c =
+    promised _ _ _ _ _ _ _ (λ same. ap g.O.Sink.state same) (returns-in-Ok-List-clause-runs g c)
+    (list_keeps _ c.in-Ok-List.asked _ _ _ _ _ (rw c.in-Ok-List.field-0-is at c.in-Ok-List.ensures.read)
+    refl refl refl refl c.run_list.ensures.taken c.run_list.ensures.judged)
 
-pub returns-clause-whole : goal.returns-clause-whole
-returns-clause-whole g c = λ asked is. whole_asked _ _ asked _ _ _ _ is c.carry_out.ensures.runs
+-- ---- `encrypt`
 
-pub returns-clause-round_trip : goal.returns-clause-round_trip
-returns-clause-round_trip g c = λ asked is. round_trip_asked _ _ asked _ _ _ _ is c.carry_out.ensures.runs
+pub returns-in-Ok-Encrypt-clause-runs : goal.returns-in-Ok-Encrypt-clause-runs
+returns-in-Ok-Encrypt-clause-runs g c =
+    runs_asked _ _ (requests.Encrypt c.in-Ok-Encrypt.asked) _ _ _ _ (rw c.in-Ok-Encrypt.field-0-is at c.in-Ok-Encrypt.ensures.read)
+    c.run_encrypt.ensures.runs
 
-pub returns-clause-tree : goal.returns-clause-tree
-returns-clause-tree g c = comes_back _ _ _ _ _ _ c.carry_out.ensures.runs
+pub returns-in-Ok-Encrypt-clause-promises : goal.returns-in-Ok-Encrypt-clause-promises
+returns-in-Ok-Encrypt-clause-promises g c =
+    promised _ _ _ _ _ _ _ (λ same. ap g.O.Sink.state same) (returns-in-Ok-Encrypt-clause-runs g c)
+    (encrypt_keeps _ c.in-Ok-Encrypt.asked _ _ _ _ _ (rw c.in-Ok-Encrypt.field-0-is at c.in-Ok-Encrypt.ensures.read)
+    c.run_encrypt.ensures.files refl c.run_encrypt.ensures.taken)
 
-pub returns-clause-reads : goal.returns-clause-reads
-returns-clause-reads g c = λ asked is. reads_asked _ _ asked _ _ _ _ (λ same. ap g.O.Sink.state same) is c.carry_out.ensures.runs
+-- ---- `decrypt`
 
-pub returns-clause-migration : goal.returns-clause-migration
-returns-clause-migration g c = λ asked is. migration_asked _ _ asked _ _ _ _ is c.carry_out.ensures.runs
+pub returns-in-Ok-Decrypt-clause-runs : goal.returns-in-Ok-Decrypt-clause-runs
+returns-in-Ok-Decrypt-clause-runs g c =
+    runs_asked _ _ (requests.Decrypt c.in-Ok-Decrypt.asked) _ _ _ _ (rw c.in-Ok-Decrypt.field-0-is at c.in-Ok-Decrypt.ensures.read)
+    (c.run_decrypt.ensures.runs (g.W.Entropy.state c.args.entropy.now))
 
-pub returns-clause-limits : goal.returns-clause-limits
-returns-clause-limits g c = λ name is. limits_asked _ _ name _ _ _ _ is c.carry_out.ensures.runs
+pub returns-in-Ok-Decrypt-clause-promises : goal.returns-in-Ok-Decrypt-clause-promises
+returns-in-Ok-Decrypt-clause-promises g c =
+    promised _ _ _ _ _ _ _ (λ same. ap g.O.Sink.state same) (returns-in-Ok-Decrypt-clause-runs g c)
+    (decrypt_keeps _ c.in-Ok-Decrypt.asked _ _ _ _ _ (rw c.in-Ok-Decrypt.field-0-is at c.in-Ok-Decrypt.ensures.read)
+    c.run_decrypt.ensures.files refl refl c.run_decrypt.ensures.taken)
 
-pub returns-clause-others : goal.returns-clause-others
-returns-clause-others g c = λ name is. others_asked _ _ name _ _ _ _ is c.carry_out.ensures.runs
+-- ---- `migrate`
 
-pub returns-clause-batch : goal.returns-clause-batch
-returns-clause-batch g c = λ name is. jobs_asked _ _ name _ _ _ _ is c.carry_out.ensures.runs
+pub returns-in-Ok-Migrate-clause-runs : goal.returns-in-Ok-Migrate-clause-runs
+returns-in-Ok-Migrate-clause-runs g c =
+    runs_asked _ _ (requests.Migrate c.in-Ok-Migrate.asked) _ _ _ _ (rw c.in-Ok-Migrate.field-0-is at c.in-Ok-Migrate.ensures.read)
+    (refl, c.run_migrate.ensures.runs)
 
-pub returns-clause-judgements : goal.returns-clause-judgements
-returns-clause-judgements g c = λ name is. judgements_asked _ _ name _ _ _ _ is c.carry_out.ensures.runs
+pub returns-in-Ok-Migrate-clause-promises : goal.returns-in-Ok-Migrate-clause-promises
+returns-in-Ok-Migrate-clause-promises g c =
+    promised _ _ _ _ _ _ _ (λ same. ap g.O.Sink.state same) (returns-in-Ok-Migrate-clause-runs g c)
+    (migrate_keeps _ c.in-Ok-Migrate.asked _ _ _ _ _ (rw c.in-Ok-Migrate.field-0-is at c.in-Ok-Migrate.ensures.read)
+    c.run_migrate.ensures.files refl refl refl refl)
 
-pub returns-clause-jobs : goal.returns-clause-jobs
-returns-clause-jobs g c = λ name is. done_asked _ _ name _ _ _ _ is c.carry_out.ensures.runs
+-- ---- `batch`
 
-pub returns-clause-generator : goal.returns-clause-generator
-returns-clause-generator g c = λ seed size is. line_asked _ _ seed size _ _ _ _ is c.carry_out.ensures.runs
+pub returns-in-Ok-Batch-clause-runs : goal.returns-in-Ok-Batch-clause-runs
+returns-in-Ok-Batch-clause-runs g c =
+    runs_asked _ _ (requests.Batch c.in-Ok-Batch.name) _ _ _ _ (rw c.in-Ok-Batch.field-0-is at c.in-Ok-Batch.ensures.read)
+    (c.run_batch.ensures.runs (g.S.Source.state c.args.input.now))
+
+pub returns-in-Ok-Batch-clause-promises : goal.returns-in-Ok-Batch-clause-promises
+returns-in-Ok-Batch-clause-promises g c =
+    promised _ _ _ _ _ _ _ (λ same. ap g.O.Sink.state same) (returns-in-Ok-Batch-clause-runs g c)
+    (batch_keeps _ c.in-Ok-Batch.name _ _ _ _ _ (rw c.in-Ok-Batch.field-0-is at c.in-Ok-Batch.ensures.read)
+    refl refl c.run_batch.ensures.ages)
+
+-- ---- `gen`
+
+pub returns-in-Ok-Gen-clause-runs : goal.returns-in-Ok-Gen-clause-runs
+returns-in-Ok-Gen-clause-runs g c =
+    runs_asked _ _ (requests.Gen c.in-Ok-Gen.seed c.in-Ok-Gen.size) _ _ _ _ (rw c.in-Ok-Gen.field-0-is at c.in-Ok-Gen.ensures.read)
+    (refl, c.run_gen.ensures.runs)
+
+pub returns-in-Ok-Gen-clause-promises : goal.returns-in-Ok-Gen-clause-promises
+returns-in-Ok-Gen-clause-promises g c =
+    promised _ _ _ _ _ _ _ (λ same. ap g.O.Sink.state same) (returns-in-Ok-Gen-clause-runs g c)
+    (gen_keeps _ c.in-Ok-Gen.seed c.in-Ok-Gen.size _ _ _ _ _ (rw c.in-Ok-Gen.field-0-is at c.in-Ok-Gen.ensures.read)
+    refl refl refl refl refl refl)
+
+-- ---- words that are refused
+
+pub returns-in-Err-clause-runs : goal.returns-in-Err-clause-runs
+returns-in-Err-clause-runs g c =
+    refused_runs _ _ c.in-Err.fault _ _ _ _ c.in-Err.ensures.read refl refl refl refl refl
+    (rw c.words_failure.ensures at c.report_failure.ensures)
+
+pub returns-in-Err-clause-promises : goal.returns-in-Err-clause-promises
+returns-in-Err-clause-promises g c =
+    promised _ _ _ _ _ _ _ (λ same. ap g.O.Sink.state same) (returns-in-Err-clause-runs g c)
+    (refused_keeps _ c.in-Err.fault _ _ _ _ _ c.in-Err.ensures.read (rw c.words_failure.ensures at c.report_failure.ensures)
+    refl refl refl refl refl refl)

@@ -2,7 +2,7 @@ use Rattle.std.proofs.Common.{None}
 use Rattle.esdk_base.specs.Streams.{SourceState}
 use Rattle.esdk_run.proofs.Ages.{ages_kept, no_ages}
 use Rattle.esdk_run.proofs.Batches.{batch_failed, batch_reported, run_status}
-use Rattle.esdk_run.proofs.commands.run_batch.Goals as goal
+use Rattle.esdk_run.proofs.batch.run_batch.Goals as goal
 
 pub returns-in-Ok-clause-status : goal.returns-in-Ok-clause-status
 returns-in-Ok-clause-status g c =

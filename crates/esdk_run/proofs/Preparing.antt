@@ -1,0 +1,133 @@
+-- Why a file gives nothing, and why a command doesn't begin, by what its calls answer.
+use Rattle.std.proofs.Common.{◌≡◌, ℕ, List, Err, inl, refl, sym, ap, subst}
+use Rattle.std.specs.declared.result.Result.{Result}
+use Rattle.context_codec.specs.declared.insert.PairError.{PairError}
+use Rattle.context_codec.specs.declared.insert.PairError.TheVariants as pairs
+use Rattle.context_codec.specs.Context.{KeyValue}
+use Rattle.esdk_args.specs.declared.pair_words.PairWord.{PairWord}
+use Rattle.esdk_args.specs.declared.request.DecryptWords.{DecryptWords}
+use Rattle.esdk_args.specs.declared.request.EncryptWords.{EncryptWords}
+use Rattle.esdk_args.specs.declared.request.MigrateWords.{MigrateWords}
+use Rattle.esdk_base.specs.Streams.{ShelfState}
+use Rattle.esdk_fields.specs.declared.refusals.FileRefusal.{FileRefusal}
+use Rattle.esdk_fields.specs.declared.refusals.Outside.TheVariants as outsides
+use Rattle.job_file.specs.Found.{Reads}
+use Rattle.job_file.specs.JobFile.{JobFile}
+use Rattle.job_file.specs.Jobs.{jobs_of}
+use Rattle.keyring_file.specs.declared.key_file.TreeError.{TreeError}
+use Rattle.keyring_file.specs.declared.key_file.TreeError.TheVariants as trees
+use Rattle.keyring_file.specs.declared.plugs.Plug.{Plug}
+use Rattle.keyring_file.specs.Found.{wraps_of}
+use Rattle.keyring_file.specs.KeyFile.{FileAnswers, tree_of}
+use Rattle.keyring_file.specs.Migrate.{Migrates, migration}
+use Rattle.keyring_trait.specs.Keyring.{KeyringMeaning}
+use Rattle.whole_input.specs.declared.file.FileError.{FileError}
+use Rattle.whole_input.specs.declared.file.FileError.TheVariants as files
+use Rattle.whole_input.specs.File.{FileCause}
+use Rattle.esdk_report.specs.declared.failure.Failure.{Failure}
+use Rattle.esdk_report.specs.declared.failure.Failure.TheVariants as failures
+use Rattle.esdk_run.specs.Batch.{jobs_in}
+use Rattle.esdk_run.specs.Decrypt.{DecryptFails}
+use Rattle.esdk_run.specs.Encrypt.{EncryptFails}
+use Rattle.esdk_run.specs.Failures.{file_failure, pairs_failure, tree_failure}
+use Rattle.esdk_run.specs.FileReading.{FileFails, ReadCause}
+use Rattle.esdk_run.specs.Migrate.{value_asked}
+use Rattle.esdk_run.specs.Objects.{Objects, Unchanged, same_streams}
+use Rattle.esdk_run.specs.Pairs.{GivesContext, RefusesPairs, context_in}
+use Rattle.esdk_run.specs.Prepared.{IsNotPrepared}
+use Rattle.esdk_run.specs.Trees.{IsUntouched, Trees, means, reading}
+
+-- ---- files
+
+-- a file that wasn't taken
+pub file_not_taken : {A : Type 0} (read : List ℕ → Result A FileRefusal) (old new : ShelfState) (name : List ℕ)
+    (error : FileError) (failure : Failure) → failure ≡ file_failure error → FileCause old new name error
+    → FileFails read old new name failure
+file_not_taken read old new name files.Shelf failure is cause =
+    subst (λ (f : Failure). FileFails read old new name f) (sym is) cause
+file_not_taken read old new name files.TooLong failure is cause =
+    subst (λ (f : Failure). FileFails read old new name f) (sym is) (inl (refl, cause))
+file_not_taken read old new name files.Memory failure is cause =
+    subst (λ (f : Failure). FileFails read old new name f) (sym is) tt
+
+-- a keyring file that is refused
+pub tree_refused : {P : Type 0} (meaning : P → KeyringMeaning) (plugs : List (Plug P)) (bytes : List ℕ)
+    (error : TreeError) (failure : Failure) → failure ≡ tree_failure error
+    → FileAnswers (Err error) (tree_of (wraps_of meaning) bytes plugs) → ReadCause (reading meaning plugs) bytes failure
+tree_refused meaning plugs bytes (trees.File refusal) failure is answers =
+    subst (λ (f : Failure). ReadCause (reading meaning plugs) bytes f) (sym is) (ap (means meaning) answers)
+tree_refused meaning plugs bytes trees.Memory failure is answers =
+    subst (λ (f : Failure). ReadCause (reading meaning plugs) bytes f) (sym is) tt
+
+-- a job file that is refused
+pub jobs_refused : (name bytes : List ℕ) (error : TreeError) (failure : Failure) → failure ≡ tree_failure error
+    → Reads {A = JobFile} (λ jobs. jobs) (Err error) (jobs_of bytes name) → ReadCause (jobs_in name) bytes failure
+jobs_refused name bytes (trees.File refusal) failure is reads =
+    subst (λ (f : Failure). ReadCause (jobs_in name) bytes f) (sym is) reads
+jobs_refused name bytes trees.Memory failure is reads =
+    subst (λ (f : Failure). ReadCause (jobs_in name) bytes f) (sym is) tt
+
+-- a keyring file that is refused in version 2
+pub migration_refused : (asked : MigrateWords) (bytes : List ℕ) (error : TreeError) (failure : Failure)
+    → failure ≡ tree_failure error → Migrates (Err error) (migration asked.retire bytes)
+    → ReadCause (value_asked asked) bytes failure
+migration_refused asked bytes (trees.File refusal) failure is refuses =
+    subst (λ (f : Failure). ReadCause (value_asked asked) bytes f) (sym is) refuses
+migration_refused asked bytes trees.Memory failure is refuses =
+    subst (λ (f : Failure). ReadCause (value_asked asked) bytes f) (sym is) tt
+
+-- ---- what a command needs that seals or opens
+
+-- its pairs are refused
+pub pairs_not_prepared : (has : Trees) (words : List PairWord) (name : List ℕ) (old new : ShelfState) (unread : Type 0)
+    (error : PairError) (failure : Failure) → failure ≡ pairs_failure error → RefusesPairs (context_in words) error
+    → unread → IsNotPrepared has words name old new unread failure
+pairs_not_prepared has words name old new unread (pairs.Refusal refusal) failure is refuses same =
+    subst (λ (f : Failure). IsNotPrepared has words name old new unread f) (sym is)
+    (record { refused = refuses; shelf = same })
+pairs_not_prepared has words name old new unread pairs.Memory failure is refuses same =
+    subst (λ (f : Failure). IsNotPrepared has words name old new unread f) (sym is) tt
+
+-- its keyring file gives no tree
+pub tree_not_prepared : (has : Trees) (words : List PairWord) (name : List ℕ) (old new : ShelfState) (unread : Type 0)
+    (context : List KeyValue) (failure : Failure) → GivesContext words context → FileFails has.read old new name failure
+    → IsNotPrepared has words name old new unread failure
+tree_not_prepared has words name old new unread context failures.NotRead given fails = absurd fails
+tree_not_prepared has words name old new unread context (failures.BadNumber option) given fails = absurd fails
+tree_not_prepared has words name old new unread context (failures.BadPair number) given fails = absurd fails
+tree_not_prepared has words name old new unread context (failures.Fault fault) given fails = absurd fails
+tree_not_prepared has words name old new unread context (failures.File refusal) given fails =
+    record { context = context; given = given; cause = fails }
+tree_not_prepared has words name old new unread context (failures.Outside outsides.ShelfFault) given fails =
+    record { context = context; given = given; cause = fails }
+tree_not_prepared has words name old new unread context (failures.Outside outside) given fails = absurd fails
+tree_not_prepared has words name old new unread context (failures.Refusal refusal) given fails = absurd fails
+tree_not_prepared has words name old new unread context failures.Memory given fails = tt
+
+-- then `encrypt` fails so, and leaves all but the shelf untouched
+pub encrypt_not_begun : (has : Trees) (asked : EncryptWords) (before after : Objects) (unchanged : Unchanged)
+    (failure : Failure) → IsNotPrepared has asked.pairs asked.keyring before.shelf after.shelf unchanged.shelf failure
+    → IsUntouched has (same_streams unchanged × unchanged.entropy) → EncryptFails has asked before after unchanged failure
+encrypt_not_begun has asked before after unchanged failures.NotRead cause same = absurd cause
+encrypt_not_begun has asked before after unchanged (failures.BadNumber option) cause same = absurd cause
+encrypt_not_begun has asked before after unchanged (failures.BadPair number) cause same = absurd cause
+encrypt_not_begun has asked before after unchanged (failures.Fault fault) cause same = absurd cause
+encrypt_not_begun has asked before after unchanged (failures.File refusal) cause same = (cause, same)
+encrypt_not_begun has asked before after unchanged (failures.Outside outsides.ShelfFault) cause same = (cause, same)
+encrypt_not_begun has asked before after unchanged (failures.Outside outside) cause same = absurd cause
+encrypt_not_begun has asked before after unchanged (failures.Refusal refusal) cause same = inl (cause, same)
+encrypt_not_begun has asked before after unchanged failures.Memory cause same = inl same
+
+-- and so does `decrypt`
+pub decrypt_not_begun : (has : Trees) (asked : DecryptWords) (before after : Objects) (unchanged : Unchanged)
+    (failure : Failure) → IsNotPrepared has asked.pairs asked.keyring before.shelf after.shelf unchanged.shelf failure
+    → IsUntouched has (same_streams unchanged) → DecryptFails has asked before after unchanged failure
+decrypt_not_begun has asked before after unchanged failures.NotRead cause same = absurd cause
+decrypt_not_begun has asked before after unchanged (failures.BadNumber option) cause same = absurd cause
+decrypt_not_begun has asked before after unchanged (failures.BadPair number) cause same = absurd cause
+decrypt_not_begun has asked before after unchanged (failures.Fault fault) cause same = absurd cause
+decrypt_not_begun has asked before after unchanged (failures.File refusal) cause same = (cause, same)
+decrypt_not_begun has asked before after unchanged (failures.Outside outsides.ShelfFault) cause same = (cause, same)
+decrypt_not_begun has asked before after unchanged (failures.Outside outside) cause same = absurd cause
+decrypt_not_begun has asked before after unchanged (failures.Refusal refusal) cause same = (cause, same)
+decrypt_not_begun has asked before after unchanged failures.Memory cause same = inl same

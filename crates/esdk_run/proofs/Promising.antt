@@ -1,0 +1,97 @@
+-- What a run promises, by its course and by what it keeps.
+use Rattle.std.proofs.Common.{◌≡◌, ℕ, None, Ok, Err, inl, inr, sym, subst}
+use Rattle.esdk_args.specs.declared.request.Request.{Request}
+use Rattle.esdk_args.specs.declared.request.Request.TheVariants as requests
+use Rattle.esdk_args.specs.declared.request.WordsFault.{WordsFault}
+use Rattle.esdk_args.specs.declared.request.WordsFault.TheVariants as unread
+use Rattle.esdk_args.specs.Faults.{AnswersWords}
+use Rattle.esdk_report.specs.Report.{Reports}
+use Rattle.esdk_report.specs.declared.failure.Failure.TheVariants as failures
+use Rattle.esdk_run.specs.Failures.{words_failure}
+use Rattle.esdk_run.specs.Objects.{Objects, Unchanged, same_streams}
+use Rattle.esdk_run.specs.Promises.{Promises, Ticks, Words}
+use Rattle.esdk_run.specs.Run.{RunsAs}
+use Rattle.esdk_run.specs.Trees.{IsUntouched, Trees}
+use Rattle.esdk_run.proofs.Asked.{comes_back, done_asked, encrypt_asked, judgement_asked, judgements_asked, jobs_asked, limits_asked, line_asked, migration_asked, others_asked, reads_asked, round_trip_asked, whole_asked}
+use Rattle.esdk_run.proofs.Encryption.{encrypts_what_fits, writes_the_message}
+use Rattle.esdk_run.proofs.Keeping.{Keeps}
+use Rattle.esdk_run.proofs.TreesBack.{none_is_some}
+
+pub promised : (trees : Trees) (words : Words) (before after : Objects) (unchanged : Unchanged) (time : Ticks) (code : ℕ)
+    → (unchanged.output → after.output ≡ before.output) → RunsAs trees words before after unchanged code → Keeps words before after unchanged time code
+    → Promises trees words before after unchanged time code
+promised trees words before after unchanged time code same runs keeps = record {
+  files = keeps.files;
+  shelf = keeps.shelf;
+  input = keeps.input;
+  entropy = keeps.entropy;
+  clock = keeps.clock;
+  taken = keeps.taken;
+  tree = comes_back trees words before after unchanged code runs;
+  judged = keeps.judged;
+  message = λ asked is. writes_the_message trees asked before after unchanged code (encrypt_asked trees words asked before after unchanged code is runs);
+  fits = λ asked is. encrypts_what_fits trees asked before after unchanged code (encrypt_asked trees words asked before after unchanged code is runs);
+  reads = λ asked is. reads_asked trees words asked before after unchanged code same is runs;
+  judgement = λ asked is. judgement_asked trees words asked before after unchanged code is runs;
+  whole = λ asked is. whole_asked trees words asked before after unchanged code is runs;
+  round_trip = λ asked is. round_trip_asked trees words asked before after unchanged code is runs;
+  migration = λ asked is. migration_asked trees words asked before after unchanged code is runs;
+  limits = λ name is. limits_asked trees words name before after unchanged code is runs;
+  ages = keeps.ages;
+  others = λ name is. others_asked trees words name before after unchanged code is runs;
+  batch = λ name is. jobs_asked trees words name before after unchanged code is runs;
+  judgements = λ name is. judgements_asked trees words name before after unchanged code is runs;
+  jobs = λ name is. done_asked trees words name before after unchanged code is runs;
+  generator = λ seed size is. line_asked trees words seed size before after unchanged code is runs;
+}
+
+-- ---- the course of a run, by its command
+
+-- of words that ask for this
+pub runs_asked : (trees : Trees) (words : Words) (request : Request) (before after : Objects) (unchanged : Unchanged) (code : ℕ)
+    → words ≡ Ok request → RunsAs trees (Ok request) before after unchanged code → RunsAs trees words before after unchanged code
+runs_asked trees words request before after unchanged code is runs =
+    subst (λ (w : Words). RunsAs trees w before after unchanged code) (sym is) runs
+
+-- of words that are refused
+fault_runs : (trees : Trees) (words : Words) (fault : WordsFault) (before after : Objects) (unchanged : Unchanged) (code : ℕ)
+    → words ≡ Err fault → IsUntouched trees (same_streams unchanged) → Reports (words_failure fault) code before.report after.report
+    → RunsAs trees words before after unchanged code
+fault_runs trees words fault before after unchanged code is untouched said =
+    subst (λ (w : Words). RunsAs trees w before after unchanged code) (sym is) (untouched, inl said)
+
+-- of words that memory didn't suffice to read
+memory_runs : (trees : Trees) (words : Words) (before after : Objects) (unchanged : Unchanged) (code : ℕ)
+    → trees.kept ≡ None → unchanged.input → unchanged.output → unchanged.entropy → after.shelf.files ≡ before.shelf.files
+    → Reports failures.Memory code before.report after.report → RunsAs trees words before after unchanged code
+memory_runs trees (Ok (requests.List asked)) before after unchanged code none input output entropy files said =
+    (none, inr (record { failure = failures.Memory; because = (tt, output); said = said }))
+memory_runs trees (Ok (requests.Encrypt asked)) before after unchanged code none input output entropy files said =
+    inr (record { failure = failures.Memory; because = inl (record { same = ((input, output), entropy); none = none }); said = said })
+memory_runs trees (Ok (requests.Decrypt asked)) before after unchanged code none input output entropy files said =
+    inr (record { failure = failures.Memory; because = inl (record { same = (input, output); none = none }); said = said })
+memory_runs trees (Ok (requests.Migrate asked)) before after unchanged code none input output entropy files said =
+    (none, inr (record { failure = failures.Memory; because = (tt, output); said = said }))
+memory_runs trees (Ok (requests.Batch name)) before after unchanged code none input output entropy files said =
+    inr (record {
+      failure = failures.Memory;
+      because = ((λ left kept. absurd (none_is_some trees left kept none), inl files), output);
+      said = said;
+    })
+memory_runs trees (Ok (requests.Gen seed size)) before after unchanged code none input output entropy files said =
+    (none, inr (record { failure = failures.Memory; because = output; said = said }))
+memory_runs trees (Err fault) before after unchanged code none input output entropy files said =
+    (record { same = (input, output); none = none }, inr said)
+
+pub refused_runs : (trees : Trees) (words : Words) (fault : WordsFault) (before after : Objects) (unchanged : Unchanged) (code : ℕ)
+    → AnswersWords (Err fault) words → trees.kept ≡ None → unchanged.input → unchanged.output → unchanged.entropy
+    → after.shelf.files ≡ before.shelf.files → Reports (words_failure fault) code before.report after.report
+    → RunsAs trees words before after unchanged code
+refused_runs trees words unread.NotRead before after unchanged code answers none input output entropy files said =
+    fault_runs trees words unread.NotRead before after unchanged code answers (record { same = (input, output); none = none }) said
+refused_runs trees words (unread.BadNumber name) before after unchanged code answers none input output entropy files said =
+    fault_runs trees words (unread.BadNumber name) before after unchanged code answers (record { same = (input, output); none = none }) said
+refused_runs trees words (unread.BadPair number) before after unchanged code answers none input output entropy files said =
+    fault_runs trees words (unread.BadPair number) before after unchanged code answers (record { same = (input, output); none = none }) said
+refused_runs trees words unread.Memory before after unchanged code answers none input output entropy files said =
+    memory_runs trees words before after unchanged code none input output entropy files said

@@ -1,0 +1,52 @@
+-- What the errors of the calls below are called in the program.
+use Rattle.context_codec.specs.declared.insert.PairError.{PairError}
+use Rattle.context_codec.specs.declared.insert.PairError.TheVariants as pairs
+use Rattle.esdk_args.specs.declared.request.WordsFault.{WordsFault}
+use Rattle.esdk_args.specs.declared.request.WordsFault.TheVariants as words
+use Rattle.esdk_decrypt.specs.declared.errors.DecryptError.{DecryptError}
+use Rattle.esdk_decrypt.specs.declared.errors.DecryptError.TheVariants as decrypting
+use Rattle.esdk_encrypt.specs.declared.errors.EncryptError.{EncryptError}
+use Rattle.esdk_encrypt.specs.declared.errors.EncryptError.TheVariants as encrypting
+use Rattle.esdk_fields.specs.declared.refusals.FileRefusal.TheVariants.{FileTooLong}
+use Rattle.esdk_fields.specs.declared.refusals.Outside.TheVariants.{ShelfFault}
+use Rattle.esdk_report.specs.declared.failure.Failure.{Failure}
+use Rattle.esdk_report.specs.declared.failure.Failure.TheVariants as failures
+use Rattle.keyring_file.specs.declared.key_file.TreeError.{TreeError}
+use Rattle.keyring_file.specs.declared.key_file.TreeError.TheVariants as trees
+use Rattle.whole_input.specs.declared.file.FileError.{FileError}
+use Rattle.whole_input.specs.declared.file.FileError.TheVariants as files
+
+-- of refused words
+abbrev pub words_failure : WordsFault → Failure
+words_failure words.NotRead = failures.NotRead
+words_failure (words.BadNumber name) = failures.BadNumber name
+words_failure (words.BadPair number) = failures.BadPair number
+words_failure words.Memory = failures.Memory
+
+-- of refused pairs
+abbrev pub pairs_failure : PairError → Failure
+pairs_failure (pairs.Refusal refusal) = failures.Refusal refusal
+pairs_failure pairs.Memory = failures.Memory
+
+-- of a file that wasn't taken
+abbrev pub file_failure : FileError → Failure
+file_failure files.Shelf = failures.Outside ShelfFault
+file_failure files.TooLong = failures.File FileTooLong
+file_failure files.Memory = failures.Memory
+
+-- of a keyring file or a job file that is refused
+abbrev pub tree_failure : TreeError → Failure
+tree_failure (trees.File refusal) = failures.File refusal
+tree_failure trees.Memory = failures.Memory
+
+-- of an encryption
+abbrev pub encryption_failure : EncryptError → Failure
+encryption_failure (encrypting.Refusal refusal) = failures.Refusal refusal
+encryption_failure (encrypting.Outside outside) = failures.Outside outside
+encryption_failure encrypting.Memory = failures.Memory
+
+-- of a decryption
+abbrev pub decryption_failure : DecryptError → Failure
+decryption_failure (decrypting.Fault fault) = failures.Fault fault
+decryption_failure (decrypting.Outside outside) = failures.Outside outside
+decryption_failure decrypting.Memory = failures.Memory

@@ -1,0 +1,106 @@
+-- What a run of the program promises, command by command. The whole course of a run, with each
+-- failure and what it leaves, is `RunsAs` of Run.antt; what stands here follows from that and says
+-- it in a user's words.
+use Rattle.std.specs.Prelude.{◌≡◌, ℕ, ◌+◌, ◌≤◌, ◌^◌, false, Option, Result, Ok, IfSome}
+use Rattle.esdk_args.specs.declared.request.Request.{Request}
+use Rattle.esdk_args.specs.declared.request.Request.TheVariants as requests
+use Rattle.esdk_args.specs.declared.request.WordsFault.{WordsFault}
+use Rattle.esdk_base.specs.Clock.{Moments}
+use Rattle.esdk_base.specs.Streams.{OnTold}
+use Rattle.esdk_list.specs.List.{input_fault}
+use Rattle.esdk_run.specs.Ages.{KeepsAges}
+use Rattle.esdk_run.specs.EachJob.{DoesWhatItMust, SaysEachJudgement}
+use Rattle.esdk_run.specs.Objects.{Objects, Unchanged}
+use Rattle.esdk_run.specs.Run.{AgreesWith, draws, reads_clock, reads_input, reads_shelf}
+use Rattle.esdk_run.specs.Run.{writes_shelf}
+use Rattle.esdk_run.specs.Served.{Generates, KeepsLimits, KeepsOtherFiles, RunsWhatIsHeld}
+use Rattle.esdk_run.specs.Told.{ComesBack, DecryptsWholeMessages, EncryptsWhatFits}
+use Rattle.esdk_run.specs.Told.{MigratesWhatIsHeld, ReadsBack, SaysTheJudgement, SaysWhatItReads}
+use Rattle.esdk_run.specs.Told.{WritesTheMessage, keyring_asked}
+use Rattle.esdk_run.specs.Trees.{Trees}
+
+-- what the words ask for, or why they are refused
+abbrev pub Words : Type 0
+Words = Result Request WordsFault
+
+-- Where the words ask for this command, this is so of what they ask.
+abbrev pub On : {A : Type 0} → (A → Request) → Words → (A → Type 0) → Type 0
+On {A} command words So = (asked : A) → words ≡ Ok (command asked) → So asked
+
+-- The clock of a run: the moments that it tells before and after, and what says that it is as
+-- before.
+pub record Ticks : Type 1 where
+  pub before : Option Moments
+  pub after : Option Moments
+  pub same : Type 0
+
+-- of these
+abbrev pub ticks : Option Moments → Option Moments → Type 0 → Ticks
+ticks before after same = record { before = before; after = after; same = same }
+
+-- What a run with these words promises, which began with these objects, left those, and ended with
+-- this status: first of every command, then command by command.
+pub record Promises (trees : Trees) (words : Words) (before after : Objects)
+    (unchanged : Unchanged) (time : Ticks) (code : ℕ) : Type 0 where
+  -- Only `batch` changes files of the shelf.
+  pub files : writes_shelf words ≡ false → after.shelf.files ≡ before.shelf.files
+  -- `list` and `gen` leave the shelf alone, and so do words that are refused.
+  pub shelf : reads_shelf words ≡ false → unchanged.shelf
+  -- Only `list`, `encrypt` and `decrypt` read the input.
+  pub input : reads_input words ≡ false → unchanged.input
+  -- Only `encrypt` and `batch` draw from the entropy.
+  pub entropy : draws words ≡ false → unchanged.entropy
+  -- Only `batch` reads the clock.
+  pub clock : reads_clock words ≡ false → time.same
+  -- At most 2^62 bytes of the input are taken.
+  pub taken : after.input.given ≤ before.input.given + 2 ^ 62
+  -- A tree is given back only where the keyring file was read as one; and where a shelf tells that
+  -- it holds one, and doesn't fail, that is given back, unless memory runs out.
+  pub tree : IfSome (keyring_asked words)
+      (λ asked. ComesBack trees asked.0 asked.1 before.shelf after.shelf code)
+  -- `list`: no input that begins with a header and its tag is refused for a fault, and no other is
+  -- done.
+  pub judged : On requests.List words (λ asked. OnTold before.input.left
+      (λ bytes. AgreesWith code (input_fault asked.uncommitted bytes)))
+  -- `encrypt`: the output gains the message of the input.
+  pub message : On requests.Encrypt words
+      (λ asked. WritesTheMessage trees asked before after code)
+  -- `encrypt`: an input that fits into a message is done, unless memory runs out or an object
+  -- fails.
+  pub fits : On requests.Encrypt words (λ asked. EncryptsWhatFits trees asked before after code)
+  -- `decrypt`: of the bytes taken, what the keys of the tree read of them decides, whatever the
+  -- objects tell.
+  pub reads : On requests.Decrypt words (λ asked. SaysWhatItReads trees asked before after code)
+  -- `decrypt`: the judgement of all bytes of the input is said, however few of them were taken.
+  pub judgement : On requests.Decrypt words
+      (λ asked. SaysTheJudgement trees asked before after code)
+  -- `decrypt`: a whole message is done, unless memory runs out or an object fails.
+  pub whole : On requests.Decrypt words
+      (λ asked. DecryptsWholeMessages trees asked before after code)
+  -- `decrypt`: a message that was written comes back, its text on the output and its whole context
+  -- on the report.
+  pub round_trip : On requests.Decrypt words (λ asked. ReadsBack trees asked before after code)
+  -- `migrate`: a keyring file that the shelf tells is written in version 2, unless it is refused,
+  -- memory runs out or an object fails.
+  pub migration : On requests.Migrate words (λ asked.
+      MigratesWhatIsHeld asked before.shelf after.shelf before.output after.output code)
+  -- `batch`: the report keeps to the limits of the job file's cache.
+  pub limits : On requests.Batch words (λ name. KeepsLimits name before after code)
+  -- `batch`: an entry of the cache is as old as the clock says. The moments of the journal's lines
+  -- are, in order, among those that the clock gave.
+  pub ages : On requests.Batch words (λ name.
+      KeepsAges name before.shelf before.output after.output time.before time.after code)
+  -- `batch`: however it ends, no file changed but those that jobs write.
+  pub others : On requests.Batch words (λ name. KeepsOtherFiles name before.shelf after.shelf)
+  -- `batch`: jobs that the shelf tells are run and reported, unless memory runs out or an object
+  -- fails.
+  pub batch : On requests.Batch words (λ name.
+      RunsWhatIsHeld trees name before.shelf after.shelf before.output after.output code)
+  -- `batch`: of each decrypt job is said what the keys of a steady tree read of its file.
+  pub judgements : On requests.Batch words (λ name. SaysEachJudgement trees name before after code)
+  -- `batch`: of jobs that the shelf tells each that must be is done, unless memory runs out or an
+  -- object fails.
+  pub jobs : On requests.Batch words (λ name. DoesWhatItMust trees name before after code)
+  -- `gen`: the output gains the line of the seed and the size.
+  pub generator : (seed size : ℕ) → words ≡ Ok (requests.Gen seed size)
+      → Generates seed size before.output after.output unchanged.output code
