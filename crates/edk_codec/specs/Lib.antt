@@ -1,4 +1,5 @@
 pub mod Entry
+pub mod Equal
 pub mod EntryReader
 pub mod Parts
 pub mod RawInfo

@@ -1,9 +1,11 @@
 //! Encrypted data keys that own their bytes.
 
-ghost use Rattle.std.specs.Prelude.{◌≡◌, ◌≤◌, [], All, length, IfOk};
+ghost use Rattle.std.specs.Prelude.{◌≡◌, ◌≤◌, length, IfOk};
 ghost use Rattle.edk_codec.specs.Entry.{IsEntry};
+ghost use Rattle.edk_codec.specs.Equal.{entry_eq, entry_equiv, entry_partial, entry_hash, entry_fed};
 
 use std::alloc::{AllocError, Global};
+use std::hash::{Hash, Hasher};
 use std::marker::Model;
 
 /// An encrypted data key: who wrapped it, with what information, and the wrapped key. Each part has
@@ -44,8 +46,9 @@ impl DataKeyEntry {
         requires provider { length provider.now ≤ 65535 }
         requires info { length info.now ≤ 65535 }
         requires cipher { length cipher.now ≤ 65535 }
-        ensures { IfOk result
+        ensures parts { IfOk result
             (λ e. e ≡ record { provider = provider.now; info = info.now; cipher = cipher.now }) }
+        ensures entry { IfOk result IsEntry }
     {
         Ok(DataKeyEntry {
             provider_id: Vec::from_slice(alloc, provider)?,
@@ -86,12 +89,43 @@ impl DataKeyEntry {
     }
 }
 
-/// Says of entries what their type keeps: no part of one has more than 65,535 bytes. It is called
-/// for its clause alone.
-pub fn are_entries(entries: &[DataKeyEntry])
-    ensures { All IsEntry entries.now }
-{
-    for entry in entries {
-        let _provider = entry.provider();
+impl PartialEq for DataKeyEntry {
+    ghost eq = { entry_eq };
+
+    ghost laws = { entry_partial };
+
+    fn eq(&self, other: &DataKeyEntry) -> bool {
+        self.provider() == other.provider()
+            && (self.info() == other.info() && self.cipher() == other.cipher())
     }
+}
+
+impl Eq for DataKeyEntry {
+    ghost laws = { entry_equiv };
+}
+
+impl Hash for DataKeyEntry {
+    ghost hash_input = { entry_hash };
+
+    ghost respects_eq = { entry_fed };
+
+    fn hash<H: Hasher>(&self, state: &mut H) {
+        self.provider().hash(state);
+        self.info().hash(state);
+        self.cipher().hash(state);
+    }
+}
+
+/// Equal entries, in the same order. Fails only where memory runs out.
+pub fn copied_entries(
+    alloc: Global,
+    entries: &[DataKeyEntry],
+) -> Result<Vec<DataKeyEntry>, AllocError>
+    ensures { IfOk result (λ made. made.items ≡ entries.now) }
+{
+    let mut made = Vec::new(alloc);
+    for entry in entries {
+        made.push(entry.copy(alloc)?)?;
+    }
+    Ok(made)
 }

@@ -9,7 +9,7 @@ mod raw_infos;
 mod reading;
 mod writing;
 
-pub use entries::{DataKeyEntry, are_entries};
+pub use entries::{DataKeyEntry, copied_entries};
 pub use laws::{an_entry_is_never_refused, read_entry_is_written, written_entry_is_read};
 pub use raw_infos::{info_parts, raw_info};
 pub use reading::read_entry;

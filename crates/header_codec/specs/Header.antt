@@ -1,6 +1,6 @@
 -- A header as a value, and its one text. Standard: AWS Encryption SDK, message header, "Structure"
 -- of versions 1.0 and 2.0. The suite says which version it is.
-use Rattle.std.specs.Prelude.{◌≡◌, ℕ, ◌+◌, ◌<◌, ◌≤◌, ◌^◌, List, [], ◌++◌, length, replicate, All, IfSome, Bool, true}
+use Rattle.std.specs.Prelude.{◌≡◌, ℕ, ◌+◌, ◌<◌, ◌≤◌, ◌^◌, List, [], ◌++◌, length, All, IfSome, Bool, true}
 use Rattle.std.specs.Int.{w8, w16, w32}
 use Rattle.std.specs.List.{flat_map}
 use Rattle.esdk_fields.specs.declared.contents.Content.{Content}
@@ -9,7 +9,7 @@ use Rattle.esdk_fields.specs.Numbers.{to_big_endian}
 use Rattle.esdk_fields.specs.Sized.{sized}
 use Rattle.suite_table.specs.declared.suite.Suite.{Suite}
 use Rattle.suite_table.specs.declared.suite.Suite.TheVariants.{Committing, Uncommitted}
-use Rattle.suite_table.specs.Suites.{suite_id, format_version, id_length, data_length}
+use Rattle.suite_table.specs.Suites.{suite_id, format_version, id_length, data_length, zero_iv}
 use Rattle.context_codec.specs.Context.{KeyValue}
 use Rattle.context_codec.specs.Split.{SpellsContext}
 use Rattle.edk_codec.specs.Entry.{Entry, IsEntry, edk_text}
@@ -94,7 +94,7 @@ authentication_text h = iv_text h.suite h.iv ++ h.tag
 
 -- twelve bytes; where the header has none of its own, zeros
 abbrev pub IsIv : Suite → List ℕ → Type 0
-IsIv Committing iv = iv ≡ replicate 12 0
+IsIv Committing iv = iv ≡ zero_iv
 IsIv Uncommitted iv = length iv ≡ 12
 
 -- The bytes are the body of this header: the context's text spells the stored pairs, in any order,

@@ -1,7 +1,7 @@
 -- Reading a header: the table of its fields, line by line, and what is judged at the last byte of
 -- each. Standard: AWS Encryption SDK, message header, "Structure" of versions 1.0 and 2.0; the
 -- faults M1 to M9 and M23 to M26 are this library's.
-use Rattle.std.specs.Prelude.{◌≡◌, ℕ, ◌+◌, List, take, replicate, Bool, false, not, ◌&&◌, ◌||◌, ◌==◌, nat_lt, if◌then◌else◌, Option, option_map}
+use Rattle.std.specs.Prelude.{◌≡◌, ℕ, ◌+◌, List, take, Bool, false, not, ◌&&◌, ◌||◌, ◌==◌, nat_lt, if◌then◌else◌, Option, option_map}
 use Rattle.std.specs.Int.{w8, w16, w32}
 use Rattle.esdk_fields.specs.Limits.{is_over}
 use Rattle.esdk_fields.specs.declared.faults.Fault.{Fault}
@@ -13,7 +13,7 @@ use Rattle.esdk_fields.specs.Place.{Place, start}
 use Rattle.esdk_fields.specs.Reading.{Read, Reader, ◌>>=◌, ◌>>◌, done, bytes, number, here, refuse_if, judge, repeat, fault_of, value_of}
 use Rattle.suite_table.specs.declared.suite.Suite.{Suite}
 use Rattle.suite_table.specs.declared.suite.Suite.TheVariants.{Committing, Uncommitted}
-use Rattle.suite_table.specs.Suites.{suite_id, id_length, data_length}
+use Rattle.suite_table.specs.Suites.{suite_id, id_length, data_length, zero_iv}
 use Rattle.context_codec.specs.Context.{KeyValue}
 use Rattle.context_codec.specs.Split.{context_fault, SpellsContext}
 use Rattle.edk_codec.specs.Entry.{Entry}
@@ -136,7 +136,7 @@ content suite max_unit = do
 
 -- the header's initialization vector: zeros, where it has none of its own
 unfoldable pub header_iv : Suite → Reader (List ℕ)
-header_iv Committing = done (replicate 12 0)
+header_iv Committing = done zero_iv
 header_iv Uncommitted = bytes 12
 
 unfoldable pub header : Settings → Reader Head

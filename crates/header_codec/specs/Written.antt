@@ -1,13 +1,13 @@
 -- The header that is written: frames, and the context's pairs in the order of their keys. Tests
 -- write headers of version 1.0 too. Standard: AWS Encryption SDK, message header, "Structure" of
 -- versions 1.0 and 2.0; the refusals Q7 and Q8 are this library's.
-use Rattle.std.specs.Prelude.{◌≡◌, ℕ, ◌≤◌, List, [], length, replicate, All, nat_lt, if◌then◌else◌, Option, Some, None}
+use Rattle.std.specs.Prelude.{◌≡◌, ℕ, ◌≤◌, List, [], length, All, nat_lt, if◌then◌else◌, Option, Some, None}
 use Rattle.esdk_fields.specs.declared.contents.Content.{Content}
 use Rattle.esdk_fields.specs.declared.contents.Content.TheVariants.{Framed}
 use Rattle.esdk_fields.specs.declared.refusals.Refusal.{Refusal}
 use Rattle.esdk_fields.specs.declared.refusals.Refusal.TheVariants.{TooManyDataKeys, HeaderTooLong}
 use Rattle.suite_table.specs.declared.suite.Suite.TheVariants.{Committing, Uncommitted}
-use Rattle.suite_table.specs.Suites.{id_length, data_length}
+use Rattle.suite_table.specs.Suites.{id_length, data_length, zero_iv}
 use Rattle.context_codec.specs.Context.{KeyValue, IsContext, ctx_text}
 use Rattle.edk_codec.specs.Entry.{Entry, IsEntry}
 use Rattle.header_codec.specs.Header.{Opening, HeaderValue, IsContent, latest_end, header_text}
@@ -87,7 +87,7 @@ written_header id stored entries frame commitment =
 -- these parts, their body, and this tag
 abbrev pub written_value : List ℕ → List KeyValue → List Entry → ℕ → List ℕ → List ℕ → HeaderValue
 written_value id stored entries frame commitment tag =
-    value_of (parts_with id stored entries frame commitment) (replicate 12 0) tag
+    value_of (parts_with id stored entries frame commitment) zero_iv tag
 
 -- Parts that such a header can have.
 abbrev pub AreHeaderParts : List ℕ → List KeyValue → List Entry → ℕ → List ℕ → Type 0

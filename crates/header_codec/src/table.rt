@@ -16,7 +16,7 @@ use esdk_fields::{
     u32_of,
 };
 use std::alloc::Global;
-use suite_table::Suite;
+use suite_table::{Suite, ZERO_IV};
 
 /// The type of a message of version 1.
 pub(crate) const MESSAGE_TYPE: u8 = 0x80;
@@ -275,7 +275,7 @@ fn header_iv_of(suite: Suite, cursor: &mut Cursor<'_>) -> Result<[u8; 12], Stop>
     ensures { Gives (λ iv. iv) result cursor.new (header_iv suite cursor.old) }
 {
     match suite {
-        Suite::Committing => Ok([0; 12]),
+        Suite::Committing => Ok(ZERO_IV),
         Suite::Uncommitted => iv_of(cursor),
     }
 }

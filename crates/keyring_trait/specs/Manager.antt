@@ -58,16 +58,13 @@ TellsOn old new = (keys : List WrapKeyValue) → old keys → new keys
 
 -- What a manager is at a moment: what it means to its callers; which keys it tells as its wrapping
 -- keys, retired or not, in order; that it is exact, so that it refuses exactly where the
--- definitions
--- say so, in their order, and requires its own demands and no more; which lines of what it served
--- it
--- bears, so that it can go on from them; and which lines are within the limits of its cache, or,
--- without a cache, say what is true of all that it serves. Then the last materials that it gave: to
--- this request to encrypt, at this moment, with these random bytes; and those that it found for
--- this
--- request to decrypt, at this moment. A manager whose answers rest on nothing but the call may take
--- the relation that always holds for these two; one that asks another manager says what that one
--- gave.
+-- definitions say so, in their order, and requires its own demands and no more; which lines of what
+-- it served it bears, so that it can go on from them; and which lines are within the limits of its
+-- cache, or, without a cache, say what is true of all that it serves. Then the last materials that
+-- it gave: to this request to encrypt, at this moment, with these random bytes; and those that it
+-- found for this request to decrypt, at this moment. A manager whose answers rest on nothing but
+-- the call may take the relation that always holds for these two; one that asks another manager
+-- says what that one gave.
 pub record ManagerNow : Type 1 where
   pub meaning : ManagerMeaning
   pub tells : List WrapKeyValue → Type 0
@@ -78,8 +75,7 @@ pub record ManagerNow : Type 1 where
   pub found : DecRequestValue → ℕ → DecMaterialsValue → Type 0
 
 -- What a manager keeps from one moment to a later one: all that it means but the count of faults,
--- the
--- keys that it tells, of which a plain manager tells no others later, that it is exact, and the
+-- the keys that it tells, of which a plain manager tells no others later, that it is exact, and the
 -- limits, which no call widens.
 pub record Went (old new : ManagerNow) : Type 0 where
   pub goes : ManagerGoes old.meaning new.meaning
@@ -131,8 +127,7 @@ pub record AreWraps (keys : List WrapKeyValue) (materials : EncMaterialsValue) :
   pub entries : materials.entries ≡ made keys materials.context materials.key ivs
 
 -- The data key is the first 32 of these random bytes. Where the keys are told, the entries are the
--- wraps of it under those
--- that aren't retired, with the bytes behind it as IVs.
+-- wraps of it under those that aren't retired, with the bytes behind it as IVs.
 pub record AreDrawn (wraps : ℕ) (tells : List WrapKeyValue → Type 0) (random : List ℕ)
     (materials : EncMaterialsValue) : Type 0 where
   pub key : materials.key ≡ take 32 random
@@ -140,10 +135,8 @@ pub record AreDrawn (wraps : ℕ) (tells : List WrapKeyValue → Type 0) (random
       → materials.entries ≡ made keys materials.context materials.key (ivs_of wraps (drop 32 random))
 
 -- What a manager answers to a request with these random bytes: the context is the request's, and
--- the
--- keys that a reader has to give are the request's and maybe more; an exact manager adds those that
--- it
--- demands, and no others, and answers only where nothing is refused.
+-- the keys that a reader has to give are the request's and maybe more; an exact manager adds those
+-- that it demands, and no others, and answers only where nothing is refused.
 pub record GivesMaterials (n : ManagerNow) (request : EncRequestValue) (random : List ℕ)
     (materials : EncMaterialsValue) : Type 0 where
   pub context : materials.context ≡ request.context
@@ -179,11 +172,9 @@ GivesNone old new request errors.Memory = ⊤
 -- ---- materials to decrypt with
 
 -- What a manager answers to a header's pairs and entries: the whole context, its pairs that are
--- only
--- authenticated, and a data key that a told key opens from an entry; where nothing failed it is
--- that
--- of the first key, and for it of the first entry. An exact manager answers only where nothing is
--- wrong with the pairs.
+-- only authenticated, and a data key that a told key opens from an entry; where nothing failed it
+-- is that of the first key, and for it of the first entry. An exact manager answers only where
+-- nothing is wrong with the pairs.
 pub record FindsMaterials (old new : ManagerNow) (request : DecRequestValue)
     (materials : DecMaterialsValue) : Type 0 where
   pub context : materials.context ≡ whole_of request.stored request.given
@@ -218,10 +209,8 @@ offence_told faults.NoKeyOpens = None
 offence_told fault = Some fault
 
 -- Why there are no materials: a fault that stands; or a failure that was counted; or want of
--- memory.
--- Of an exact manager it is the first fault of the pairs, and it fails, or says that no key opens,
--- only
--- where nothing is wrong with them.
+-- memory. Of an exact manager it is the first fault of the pairs, and it fails, or says that no key
+-- opens, only where nothing is wrong with them.
 abbrev pub FindsNone : ManagerNow → ManagerNow → DecRequestValue → ManagerError → Type 0
 FindsNone old new request (errors.Fault fault) = FaultStands old.tells request fault
     × (old.exact → pair_offence request.stored request.given old.meaning.demands

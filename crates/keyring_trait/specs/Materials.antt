@@ -1,8 +1,8 @@
 -- What a materials manager hands out. AWS Encryption SDK Specification, "Structures", Encryption
 -- Materials and Decryption Materials.
-use Rattle.std.specs.Prelude.{ℕ, ◌≤◌, List, length}
+use Rattle.std.specs.Prelude.{ℕ, ◌≤◌, List, All, length}
 use Rattle.context_codec.specs.Context.{KeyValue}
-use Rattle.edk_codec.specs.Entry.{Entry}
+use Rattle.edk_codec.specs.Entry.{Entry, IsEntry}
 use Rattle.keyring_trait.specs.declared.served.Served.{Served}
 use Rattle.keyring_trait.specs.Requests.{AllHeld}
 
@@ -28,4 +28,5 @@ pub record AreEncMaterials (context : List KeyValue) (required : List (List ℕ)
     (entries : List Entry) : Type 0 where
   pub some : 1 ≤ length entries
   pub few : length entries ≤ 64
+  pub each : All IsEntry entries
   pub held : AllHeld context required

@@ -1,6 +1,7 @@
 //! What a keyring makes of a data key.
 
-ghost use Rattle.std.specs.Prelude.{◌≡◌};
+ghost use Rattle.std.specs.Prelude.{◌≡◌, All};
+ghost use Rattle.edk_codec.specs.Entry.{IsEntry};
 
 use crate::data_keys::DataKey;
 use edk_codec::DataKeyEntry;
@@ -15,16 +16,21 @@ pub struct Wrapped {
 }
 
 impl Model for Wrapped {
+    ghost use Rattle.std.specs.Prelude.{All};
+    ghost use Rattle.edk_codec.specs.Entry.{IsEntry};
     ghost use Rattle.keyring_trait.specs.Keyring.{WrappedValue};
 
     ghost Value = { WrappedValue };
 
     ghost view = { λ w. record { key = w.key; entries = w.entries.items } };
+
+    ghost invariant = { λ w. All IsEntry w.entries.items };
 }
 
 impl Wrapped {
     /// This data key, and its entries.
     pub fn new(key: DataKey, entries: Vec<DataKeyEntry>) -> Wrapped
+        requires { All IsEntry entries.items }
         ensures key { result.key ≡ key }
         ensures entries { result.entries ≡ entries.items }
     {
@@ -40,7 +46,8 @@ impl Wrapped {
 
     /// The entries, one for each wrap.
     pub fn entries(&self) -> &[DataKeyEntry]
-        ensures { result.now ≡ self.now.entries }
+        ensures entries { result.now ≡ self.now.entries }
+        ensures each { All IsEntry self.now.entries }
     {
         &self.entries
     }
@@ -49,6 +56,7 @@ impl Wrapped {
     pub fn into_parts(self) -> (DataKey, Vec<DataKeyEntry>)
         ensures key { result.0 ≡ self.key }
         ensures entries { result.1.items ≡ self.entries }
+        ensures each { All IsEntry self.entries }
     {
         (self.key, self.entries)
     }

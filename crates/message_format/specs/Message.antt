@@ -1,6 +1,6 @@
 -- The message that is written of a plaintext: header, authentication tag, framed body.
 -- Standard: AWS Encryption SDK Specification, "AWS Encryption SDK Message Format", version 2.0 with the committing suite 0x0478.
-use Rattle.std.specs.Prelude.{◌≡◌, ℕ, ◌-◌, ◌*◌, ◌^◌, ◌<◌, ◌≤◌, true, List, [], ◌++◌, length, All, replicate}
+use Rattle.std.specs.Prelude.{◌≡◌, ℕ, ◌-◌, ◌*◌, ◌^◌, ◌<◌, ◌≤◌, true, List, [], ◌++◌, length, All}
 use Rattle.cipher_spec.specs.Gcm.{sealed}
 use Rattle.context_codec.specs.Context.{KeyValue, IsContext, ctx_text}
 use Rattle.edk_codec.specs.Entry.{Entry, IsEntry}
@@ -8,7 +8,7 @@ use Rattle.header_codec.specs.Header.{latest_end}
 use Rattle.header_codec.specs.Written.{committing, written_header, keys_end}
 use Rattle.suite_table.specs.declared.suite.Suite.{Suite}
 use Rattle.suite_table.specs.declared.suite.Suite.TheVariants.{Committing}
-use Rattle.suite_table.specs.Suites.{id_length}
+use Rattle.suite_table.specs.Suites.{id_length, zero_iv}
 use Rattle.suite_table.specs.Keys.{derived, commitment}
 use Rattle.context_codec.specs.Parts.{holds, stored_of, only_of}
 use Rattle.frame_codec.specs.Unit.{Under}
@@ -36,7 +36,7 @@ under size key id = record { key = derived Committing key id; id = id; frame = s
 unfoldable pub message : List ℕ → List KeyValue → List (List ℕ) → ℕ → List ℕ → List Entry → List ℕ → List ℕ
 message text c required size key entries id =
     let raw = header_body c required size key entries id in
-    raw ++ header_tag Committing (replicate 12 0) raw (only_of required c) key id ++ framed_body (under size key id) text
+    raw ++ header_tag Committing zero_iv raw (only_of required c) key id ++ framed_body (under size key id) text
 
 -- What can be written: four bytes hold the frame length and each frame's number, the context has a text, what is required is in it, and the header's fields hold its parts.
 pub record IsWritable (text : List ℕ) (c : List KeyValue) (required : List (List ℕ)) (size : ℕ) (key : List ℕ) (entries : List Entry) (id : List ℕ) : Type 0 where

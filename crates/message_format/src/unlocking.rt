@@ -43,8 +43,8 @@ pub struct Unlocked {
 /// answered.
 ///
 /// `Fault` with the one that the manager names, M11 to M15; `KeyringFault` where it failed;
-/// `Memory` where memory runs out. The manager is asked once, or not at all where memory runs out
-/// before.
+/// `Memory` where memory runs out. The manager serves materials once, and none where there is an
+/// error.
 pub fn materials_for<M: Manager>(
     alloc: Global,
     manager: &mut M,
@@ -111,8 +111,8 @@ pub fn unlocked_by(alloc: Global, asked: Asked) -> Result<Unlocked, UnlockError>
 }
 
 /// Unlocks a header: asks the manager about it, at the moment `now`, when the caller gives these
-/// pairs, and tries what the manager finds on the header's lock. The manager is asked once, or not
-/// at all where memory runs out before.
+/// pairs, and tries what the manager finds on the header's lock. The manager serves materials once
+/// at the most.
 ///
 /// - `Fault`: the first that applies of the manager's, M11 to M15, then M16 where the header
 ///   doesn't commit to its data key, then M17 where its tag isn't that of its body and of the pairs

@@ -3,6 +3,7 @@
 ghost use Rattle.std.specs.Prelude.{◌≡◌, ◌≤◌, false, List, ◌++◌, length, IfOk};
 ghost use Rattle.cipher_spec.specs.Gcm.{sealed};
 ghost use Rattle.context_codec.specs.Context.{KeyValue, ctx_text};
+ghost use Rattle.edk_codec.specs.Entry.{IsEntry};
 ghost use Rattle.keyring_trait.specs.Wrapping.{wrap};
 
 use crate::raw_aes::RawAes;
@@ -28,7 +29,8 @@ impl RawAes {
         key: &DataKey,
     ) -> Result<DataKeyEntry, AllocError>
         requires { self.now.retired ≡ false }
-        ensures { IfOk result (λ e. e ≡ wrap self.now context.now iv.now key.now) }
+        ensures wrap { IfOk result (λ e. e ≡ wrap self.now context.now iv.now key.now) }
+        ensures entry { IfOk result IsEntry }
     {
         let aad = whole_text(alloc, context)?;
         wrapped_entry(alloc, &self.key, aad.bytes(), iv, key)
@@ -46,8 +48,9 @@ fn wrapped_entry(
     requires namespace { length wrap_key.now.namespace ≤ 1024 }
     requires name { length wrap_key.now.name ≤ 1024 }
     requires short { length aad.now ≤ 65535 }
-    ensures { IfOk result
+    ensures wrap { IfOk result
         (λ e. (c : List KeyValue) → aad.now ≡ ctx_text c → e ≡ wrap wrap_key.now c iv.now key.now) }
+    ensures entry { IfOk result IsEntry }
 {
     let info = raw_info(alloc, wrap_key.name.as_str().as_bytes(), iv)?;
     let cipher_key = Key256::new(&wrap_key.key);

@@ -1,6 +1,6 @@
 -- The algorithm suites, and what a suite says of the format of its messages. Standard: AWS
 -- Encryption SDK Specification, "Supported algorithm suites".
-use Rattle.std.specs.Prelude.{ℕ, Option, Some, None, if◌then◌else◌, ◌==◌}
+use Rattle.std.specs.Prelude.{ℕ, List, replicate, Option, Some, None, if◌then◌else◌, ◌==◌}
 use Rattle.suite_table.specs.declared.suite.Suite.{Suite}
 use Rattle.suite_table.specs.declared.suite.Suite.TheVariants.{Committing, Uncommitted}
 
@@ -23,6 +23,10 @@ format_version Uncommitted = 1
 abbrev pub id_length : Suite → ℕ
 id_length Committing = 32
 id_length Uncommitted = 16
+
+-- "IV" of a header that has none of its own, which is one of version 2: zeros
+abbrev pub zero_iv : List ℕ
+zero_iv = replicate 12 0
 
 -- how many bytes the header has that commit to the data key: "Algorithm Suite Data Length"
 abbrev pub data_length : Suite → ℕ

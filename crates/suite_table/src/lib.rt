@@ -10,4 +10,4 @@ pub use keys::{CommittedKeys, commitment, committed_keys, derived};
 pub use laws::{
     commitment_bytes, commitment_length, derived_bytes, derived_length, suites_are_found_by_id,
 };
-pub use suite::{Suite, suite_of};
+pub use suite::{Suite, ZERO_IV, suite_of};

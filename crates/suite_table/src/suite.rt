@@ -14,6 +14,10 @@ pub enum Suite {
     Uncommitted,
 }
 
+/// The initialization vector of the header's tag where the header has none of its own, which is
+/// under `Committing`: zeros.
+pub const ZERO_IV: [u8; 12] = [0; 12];
+
 impl Suite {
     /// The suite's id.
     pub fn id(self) -> u16

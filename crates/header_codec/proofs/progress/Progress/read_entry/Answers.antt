@@ -24,5 +24,5 @@ returns-in_err-entry-clause-stops c =
 pub returns-clause-holds : goal.returns-clause-holds
 returns-clause-holds c =
     entry_read c.args.bytes.now c.args.self.now _ c.args.left c.in_ok-owned.owned c.entry_of.new.cursor c.requires.front c.requires.left c.requires.some c.requires.holds
-    (ap entry (sym c.cursor_at-cursor.ensures.place) ∙ c.in_ok-entry.ensures.reads ∙ ap (λ (x : Entry). Read x c.entry_of.new.cursor) (sym c.in_ok-owned.ensures)) c.in_ok-entry.ensures.within
+    (ap entry (sym c.cursor_at-cursor.ensures.place) ∙ c.in_ok-entry.ensures.reads ∙ ap (λ (x : Entry). Read x c.entry_of.new.cursor) (sym c.in_ok-owned.ensures.parts)) c.in_ok-entry.ensures.within
     refl refl refl c.in_ok-push.ensures.items c.offset-self.ensures
