@@ -2,3 +2,5 @@ pub mod File
 pub mod Pieces
 pub mod Taken
 pub mod Written
+pub mod FileSource
+pub mod FileSourceLaws

@@ -1,18 +1,18 @@
 //! A file of a shelf as a source.
 
-ghost use Rattle.std.specs.Prelude.{◌≡◌, drop};
-ghost use Rattle.std.proofs.Common.{◌∙◌, refl};
-ghost use Rattle.std.specs.Option.{option_map};
-ghost use Rattle.esdk_base.specs.Shelf.{file_of};
+ghost use Rattle.std.specs.Prelude.{◌≡◌};
+ghost use Rattle.std.proofs.Common.{◌∙◌, ap, refl};
+ghost use Rattle.whole_input.specs.FileSource.{ReadsOn, file_left};
+ghost use Rattle.whole_input.specs.FileSourceLaws.{reads_more_named, reads_none};
 
 use esdk_base::{Failed, Shelf, Source};
 
 /// A file of a shelf as a source: its bytes from an offset on. The shelf is borrowed meanwhile, and
-/// its files stay as they are. The source tells its bytes where the shelf tells that it has the
-/// file; it gave as many bytes as the shelf did.
+/// its files stay as they are. How many bytes the source gave is the offset to which it came.
 ///
 /// A read fails where the shelf fails, where the file isn't there, and at the offset 2^64 - 1. Each
-/// failure is counted here, since a shelf doesn't count the reads of a file that isn't there.
+/// failure is counted here, since a shelf doesn't count the reads of a file that isn't there; and
+/// what lasts over the reads says why they failed.
 #[derive(Drop)]
 pub struct FileSource<'a, F> {
     shelf: &'a mut F,
@@ -39,17 +39,18 @@ impl<'a, F: Shelf> FileSource<'a, F> {
     }
 }
 
-/// Between two moments it is the same file of the same shelf, whose files are as they were.
+/// Between two moments it is the same file of the same shelf, read on.
 impl<'a, F: Shelf> Source for FileSource<'a, F> {
     ghost state = { λ s. record {
-      left = option_map (drop s.at) (file_of (F.state s.shelf.now).files s.name.now);
-      given = (F.state s.shelf.now).given;
+      left = file_left (F.state s.shelf.now).files s.name.now s.at;
+      given = s.at;
       faults = s.faults;
     } };
 
     ghost lasts = { λ old new. (new.shelf.ghost_name ≡ old.shelf.ghost_name)
         × (new.name ≡ old.name)
-        × ((F.state new.shelf.now).files ≡ (F.state old.shelf.now).files) };
+        × ReadsOn (F.state old.shelf.now) (F.state new.shelf.now) old.name.now
+        old.at new.at old.faults new.faults };
 
     fn read(&mut self, out: &mut [u8]) -> Result<usize, Failed> {
         let room = (u64::MAX - self.at).min(out.len() as u64) as usize;
@@ -63,8 +64,18 @@ impl<'a, F: Shelf> Source for FileSource<'a, F> {
         Err(Failed)
     }
 
-    ghost lasts_none = { λ s. (refl, refl, refl) };
+    ghost lasts_none = { λ s. (
+      refl,
+      refl,
+      reads_none (F.state s.shelf.now) s.name.now s.at s.faults,
+    ) };
 
-    ghost lasts_more = { λ r s t first second.
-        (second.0 ∙ first.0, second.1 ∙ first.1, second.2 ∙ first.2) };
+    ghost lasts_more = { λ r s t first second. (
+      second.0 ∙ first.0,
+      second.1 ∙ first.1,
+      reads_more_named
+          (F.state r.shelf.now) (F.state s.shelf.now) (F.state t.shelf.now) r.name.now s.name.now
+          r.at s.at t.at r.faults s.faults t.faults (ap (λ n. n.now) first.1)
+          first.2 second.2,
+    ) };
 }
