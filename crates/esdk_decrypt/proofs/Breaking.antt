@@ -48,7 +48,7 @@ unread_by settings b fault (Read parts p) e is = absurd (let no : None ≡ Some 
 unread_by settings b fault (Refused other at) e is = ap (λ (r : Reading Head). option_map (header_of b) (value_of r)) e
 unread_by settings b fault Wanting e is = absurd (let no : None ≡ Some fault = sym (ap (λ (r : Reading Head). fault_in r) e) ∙ is in cc)
 
-unread : (settings : Settings) (b : List ℕ) (fault : Fault) → header_fault settings b ≡ Some fault → header_in settings b ≡ None
+pub unread : (settings : Settings) (b : List ℕ) (fault : Fault) → header_fault settings b ≡ Some fault → header_in settings b ≡ None
 unread settings b fault is = unread_by settings b fault (header settings (start b)) refl is
 
 head_none : (b : List ℕ) (o : Option Head) → option_map (header_of b) o ≡ None → o ≡ None

@@ -140,7 +140,7 @@ unstopped_finish v goes e = unstopped_end (judged_now v).verdict (sym (ends_so v
 -- ---- the end of the decryption
 
 -- the manager's answer to the bytes that were fed
-come_to : {M O : Type 0} (state : M → ManagerNow) (sink : O → SinkState) (now : ℕ) (settings : Settings) (given : List KeyValue) (bytes : List ℕ) (old new : M) (output put : O) (opener : Opener)
+pub come_to : {M O : Type 0} (state : M → ManagerNow) (sink : O → SinkState) (now : ℕ) (settings : Settings) (given : List KeyValue) (bytes : List ℕ) (old new : M) (output put : O) (opener : Opener)
     → (u : FedWhole state (PutsAll sink) now (new_session settings given) bytes old new output put opener)
     → Answered (answering_of (state old) (state new) now) settings given bytes (judged_now u.fed.session) u.fed.session.answer
 come_to state sink now settings given bytes old new output put opener u =

@@ -1,7 +1,7 @@
-mod Answering
-mod Breaking
-mod Pieces
-mod Concluding
+pub mod Answering
+pub mod Breaking
+pub mod Pieces
+pub mod Concluding
 pub mod Told
 pub mod Readers
 pub mod WholeInputs

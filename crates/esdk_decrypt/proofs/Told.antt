@@ -98,7 +98,7 @@ reading_allowed from to given b (Read parts body) answer allows answers = reques
 reading_allowed from to given b (Refused fault at) answer allows is = is
 reading_allowed from to given b Wanting answer allows is = is
 
-failing_allowed : (from to : Answering) (given : List KeyValue) (b : List ℕ) (r : Reading Head) → Allows from to → FailsReading from given b r → FailsReading to given b r
+pub failing_allowed : (from to : Answering) (given : List KeyValue) (b : List ℕ) (r : Reading Head) → Allows from to → FailsReading from given b r → FailsReading to given b r
 failing_allowed from to given b (Read parts body) allows fails = allows.finds_none _ managers.KeyringFault fails
 failing_allowed from to given b (Refused fault at) allows none = none
 failing_allowed from to given b Wanting allows none = none
@@ -107,7 +107,7 @@ failing_allowed from to given b Wanting allows none = none
 abbrev pub asked_of : Answering → Settings → List KeyValue → Asked
 asked_of manager settings given = record { manager = manager; settings = settings; given = given }
 
-answered_allowed : (from to : Answering) (settings : Settings) (given : List KeyValue) (b : List ℕ) (answer : Unlocking) → Allows from to
+pub answered_allowed : (from to : Answering) (settings : Settings) (given : List KeyValue) (b : List ℕ) (answer : Unlocking) → Allows from to
     → AnswersTo from settings given b answer → AnswersTo to settings given b answer
 answered_allowed from to settings given b answer allows answers = reading_allowed from to given b (header settings (start b)) answer allows answers
 

@@ -28,7 +28,7 @@ use Rattle.esdk_decrypt.specs.Decrypt.{HasContext, fault_at_end}
 
 -- ---- the manager
 
--- It was asked once at the most: it bears the lines that it bore, and one more where it served.
+-- It served once at the most: it bears the lines that it bore, and one more where it served.
 abbrev pub BearsOnce : ManagerNow → ManagerNow → ℕ → Type 0
 BearsOnce old new now = (served : Option Served) × BearsHeard old new now served
 

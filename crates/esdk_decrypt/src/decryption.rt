@@ -1,20 +1,18 @@
 //! The decryption of an input.
 
-ghost use Rattle.std.specs.Prelude.{◌≡◌, ◌≢◌, ◌+◌, ◌≤◌, ◌^◌, ℕ, List, IfOk, IfErr};
+ghost use Rattle.std.specs.Prelude.{◌≡◌, ◌≢◌, ◌+◌, ◌≤◌, ◌^◌, List, IfOk, IfErr};
 ghost use Rattle.esdk_fields.specs.Counts.{Stayed};
-ghost use Rattle.context_codec.specs.Context.{KeyValue};
 ghost use Rattle.header_codec.specs.declared.settings.Settings.{Settings};
 ghost use Rattle.keyring_trait.specs.Manager.{Went};
 ghost use Rattle.keyring_trait.specs.Wrapping.{WrapKeyValue};
 ghost use Rattle.esdk_base.specs.declared.receiver.FeedError.TheVariants.{Machine};
 ghost use Rattle.stream_open.specs.declared.errors.OpenError.TheVariants.{Stopped};
 ghost use Rattle.stream_open.specs.Feeding.{GoesOn};
-ghost use Rattle.stream_open.specs.Receiving.{HasSession};
-ghost use Rattle.stream_open.specs.Session.{OpeningValue, new_session};
+ghost use Rattle.stream_open.specs.Session.{OpeningValue};
 ghost use Rattle.stream_open.specs.Stands.{Stands};
 ghost use Rattle.esdk_decrypt.specs.Decrypt.{Decrypts, DecryptEnds, asked_from};
 ghost use Rattle.esdk_decrypt.specs.Told.{asked_by};
-ghost use Rattle.esdk_decrypt.specs.Underway.{BearsOnce, Concludes, ConcludesWhole, IsCalled, IsFeedCalled, IsFedWhole, IsGoing};
+ghost use Rattle.esdk_decrypt.specs.Underway.{BearsOnce, Concludes, ConcludesWhole, IsCalled, IsFeedCalled, IsGoing};
 
 use crate::errors::DecryptError;
 use context_codec::Context;
@@ -97,38 +95,6 @@ pub fn decrypt<M: Manager, S: Source, O: Sink>(
     // Where the manager isn't asked, it stays as it is: `wraps` says what that keeps.
     let _wraps = manager.wraps();
     let mut opener = Opener::new(alloc, settings, given.copy(alloc)?);
-    let end = feed_input(alloc, manager, now, input, &mut opener, output)?;
-    conclude(opener, end)
-}
-
-/// Feeds the opener, which has taken nothing, all pieces of the input, and says why no more came.
-/// The buffer is taken before the first read.
-fn feed_input<M: Manager, S: Source, O: Sink>(
-    alloc: Global,
-    manager: &mut M,
-    now: u64,
-    input: &mut S,
-    opener: &mut Opener,
-    output: &mut O,
-) -> Result<End, DecryptError>
-    requires manager { Went (M.state manager.old) (M.state manager.old) }
-    requires going { IsGoing opener.old }
-    ensures fed { (settings : Settings) (given : List KeyValue)
-        → Stands opener.old (new_session settings given) → IfOk result (λ end. IsFedWhole M.state O.state
-        now (new_session settings given) (S.state input.old) (S.state input.new) manager.old manager.new
-        output.old output.new end opener.new) }
-    ensures ends { (settings : Settings) (given : List KeyValue)
-        → Stands opener.old (new_session settings given) → IfErr result (DecryptEnds
-        (asked_from (M.state manager.old) (M.state manager.new) now settings given)
-        (S.state input.old) (S.state input.new) (O.state output.old) (O.state output.new)
-        (output.new ≡ output.old)) }
-    ensures bears { (settings : Settings) (given : List KeyValue)
-        → Stands opener.old (new_session settings given)
-        → BearsOnce (M.state manager.old) (M.state manager.new) now }
-    ensures going { IfOk result (λ _. IsGoing opener.new) }
-    ensures went { Went (M.state manager.old) (M.state manager.new) }
-    ensures taken { (S.state input.new).given ≤ (S.state input.old).given + 2 ^ 62 }
-{
     let mut pieces = Pieces::new(alloc)?;
     'reads: loop {
         match pieces.next(input) {
@@ -136,7 +102,7 @@ fn feed_input<M: Manager, S: Source, O: Sink>(
                 Ok(()) => {}
                 Err(error) => return Err(failure_of(error)),
             },
-            Err(end) => return Ok(end),
+            Err(end) => return conclude(opener, end),
         }
     }
 }

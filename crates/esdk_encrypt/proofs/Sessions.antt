@@ -42,7 +42,8 @@ module _ (m : EncMaterialsValue) (size : ℕ) (id text : List ℕ) where
     unfolding given_so_far fed
     given_then = refl
 
-    written_then : 1 ≤ size → length text ≤ most_text size
+    -- what the piece gives stands behind what was written before
+    pub written_then : 1 ≤ size → length text ≤ most_text size
         → written_so_far m size id text ++ fed_out (session_of m size id text) piece ≡ written_so_far m size id (take (most_text size) (text ++ piece))
     written_then wide short =
         ap (λ (g : List ℕ). g ++ fed_out (session_of m size id text) piece) (sym given_is)

@@ -104,7 +104,7 @@ ends_more a b input taken output put entropy spent untouched unasked errors.Memo
 -- ---- keys that are told
 
 -- The manager tells these keys, and is exact and plain.
-record IsTold (keys : List WrapKeyValue) (n : ManagerNow) : Type 0 where
+pub record IsTold (keys : List WrapKeyValue) (n : ManagerNow) : Type 0 where
   told : n.tells keys
   is_exact : n.exact
   plain : n.meaning.plain ≡ true
@@ -135,7 +135,7 @@ none_told keys old new request size max_keys managers.Memory is_exact cause = tt
 abbrev asked_between : ManagerNow → ManagerNow → EncRequestValue → ℕ → ℕ → Option ℕ → Asked
 asked_between old new request now size max_keys = encryption_of (said_last old new) request now size max_keys
 
-told_more : (keys : List WrapKeyValue) (old new : ManagerNow) (request : EncRequestValue) (now size : ℕ) (max_keys : Option ℕ)
+pub told_more : (keys : List WrapKeyValue) (old new : ManagerNow) (request : EncRequestValue) (now size : ℕ) (max_keys : Option ℕ)
     → IsTold keys old → SaysMore (asked_between old new request now size max_keys) (asked_told keys old.meaning new.meaning request size max_keys)
 told_more keys old new request now size max_keys is = record {
   wraps = sym is.count;
@@ -150,7 +150,7 @@ pub record CountsWraps (n : ManagerNow) : Type 0 where
   pub told : (keys : List WrapKeyValue) → n.tells keys → length (active keys) ≡ n.meaning.wraps
   pub plain : n.meaning.plain ≡ true → n.meaning.fresh ≡ true
 
-is_told : (keys : List WrapKeyValue) (n : ManagerNow) → CountsWraps n → n.tells keys → n.exact → n.meaning.plain ≡ true → IsTold keys n
+pub is_told : (keys : List WrapKeyValue) (n : ManagerNow) → CountsWraps n → n.tells keys → n.exact → n.meaning.plain ≡ true → IsTold keys n
 is_told keys n counts told is_exact plain =
     record { told = told; is_exact = is_exact; plain = plain; fresh = counts.plain plain; count = counts.told keys told }
 

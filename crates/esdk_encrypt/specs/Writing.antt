@@ -1,5 +1,5 @@
 -- A message that is written as its text comes.
-use Rattle.std.specs.Prelude.{◌≡◌, ℕ, ◌≤◌, List, [], length, false, None, Result, Ok, Err}
+use Rattle.std.specs.Prelude.{◌≡◌, ℕ, List, [], length, false, None, Result, Ok, Err}
 use Rattle.esdk_base.specs.declared.receiver.FeedError.{FeedError}
 use Rattle.esdk_base.specs.declared.receiver.FeedError.TheVariants as feeds
 use Rattle.esdk_base.specs.declared.source.Failed.{Failed}
@@ -7,10 +7,8 @@ use Rattle.esdk_fields.specs.declared.refusals.Outside.TheVariants as outsides
 use Rattle.keyring_trait.specs.Materials.{EncMaterialsValue}
 use Rattle.stream_seal.specs.declared.errors.SealError.{SealError}
 use Rattle.stream_seal.specs.declared.errors.SealError.TheVariants as seals
-use Rattle.stream_seal.specs.declared.session.Sealer.{Sealer}
 use Rattle.stream_seal.specs.Feeding.{frames_given}
 use Rattle.stream_seal.specs.Session.{SealingValue}
-use Rattle.stream_seal.specs.Stands.{Stands}
 use Rattle.esdk_encrypt.specs.declared.errors.EncryptError.{EncryptError}
 use Rattle.esdk_encrypt.specs.declared.errors.EncryptError.TheVariants as errors
 
@@ -27,14 +25,6 @@ session_of m size id text = record {
   stopped = false;
   out = [];
 }
-
--- The sealer begins a message: it stands for a session that took nothing yet.
-pub record IsNewSealer (sealer : Sealer) : Type 0 where
-  pub materials : EncMaterialsValue
-  pub size : ℕ
-  pub id : List ℕ
-  pub wide : 1 ≤ size
-  pub stands : Stands sealer (session_of materials size id [])
 
 -- what feeding or finishing a sealer into a sink comes to
 abbrev pub Fed : Type 0

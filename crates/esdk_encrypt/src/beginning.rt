@@ -9,7 +9,6 @@ ghost use Rattle.esdk_encrypt.specs.Writing.{session_of};
 
 use crate::errors::EncryptError;
 use crate::options::EncryptOptions;
-use edk_codec::are_entries;
 use keyring_trait::EncMaterials;
 use std::alloc::Global;
 use stream_seal::{SealError, Sealer};
@@ -32,7 +31,8 @@ pub(crate) fn begin(
         message_id.now)) }
     ensures each { All IsEntry materials.now.entries }
 {
-    are_entries(materials.entries());
+    // Called for its clause alone, which says what the type keeps of the entries.
+    let _entries = materials.entries();
     let length = options.frame_length;
     match Sealer::begin(alloc, materials, None, length, options.max_keys, message_id) {
         Ok(sealer) => Ok(sealer),

@@ -14,7 +14,7 @@ const MOST_DRAWN: usize = 832;
 
 /// The bytes that a message is made with, at least 64. A contract sees the list of the bytes.
 #[derive(Drop)]
-pub(crate) struct Draws {
+pub struct Draws {
     bytes: [u8; MOST_DRAWN],
     count: usize,
 }
@@ -31,7 +31,7 @@ impl Model for Draws {
 
 impl Draws {
     /// All of the bytes.
-    fn bytes(&self) -> &[u8]
+    pub fn bytes(&self) -> &[u8]
         ensures bytes { result.now ≡ self.now }
         ensures some { 64 ≤ length self.now }
     {
@@ -56,7 +56,7 @@ impl Draws {
 }
 
 /// Draws them by one fill: 32 of message id, 32 of data key, and 12 of IV for each wrap.
-pub(crate) fn draw<W: Entropy>(entropy: &mut W, wraps: u32) -> Result<Draws, Failed>
+pub fn draw<W: Entropy>(entropy: &mut W, wraps: u32) -> Result<Draws, Failed>
     requires { wraps ≤ 64 }
     ensures drew { IfOk result (λ drawn. Drew wraps (W.state entropy.old)
         (W.state entropy.new) drawn) }

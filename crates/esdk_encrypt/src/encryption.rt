@@ -7,17 +7,18 @@ ghost use Rattle.keyring_trait.specs.Wrapping.{WrapKeyValue};
 ghost use Rattle.esdk_encrypt.specs.Asking.{BearsAtMostOne};
 ghost use Rattle.esdk_encrypt.specs.Encrypt.{encryption_of, Encrypts, EncryptEnds, GivesNot, IsNoFault};
 ghost use Rattle.esdk_encrypt.specs.Told.{asked_told};
+ghost use Rattle.esdk_encrypt.specs.Writing.{IsNamed, WritesAs};
 
 use crate::beginning::begin;
 use crate::draws::draw;
 use crate::errors::EncryptError;
 use crate::options::EncryptOptions;
-use crate::writing::put_message;
-use esdk_base::{Entropy, Sink, Source};
+use esdk_base::{Entropy, Failed, FeedError, Sink, Source};
 use esdk_fields::Outside;
 use keyring_trait::{EncRequest, Manager, ManagerError};
 use std::alloc::Global;
-use whole_input::Pieces;
+use stream_seal::SealError;
+use whole_input::{End, Pieces};
 
 /// Encrypts the whole input with materials of the manager, as the request asks for them, and writes
 /// the message.
@@ -111,7 +112,17 @@ pub fn encrypt<M: Manager, S: Source, O: Sink, W: Entropy>(
     let id = draws.message_id();
     let mut sealer = begin(alloc, &materials, options, &id)?;
     let mut pieces = Pieces::new(alloc)?;
-    put_message(&mut sealer, &mut pieces, input, output)
+    let Ok(()) = output.put(sealer.header()) else {
+        return Err(EncryptError::Outside(Outside::SinkFault));
+    };
+    'reads: loop {
+        match pieces.next(input) {
+            Ok(()) => written(sealer.feed(pieces.piece(), output))?,
+            Err(End::Seen) => return written(sealer.finish_into(output)),
+            Err(End::Failed) => return Err(EncryptError::Outside(Outside::SourceFault)),
+            Err(End::TooLong) => return Err(EncryptError::Outside(Outside::InputTooLong)),
+        }
+    }
 }
 
 /// Why a run ends whose manager gives no materials.
@@ -125,5 +136,19 @@ fn ungiven(error: ManagerError) -> EncryptError
         ManagerError::Memory => EncryptError::Memory,
         // There is no header yet that could have a fault.
         ManagerError::Fault(_) => unreachable!(),
+    }
+}
+
+/// What a run answers where the sealer was fed or finished so.
+fn written(fed: Result<(), FeedError<SealError, Failed>>) -> Result<(), EncryptError>
+    requires { IsNamed fed }
+    ensures { WritesAs fed result }
+{
+    match fed {
+        Ok(()) => Ok(()),
+        Err(FeedError::Receiver(_)) => Err(EncryptError::Outside(Outside::SinkFault)),
+        Err(FeedError::Machine(SealError::Refusal(refusal))) => Err(EncryptError::Refusal(refusal)),
+        // The session goes on, and never answers `Memory`.
+        Err(FeedError::Machine(_)) => unreachable!(),
     }
 }

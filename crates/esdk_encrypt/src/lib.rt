@@ -20,8 +20,8 @@ mod encryption;
 mod errors;
 mod laws;
 mod options;
-mod writing;
 
+pub use draws::{Draws, draw};
 pub use encryption::encrypt;
 pub use errors::EncryptError;
 pub use laws::{

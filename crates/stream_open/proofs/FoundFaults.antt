@@ -22,7 +22,7 @@ use Rattle.body_format.specs.declared.verdicts.Verdict.TheVariants.{Going, Whole
 use Rattle.body_format.specs.Rows.{JudgedBody, released, behind_last, verdict_of}
 use Rattle.body_format.specs.Body.{judged_body}
 use Rattle.body_format.proofs.Loop.{passed_none, wanting_end}
-use Rattle.message_format.specs.Judgement.{Judged, judged, judged_header, opened_as, header_of, lock_fault, content, marks}
+use Rattle.message_format.specs.Judgement.{Judged, judged, judged_header, locked, opened_as, header_of, lock_fault, content, marks}
 use Rattle.message_format.proofs.Bodies.{body_trailing_units}
 use Rattle.message_format.proofs.Following.{follows, header_stays}
 use Rattle.message_format.proofs.Judging.{body_of, judged_read, judged_refused, judged_wanting, judged_opened, judged_locked}
@@ -218,12 +218,20 @@ nothing_left w piece n parts p whole only key now ends at_n answer opens =
 going_not : (fault : Fault) → Going ≡ Faulty fault → ⊥
 going_not fault e = cc
 
+-- It isn't unlocked, and nothing is released.
+record IsShut (j : Judged) : Type 0 where
+  locked : j.unlocked ≡ false
+  released : content j ≡ []
+
+shut_with : (j : Judged) (verdict : Verdict) → j ≡ locked verdict → IsShut j
+shut_with j verdict is = record { locked = ap (λ (k : Judged). k.unlocked) is; released = ap content is }
+
 locked_lock : (w : OpeningValue) (piece : List ℕ) (n : ℕ) (fault : Fault) (parts : Head) (p : Place) (whole only : List KeyValue) (key : List ℕ) (lock : Option Fault)
     → header w.settings (start w.taken) ≡ Wanting → EndsAt w piece n → (judged_with w piece n).verdict ≡ Faulty fault
     → header w.settings (start (w.taken ++ take n piece)) ≡ Read parts p → answer_kept w.answer ≡ Unlocks whole only key → lock_fault (header_of (w.taken ++ take n piece) parts) only key ≡ lock
-    → content (judged_with w piece n) ≡ []
+    → IsShut (judged_with w piece n)
 locked_lock w piece n fault parts p whole only key (Some other) now ends faulty at_n answer is =
-    ap content
+    shut_with (judged_with w piece n) (Faulty other)
     (judged_read (w.taken ++ take n piece) w.settings (answer_kept w.answer) parts p at_n ∙ ap (judged_header w.settings (header_of (w.taken ++ take n piece) parts) p) answer
     ∙ judged_locked w.settings (header_of (w.taken ++ take n piece) parts) p whole only key other is)
 locked_lock w piece n fault parts p whole only key None now ends faulty at_n answer is =
@@ -234,26 +242,29 @@ locked_lock w piece n fault parts p whole only key None now ends faulty at_n ans
     absurd (going_not fault (sym going ∙ sym (ap (λ (j : Judged). j.verdict) with_n) ∙ faulty))
 
 locked_answer : (w : OpeningValue) (piece : List ℕ) (n : ℕ) (fault : Fault) (parts : Head) (p : Place) (a : Unlocking) → header w.settings (start w.taken) ≡ Wanting → EndsAt w piece n
-    → (judged_with w piece n).verdict ≡ Faulty fault → header w.settings (start (w.taken ++ take n piece)) ≡ Read parts p → answer_kept w.answer ≡ a → content (judged_with w piece n) ≡ []
+    → (judged_with w piece n).verdict ≡ Faulty fault → header w.settings (start (w.taken ++ take n piece)) ≡ Read parts p → answer_kept w.answer ≡ a → IsShut (judged_with w piece n)
 locked_answer w piece n fault parts p (Refuses other) now ends faulty at_n answer =
-    ap content
+    shut_with (judged_with w piece n) (Faulty other)
     (judged_read (w.taken ++ take n piece) w.settings (answer_kept w.answer) parts p at_n ∙ ap (judged_header w.settings (header_of (w.taken ++ take n piece) parts) p) answer)
 locked_answer w piece n fault parts p (Unlocks whole only key) now ends faulty at_n answer =
     locked_lock w piece n fault parts p whole only key (lock_fault (header_of (w.taken ++ take n piece) parts) only key) now ends faulty at_n answer refl
 
 locked_reading : (w : OpeningValue) (piece : List ℕ) (n : ℕ) (fault : Fault) (r : Reading Head) → header w.settings (start w.taken) ≡ Wanting → EndsAt w piece n → (judged_with w piece n).verdict ≡ Faulty fault
-    → header w.settings (start (w.taken ++ take n piece)) ≡ r → content (judged_with w piece n) ≡ []
+    → header w.settings (start (w.taken ++ take n piece)) ≡ r → IsShut (judged_with w piece n)
 locked_reading w piece n fault (Read parts p) now ends faulty is = locked_answer w piece n fault parts p (answer_kept w.answer) now ends faulty is refl
-locked_reading w piece n fault (Refused other at) now ends faulty is = ap content (judged_refused (w.taken ++ take n piece) w.settings (answer_kept w.answer) other at is)
-locked_reading w piece n fault Wanting now ends faulty is = ap content (judged_wanting (w.taken ++ take n piece) w.settings (answer_kept w.answer) is)
+locked_reading w piece n fault (Refused other at) now ends faulty is =
+    shut_with (judged_with w piece n) (Faulty other) (judged_refused (w.taken ++ take n piece) w.settings (answer_kept w.answer) other at is)
+locked_reading w piece n fault Wanting now ends faulty is = shut_with (judged_with w piece n) Going (judged_wanting (w.taken ++ take n piece) w.settings (answer_kept w.answer) is)
 
 -- nothing was released before the header was unlocked
 pub nothing_yet : (v : OpeningValue) → header v.settings (start v.taken) ≡ Wanting → content (judged_now v) ≡ []
 nothing_yet v now = ap content (judged_wanting v.taken v.settings (answer_kept v.answer) now)
 
+shut_there : (w : OpeningValue) (piece : List ℕ) (fault : Fault) → header w.settings (start w.taken) ≡ Wanting → FaultyAt w piece fault → IsShut (judged_with w piece (reach w piece))
+shut_there w piece fault now at = locked_reading w piece (reach w piece) fault (header w.settings (start (w.taken ++ take (reach w piece) piece))) now at.ends at.verdict refl
+
 in_header : (w : OpeningValue) (piece : List ℕ) (fault : Fault) → header w.settings (start w.taken) ≡ Wanting → FaultyAt w piece fault → content (judged_with w piece (reach w piece)) ≡ content (judged_now w)
-in_header w piece fault now at =
-    locked_reading w piece (reach w piece) fault (header w.settings (start (w.taken ++ take (reach w piece) piece))) now at.ends at.verdict refl ∙ sym (nothing_yet w now)
+in_header w piece fault now at = (shut_there w piece fault now at).released ∙ sym (nothing_yet w now)
 
 -- ---- what was heard
 
@@ -340,3 +351,16 @@ finds_fault v piece heard fault goes may is =
       released = ap content whole ∙ released_by v piece heard fault goes may (standing v goes) at;
       unheard = λ e. unheard_by v piece heard fault goes may is verdict e;
     }
+
+-- A fault that is found before the header is unlocked leaves the message locked.
+pub faulty_locked : (v : OpeningValue) (piece : List ℕ) (heard : Heard) (fault : Fault) → GoesOn v → header v.settings (start v.taken) ≡ Wanting → step_answer v piece heard ≡ Err (errors.Fault fault)
+    → (judged_all v piece heard).unlocked ≡ false
+faulty_locked v piece heard fault goes now is =
+    let at = faulty_at v piece heard fault goes.going is in
+    ap (λ (j : Judged). j.unlocked) (all_is v piece heard (reach (keeping v heard) piece) fault at.verdict) ∙ (shut v heard now at).locked
+  where
+    shut : (v : OpeningValue) (heard : Heard) → header v.settings (start v.taken) ≡ Wanting → FaultyAt (keeping v heard) piece fault → IsShut (judged_with (keeping v heard) piece (reach (keeping v heard) piece))
+    shut v Nothing now at = shut_there v piece fault now at
+    shut v (Found m) now at = shut_there (keeping v (Found m)) piece fault now at
+    shut v (Named named) now at = shut_there (keeping v (Named named)) piece fault now at
+    shut v Failed now at = shut_there v piece fault now at

@@ -123,6 +123,12 @@ module _ {M : Type 0} (state : M → ManagerNow) (now : ℕ) (v : OpeningValue) 
         unasked = j.unasked;
       }
 
+  -- the session is the one that the step left
+  pub session_on : (n : ℕ) (s : Steps (state mid) (state new) now fed.session rest (Ok n) next) (stays : asked_header fed.session rest ≡ None → new ≡ mid) (some : 1 ≤ length rest)
+      → (step_on n s stays some).session ≡ stepped fed.session rest s.heard (Ok n)
+  unfolding step_on
+  session_on n s stays some = refl
+
   -- ---- a step that failed
 
   -- all of the piece is judged as one
@@ -287,8 +293,19 @@ module _ {M R E : Type 0} (state : M → ManagerNow) (takes : R → R → List �
   ends_at errors.Memory s stays = short_at errors.Memory s stays
   ends_at errors.Stopped s stays = absurd (short_at errors.Stopped s stays).why
 
+none_asked_by : (v : OpeningValue) → GoesOn v → (a : Option Unlocking) → v.answer ≡ a → asked_header v [] ≡ None
+none_asked_by v goes (Some a) is = asked_kept v [] a is
+none_asked_by v goes None is =
+    asked_head v [] goes is
+    ∙ ap (λ (b : List ℕ). option_map (header_of b) (head v.settings b)) (append-nil v.taken)
+    ∙ ap (λ (o : Option Head). option_map (header_of v.taken) o) (goes.unheard is)
+
+-- about no bytes more no header is asked
+pub none_asked : (v : OpeningValue) → GoesOn v → asked_header v [] ≡ None
+none_asked v goes = none_asked_by v goes v.answer refl
+
 -- nothing was fed yet
-pub whole_none : {M R : Type 0} (state : M → ManagerNow) (takes : R → R → List ℕ → Type 0) (now : ℕ) (v : OpeningValue) (manager : M) (output : R) (opener : Opener)
+abbrev pub whole_none : {M R : Type 0} (state : M → ManagerNow) (takes : R → R → List ℕ → Type 0) (now : ℕ) (v : OpeningValue) (manager : M) (output : R) (opener : Opener)
     → GoesOn v → Stands opener v → ((r : R) → takes r r []) → FedWhole state takes now v [] manager manager output output opener
 whole_none state takes now v manager output opener goes stands takes_none = record {
   given = [];
@@ -298,7 +315,7 @@ whole_none state takes now v manager output opener goes stands takes_none = reco
     stands = stands;
     feeds = feeds_nothing v goes;
     heard = Nothing;
-    hears = inl (unasked_yet v goes v.answer refl);
+    hears = inl (none_asked v goes);
     bears = λ lines bears. bears;
     answer = refl;
     served = refl;
@@ -307,13 +324,6 @@ whole_none state takes now v manager output opener goes stands takes_none = reco
   taken = takes_none output;
   nothing = λ none. refl;
 }
-  where
-    unasked_yet : (v : OpeningValue) → GoesOn v → (a : Option Unlocking) → v.answer ≡ a → asked_header v [] ≡ None
-    unasked_yet v goes (Some a) is = asked_kept v [] a is
-    unasked_yet v goes None is =
-        asked_head v [] goes is
-        ∙ ap (λ (b : List ℕ). option_map (header_of b) (head v.settings b)) (append-nil v.taken)
-        ∙ ap (λ (o : Option Head). option_map (header_of v.taken) o) (goes.unheard is)
 
 -- an earlier call answered an error
 pub stays_stopped : {M R : Type 0} (opener next : Opener) (v : OpeningValue) (manager : M) (output : R) → Stands opener v → opener.stopped ≡ true

@@ -45,10 +45,15 @@ reading_answer n (Read piece next) = Ok n
 reading_answer n (Refused fault at) = Err (errors.Fault fault)
 reading_answer n Wanting = Ok n
 
--- Behind the last unit no byte may follow. Else bytes are taken up to the end of the open unit, or up to where it has a fault.
+-- behind the last unit no byte may follow
+abbrev pub answer_behind : List ℕ → Result ℕ OpenError
+answer_behind piece = if length piece == 0 then Ok 0 else Err (errors.Fault TrailingBytes)
+
+-- Behind the last unit that answer. Else bytes are taken up to the end of the open unit, or up to
+-- where it has a fault.
 unfoldable pub body_answer : Body → List ℕ → Result ℕ OpenError
 body_answer body piece =
-    if body.ended then (if length piece == 0 then Ok 0 else Err (errors.Fault TrailingBytes))
+    if body.ended then answer_behind piece
     else reading_answer (unit_reach body piece) (open_unit body (body.unit.held ++ take (unit_reach body piece) piece))
 
 -- the reserved memory holds a whole frame

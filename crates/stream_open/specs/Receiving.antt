@@ -49,7 +49,7 @@ pub record FedTo {M : Type 0} (state : M → ManagerNow) (now : ℕ) (v : Openin
   pub served : session.served ≡ (keeping v heard).served
   pub unasked : asked_header v bytes ≡ None → new ≡ old
 
--- What is fed behind other bytes was fed with them as one: the manager was asked once for both.
+-- What is fed behind other bytes was fed with them as one: the manager answered once at the most.
 abbrev pub FedAsOne : {M : Type 0} → (M → ManagerNow) → M → M → M → Type 0
 FedAsOne state old mid new = (now : ℕ) (v : OpeningValue) (first second given more : List ℕ) (opener next : Opener)
     (fed : FedTo state now v first given old mid opener) → FedTo state now fed.session second more mid new next

@@ -4,7 +4,7 @@ ghost use Rattle.std.specs.Prelude.{◌≡◌, ◌+◌, ◌<◌, ◌≤◌, ℕ,
 ghost use Rattle.esdk_fields.specs.Reading.{Read, Refused};
 ghost use Rattle.esdk_fields.specs.declared.faults.Fault.TheVariants.{UnitTag};
 ghost use Rattle.frame_codec.specs.UnitHead.{final_mark, longest_block, IfRegular};
-ghost use Rattle.stream_open.specs.Body.{AnswersBody, GoesOn, HoldsFrames, IsInUnit, SameBody, StepsBody};
+ghost use Rattle.stream_open.specs.Body.{answer_behind, AnswersBody, GoesOn, HoldsFrames, IsInUnit, SameBody, StepsBody};
 ghost use Rattle.frame_codec.specs.UnitBuffer.{opened_of};
 ghost use Rattle.stream_open.specs.declared.errors.OpenError.TheVariants as errors;
 ghost use Rattle.stream_open.specs.Session.{framed};
@@ -91,28 +91,9 @@ impl Body {
         ensures within { IfOk result (λ n. n ≤ length piece.now) }
     {
         self.unit.go_on();
-        if !self.ended {
-            return self.step_unit(piece);
+        if self.ended {
+            return answer_behind(piece);
         }
-        if piece.is_empty() {
-            Ok(0)
-        } else {
-            Err(OpenError::Fault(Fault::TrailingBytes))
-        }
-    }
-
-    /// Takes bytes up to the end of the open unit, or of the piece, while the body isn't ended.
-    fn step_unit(&mut self, piece: &[u8]) -> Result<usize, OpenError>
-        requires going { self.old.ended ≡ false }
-        requires out { self.old.unit.out ≡ [] }
-        ensures answer { IsInUnit self.old → AnswersBody self.old piece.now result }
-        ensures same { SameBody self.old self.new }
-        ensures steps { IsInUnit self.old → IfOk result
-            (λ n. StepsBody self.old piece.now n self.new) }
-        ensures kept { OnErr result (self.new.ended ≡ self.old.ended) }
-        ensures nothing { OnErr result (self.new.unit.out ≡ []) }
-        ensures within { IfOk result (λ n. n ≤ length piece.now) }
-    {
         let mut used = 0;
         'fields: loop {
             let held = self.unit.held();
@@ -161,5 +142,17 @@ impl Body {
             UnitKind::Final | UnitKind::Single => self.ended = true,
         }
         Ok(())
+    }
+}
+
+/// What a step answers behind the last unit, where no byte may come: `Fault` with M22 where one
+/// does.
+fn answer_behind(piece: &[u8]) -> Result<usize, OpenError>
+    ensures { result ≡ answer_behind piece.now }
+{
+    if piece.is_empty() {
+        Ok(0)
+    } else {
+        Err(OpenError::Fault(Fault::TrailingBytes))
     }
 }

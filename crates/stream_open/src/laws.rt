@@ -36,7 +36,7 @@ pub fn pieces_are_fed_to_their_end()
 {}
 
 /// Pieces that are fed one after another come to what they come to as one piece: what was given is
-/// joined, and the manager was asked once at the most for all of them.
+/// joined, and the manager answered once at the most for all of them.
 pub fn pieces_are_fed_as_one<M: Manager>(first: &M, between: &M, last: &M)
     ensures { FedAsOne M.state first.now between.now last.now }
 {}

@@ -93,7 +93,7 @@ impl Opener {
             return Err(OpenError::Stopped);
         }
         if let Some(unlocked) = &mut self.unlocked {
-            let answer = unlocked.step(piece);
+            let answer = unlocked.body.step(piece);
             self.stopped = answer.is_err();
             return answer;
         }

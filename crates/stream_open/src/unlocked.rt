@@ -1,13 +1,10 @@
 //! What a header is unlocked with.
 
-ghost use Rattle.std.specs.Prelude.{◌≡◌, ◌≤◌, length, false, IfOk, IfErr};
+ghost use Rattle.std.specs.Prelude.{IfOk, IfErr};
 ghost use Rattle.message_format.specs.Unlocking.{KeepsLock};
-ghost use Rattle.stream_open.specs.Session.{OpeningValue};
-ghost use Rattle.stream_open.specs.Stands.{IsUnlocked, StepsUnlocked};
 ghost use Rattle.stream_open.specs.Unlocking.{IsBegun};
 
 use crate::body::Body;
-use crate::errors::OpenError;
 use context_codec::Context;
 use message_format::{Asked, UnlockError, unlocked_by};
 use std::alloc::Global;
@@ -18,18 +15,6 @@ pub(crate) struct Unlocked {
     pub(crate) whole: Context,
     pub(crate) only: Context,
     pub(crate) body: Body,
-}
-
-impl Unlocked {
-    /// A step behind the header: takes bytes up to the end of the piece or of a unit, whichever is
-    /// first, and answers how many, or the body's fault; `Memory` only where a single block grows.
-    pub(crate) fn step(&mut self, piece: &[u8]) -> Result<usize, OpenError>
-        ensures steps { (v : OpeningValue) → IsUnlocked self.old v → v.stopped ≡ false
-            → StepsUnlocked v piece.now result self.new }
-        ensures within { IfOk result (λ used. used ≤ length piece.now) }
-    {
-        self.body.step(piece)
-    }
 }
 
 /// Unlocks a header with the manager's materials, and begins its body. `Fault` with M16 where the

@@ -1,11 +1,11 @@
+-- The opener was fed the bytes that came, and goes on.
 use Rattle.std.proofs.Common.{◌-◌, ◌^◌, ℕ, List}
 use Rattle.keyring_trait.specs.Manager.{Went}
 use Rattle.stream_open.specs.Receiving.{FedWhole}
-use Rattle.stream_open.specs.Session.{OpeningValue}
-use Rattle.stream_open.specs.Stands.{Stands}
+use Rattle.stream_open.specs.Session.{new_session}
 use Rattle.esdk_decrypt.specs.Underway.{IsGoing, PutsAll}
 use Rattle.esdk_decrypt.proofs.Pieces.{CameWell}
-use Rattle.esdk_decrypt.proofs.decryption.feed_input.Given as goal
+use Rattle.esdk_decrypt.proofs.decryption.decrypt.Given as goal
 
 abbrev pub invariant-reads : goal.invariant-reads
 invariant-reads g l = record {
@@ -13,8 +13,7 @@ invariant-reads g l = record {
   went : Went (g.M.Manager.state l.fn.manager) (g.M.Manager.state l.manager);
   bytes : List ℕ;
   well : CameWell (g.S.Source.state l.fn.input) (g.S.Source.state l.input) l.pieces.taken bytes;
-  fed : (v : OpeningValue) → Stands l.fn.opener v
-      → FedWhole g.M.Manager.state (PutsAll g.O.Sink.state) l.now v bytes l.fn.manager l.manager l.fn.output l.output l.opener;
+  fed : FedWhole g.M.Manager.state (PutsAll g.O.Sink.state) l.now (new_session l.fn.settings l.fn.given) bytes l.fn.manager l.manager l.fn.output l.output l.opener;
 }
 
 abbrev pub decreases-reads : goal.decreases-reads
