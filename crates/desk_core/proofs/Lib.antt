@@ -8,3 +8,4 @@ pub mod StillLive
 pub mod Openings
 pub mod Apart
 pub mod Fed
+pub mod Receivers

@@ -92,7 +92,7 @@ heard_so manager now given asked r Failed h = h
 
 -- ---- what is left
 
-still_live : (v : OpeningValue) (piece : List ℕ) (heard : Heard) (n : ℕ) → IsLive (Opening v) → IsLive (Opening (open_session.stepped v piece heard (Ok n)))
+pub still_live : (v : OpeningValue) (piece : List ℕ) (heard : Heard) (n : ℕ) → IsLive (Opening v) → IsLive (Opening (open_session.stepped v piece heard (Ok n)))
 still_live v piece Nothing n live = live
 still_live v piece (Found materials) n live = (live.0, λ e. absurd (cc))
 still_live v piece (Named fault) n live = (live.0, λ e. absurd (cc))
@@ -108,7 +108,7 @@ ok_if P (Err error) h = tt
 
 -- ---- the journal
 
-served_then : (v : OpeningValue) (piece : List ℕ) (heard : Heard) (r : Result ℕ OpenError) → v.served ≡ None → (open_session.stepped v piece heard r).served ≡ served_in heard
+pub served_then : (v : OpeningValue) (piece : List ℕ) (heard : Heard) (r : Result ℕ OpenError) → v.served ≡ None → (open_session.stepped v piece heard r).served ≡ served_in heard
 served_then v piece Nothing (Ok n) none = none
 served_then v piece Nothing (Err error) none = none
 served_then v piece (Found materials) (Ok n) none = refl
@@ -119,7 +119,7 @@ served_then v piece Failed (Ok n) none = none
 served_then v piece Failed (Err error) none = none
 
 -- where no header is asked about, no materials are heard
-unserved : (manager : Saying) (now : ℕ) (given : List KeyValue) (asked : Option HeaderValue) (short : Type 0) (heard : Heard) → asked ≡ None → IsHeard manager now given asked short heard → served_in heard ≡ None
+pub unserved : (manager : Saying) (now : ℕ) (given : List KeyValue) (asked : Option HeaderValue) (short : Type 0) (heard : Heard) → asked ≡ None → IsHeard manager now given asked short heard → served_in heard ≡ None
 unserved manager now given asked short Nothing none h = refl
 unserved manager now given asked short (Found materials) none h = let some = h.1 in absurd (cc)
 unserved manager now given asked short (Named fault) none h = refl

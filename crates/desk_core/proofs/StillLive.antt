@@ -1,15 +1,14 @@
 -- A session that is live isn't said not to be.
-use Rattle.std.proofs.Common.{◌≡◌, ◌≢◌, ◌↔◌, ℕ, ◌+◌, ◌-◌, List, length, min, ◌==◌, if◌then◌else◌, Bool, true, false, Option, Some, None, Result, Ok, Err, refl, sym, subst, ◌∙◌}
+use Rattle.std.proofs.Common.{◌≡◌, ◌≢◌, ◌↔◌, ℕ, List, if◌then◌else◌, Bool, true, false, Option, Some, None, Result, Ok, Err, refl, sym, subst, ◌∙◌}
 use Rattle.std.specs.BTreeMap.{BTreeMap}
 use Rattle.std.specs.Global.{Box}
-use Rattle.esdk_fields.specs.declared.refusals.Refusal.TheVariants as refusals
 use Rattle.body_format.specs.declared.verdicts.Verdict.{Verdict}
 use Rattle.body_format.specs.declared.verdicts.Verdict.TheVariants.{Going, Whole, Faulty}
 use Rattle.stream_seal.specs.declared.errors.SealError.{SealError}
 use Rattle.stream_seal.specs.declared.errors.SealError.TheVariants as seals
 use Rattle.stream_seal.specs.Session as seal
-use Rattle.stream_seal.specs.Session.{SealingValue, Doing, Stops, Gives, Takes, answer_of, doing, doing_full, doing_on, held, spent_of, within_of}
-use Rattle.stream_seal.specs.Start.{most_frames}
+use Rattle.stream_seal.specs.Session.{SealingValue}
+use Rattle.stream_seal.proofs.Refusing.{stopped_only}
 use Rattle.stream_seal.proofs.Standing.{finish_on}
 use Rattle.stream_open.specs.declared.errors.OpenError.{OpenError}
 use Rattle.stream_open.specs.declared.errors.OpenError.TheVariants as opens
@@ -38,26 +37,8 @@ open_named (Err opens.KeyringFault) h e = absurd (cc)
 open_named (Err opens.Stopped) h e = h refl
 open_named (Err opens.Memory) h e = absurd (cc)
 
-doing_full_named : (v : SealingValue) → answer_of (doing_full v) ≢ Err seals.Stopped
-doing_full_named v =
-    elim (v.handed + 1 == most_frames) as (λ b. answer_of (if b then Stops (seals.Refusal refusals.TooManyFrames) else Gives) ≢ Err seals.Stopped) [ true ↦ λ e. cc | false ↦ λ e. cc ]
-
-doing_on_named : (spent : Option ℕ) (v : SealingValue) (piece : List ℕ) → answer_of (doing_on spent v piece) ≢ Err seals.Stopped
-doing_on_named (Some whole) v piece = λ e. cc
-doing_on_named None v piece =
-    elim (length (held v) == v.size)
-    as (λ b. answer_of (if b then doing_full v else Takes (within_of v.declared (length v.taken) (min (v.size - length (held v)) (length piece)))) ≢ Err seals.Stopped)
-    [ true ↦ doing_full_named v | false ↦ λ e. cc ]
-
-doing_some_named : (b : Bool) (v : SealingValue) (piece : List ℕ) → answer_of (if b then Takes 0 else doing_on (spent_of v.declared (length v.taken)) v piece) ≢ Err seals.Stopped
-doing_some_named true v piece = λ e. cc
-doing_some_named false v piece = doing_on_named (spent_of v.declared (length v.taken)) v piece
-
 seal_step_named : (v : SealingValue) (piece : List ℕ) → v.stopped ≡ false → seal.step_answer v piece ≢ Err seals.Stopped
-unfolding doing
-seal_step_named v piece going =
-    let on : Doing = if length piece == 0 then Takes 0 else doing_on (spent_of v.declared (length v.taken)) v piece in
-    subst (λ (b : Bool). answer_of (if b then Stops seals.Stopped else on) ≢ Err seals.Stopped) (sym going) (doing_some_named (length piece == 0) v piece)
+seal_step_named v piece going = λ e. let off : true ≡ false = sym (stopped_only v piece e) ∙ going in cc
 
 answer_at_named : (n : ℕ) (verdict : Verdict) → answer_at n verdict ≢ Err opens.Stopped
 answer_at_named n Going = λ e. cc
@@ -98,7 +79,7 @@ step_named : (s : SessionValue) (piece : List ℕ) (heard : Heard) (short : Bool
 step_named (Sealing v) piece heard short live = seal_named (seal.step_answer v piece) (seal_step_named v piece live)
 step_named (Opening v) piece heard short live = open_named (opener_answer v piece heard short) (opener_named short v piece heard live.0)
 
-finish_named : (s : SessionValue) → IsLive s → finish_answer s ≢ Err errors.NotLive
+pub finish_named : (s : SessionValue) → IsLive s → finish_answer s ≢ Err errors.NotLive
 finish_named (Sealing v) live = seal_named (seal.finish_answer v) (seal_finish_named v live)
 finish_named (Opening v) live = open_named (open_session.finish_answer v) (open_finish_named v live.0)
 

@@ -4,5 +4,6 @@ pub mod Desk
 pub mod Stands
 pub mod Calls
 pub mod Steps
+pub mod Receiving
 pub mod Beginning
 pub mod Laws

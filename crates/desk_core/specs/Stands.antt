@@ -28,6 +28,10 @@ abbrev pub IsLive : SessionValue → Type 0
 IsLive (Sealing v) = v.stopped ≡ false
 IsLive (Opening v) = (v.stopped ≡ false) × (v.answer ≡ None → v.served ≡ None)
 
+-- it stands for a session that is live, as every machine of a desk does
+abbrev pub HasMachine : Session → Type 0
+HasMachine machine = (s : SessionValue) × StandsFor machine s × IsLive s
+
 -- there is such a session in both, or none in either
 abbrev pub StandsAt : Option Session → Option SessionValue → Type 0
 StandsAt None None = ⊤
@@ -42,6 +46,10 @@ machine_at sessions id = option_map box_value (get nat_cmp sessions id)
 -- each number has a machine that stands for its session, where it is live, and else none
 abbrev pub AreLive : BTreeMap ℕ (Box Session) → (ℕ → Option SessionValue) → Type 0
 AreLive sessions live = (id : ℕ) → StandsAt (machine_at sessions id) (live id)
+
+-- they are the machines of a desk
+abbrev pub HasMachines : BTreeMap ℕ (Box Session) → Type 0
+HasMachines sessions = (live : ℕ → Option SessionValue) × AreLive sessions live
 
 -- ---- the desk
 
@@ -72,6 +80,10 @@ pub record Stands {M : Type 0} (desk : Desk M) (v : DeskValue) : Type 0 where
   pub last : desk.last_id ≡ v.last
   pub journal : desk.journal.items ≡ v.journal
   pub out : Lends desk.lent v.live v.out
+
+-- the desk is worth something: a new desk is, and every call keeps that
+abbrev pub IsWorth : {M : Type 0} → Desk M → Type 0
+IsWorth desk = (v : DeskValue) × Stands desk v
 
 -- ---- a loop of steps
 

@@ -14,7 +14,6 @@ ghost use Rattle.desk_core.specs.Calls.{IsWritable};
 use crate::errors::DeskError;
 use crate::seal_request::SealRequest;
 use crate::session::{Session, boxed, sealer_failed};
-use edk_codec::are_entries;
 use esdk_fields::array_of;
 use keyring_trait::{EncMaterials, JournalLine, Kind, Manager, ManagerError};
 use std::alloc::Global;
@@ -136,7 +135,6 @@ fn are_writable(materials: &EncMaterials)
     ensures { IsWritable materials.now }
 {
     let _length = materials.context().length();
-    are_entries(materials.entries());
 }
 
 /// What the desk calls a manager's reason to give no materials.

@@ -10,13 +10,15 @@
 //! `specs/Session.antt` says what each call makes of its session, by that session's worth alone;
 //! `specs/Desk.antt` what it makes of the desk, and what a list of calls hands to each session;
 //! `specs/Stands.antt` which desk is worth what; `specs/Calls.antt` what the manager may say in a
-//! call. `specs/Laws.antt` says what follows.
+//! call; `specs/Receiving.antt` what a whole piece that is fed, or a session's end, hands to a
+//! receiver. `specs/Laws.antt` says what follows.
 #![tactic(auto)]
 
 mod beginning;
 mod errors;
 mod laws;
 mod live_sessions;
+mod receiving;
 mod seal_request;
 mod session;
 mod steps;

@@ -1,22 +1,26 @@
 //! Sessions side by side over one materials manager.
 
-ghost use Rattle.std.specs.Prelude.{◌≡◌, ◌↔◌, ℕ, Option, OnOk, OnErr, nat_eq, ◌+◌, ◌-◌, ◌*◌, ◌^◌, ◌<◌, ◌≤◌, false, [], length, Some, None, IfOk, IfErr, option_map};
+ghost use Rattle.std.specs.Prelude.{◌≡◌, ◌≢◌, ◌↔◌, ℕ, Option, OnOk, OnErr, nat_eq, ◌+◌, ◌-◌, ◌*◌, ◌^◌, ◌<◌, ◌≤◌, false, [], length, Some, None, Err, IfOk, IfErr, option_map};
 ghost use Rattle.std.specs.Map.{update};
 ghost use Rattle.std.specs.Option.{option_copied};
 ghost use Rattle.keyring_trait.specs.Manager.{Went};
 ghost use Rattle.keyring_trait.specs.Saying.{said_last};
+ghost use Rattle.esdk_base.specs.declared.receiver.FeedError.TheVariants.{Machine};
 ghost use Rattle.desk_core.specs.declared.errors.DeskError.TheVariants.{NotLive, Memory};
 ghost use Rattle.desk_core.specs.Session.{SessionValue, header_of, context_of, asked_by, ended, dropped, finish_answer, finished};
 ghost use Rattle.desk_core.specs.Desk.{DeskValue, empty_desk, after_call, End, DropSession};
-ghost use Rattle.desk_core.specs.Stands.{Stands, StandsFor, IsLive, AreLive, manager_of, journal_of, last_of, work_at};
+ghost use Rattle.desk_core.specs.Stands.{Stands, StandsFor, IsLive, IsWorth, AreLive, manager_of, journal_of, last_of, work_at};
 ghost use Rattle.desk_core.specs.Calls.{OpensSeal, OpensOpen, Feeds};
+ghost use Rattle.desk_core.specs.Receiving.{FeedsInto, FinishesSession, handed_over};
 
 use crate::beginning::begin_sealing;
 use crate::errors::DeskError;
+use crate::receiving::feed_at;
 use crate::seal_request::SealRequest;
 use crate::session::{Session, boxed};
 use crate::steps::step_at;
 use context_codec::Context;
+use esdk_base::{FeedError, Receiver};
 use header_codec::Settings;
 use keyring_trait::{JournalLine, Manager};
 use std::alloc::Global;
@@ -233,6 +237,54 @@ impl<M: Manager> Desk<M> {
         }
     }
 
+    /// Feeds a whole piece to this session, as its sealer or opener takes it, and hands each frame
+    /// or content to the receiver as soon as it is given. Where the header of a message that is
+    /// opened becomes whole, the manager is asked for its data key, at the moment `now`, in
+    /// seconds; else it stays as it is.
+    ///
+    /// - `NotLive`: exactly where no session of this number is live.
+    /// - `Refusal`: the piece has a byte beyond those declared (Q10) or beyond those that have room
+    ///   in a message (Q9); the receiver took what the bytes before it give.
+    /// - `Fault`: the message that is opened has this fault; the receiver took what is released
+    ///   before it.
+    /// - `KeyringFault`: a keyring failed when the manager was asked; nothing was handed over.
+    /// - `Memory`: memory ran out, for a message that is opened, and no content of it was given
+    ///   yet.
+    /// - `Receiver`: the receiver failed at what was given. It isn't asked again.
+    ///
+    /// Any error ends this session, and no other. `out` is empty then, as after Ok.
+    pub fn feed_into<R: Receiver>(
+        &mut self,
+        alloc: Global,
+        id: u64,
+        now: u64,
+        piece: &[u8],
+        output: &mut R,
+    ) -> Result<(), FeedError<DeskError, R::Error>>
+        requires { IsWorth self.old }
+        ensures feeds { (v : DeskValue) → Stands self.old v
+            → FeedsInto M.state R.takes R.fails v id now piece.now self.old self.new output.old
+            output.new result }
+        ensures not_live { (v : DeskValue) → Stands self.old v
+            → (result ≡ Err (Machine NotLive)) ↔ (v.live id ≡ None) }
+        ensures went { Went (M.state (manager_of self.old)) (M.state (manager_of self.new)) }
+        ensures bears { (v : DeskValue) → Stands self.old v
+            → (M.state (manager_of self.old)).bears (journal_of self.old)
+            → (M.state (manager_of self.new)).bears (journal_of self.new) }
+    {
+        self.lent = Lent::Nothing;
+        feed_at(
+            alloc,
+            &mut self.sessions,
+            &mut self.manager,
+            &mut self.journal,
+            id,
+            now,
+            piece,
+            output,
+        )
+    }
+
     /// Ends this session, which isn't live any more. Of a message that is sealed it gives the final
     /// frame; of one that is opened it gives nothing. Takes no memory.
     ///
@@ -259,6 +311,35 @@ impl<M: Manager> Desk<M> {
                 Err(error) => Err(error),
             },
             None => Err(DeskError::NotLive),
+        }
+    }
+
+    /// Ends this session, which isn't live any more, and hands the final frame of a message that is
+    /// sealed to the receiver. Takes no memory.
+    ///
+    /// - `NotLive`: exactly where no session of this number is live.
+    /// - `Fault`: M10 `Truncated`, exactly where the message that is opened isn't whole.
+    /// - `Receiver`: the receiver failed at the final frame.
+    ///
+    /// `out` is empty. Every other session is as before.
+    pub fn end_into<R: Receiver>(
+        &mut self,
+        id: u64,
+        output: &mut R,
+    ) -> Result<(), FeedError<DeskError, R::Error>>
+        ensures finishes { (v : DeskValue) → Stands self.old v
+            → FinishesSession R.takes R.fails (v.live id) output.old output.new result }
+        ensures not_live { (v : DeskValue) → Stands self.old v
+            → (result ≡ Err (Machine NotLive)) ↔ (v.live id ≡ None) }
+        ensures stands { (v : DeskValue) → Stands self.old v
+            → Stands self.new (handed_over v id [] None) }
+        ensures manager { manager_of self.new ≡ manager_of self.old }
+        ensures journal { journal_of self.new ≡ journal_of self.old }
+    {
+        self.lent = Lent::Nothing;
+        match self.sessions.remove(&id) {
+            Some(session) => finish_into(session, output),
+            None => Err(FeedError::Machine(DeskError::NotLive)),
         }
     }
 
@@ -356,6 +437,20 @@ fn insert(
         Ok(_) => Ok(id),
         Err(_) => Err(DeskError::Memory),
     }
+}
+
+/// Ends a session, and hands what its end gives to the receiver.
+fn finish_into<R: Receiver>(
+    session: Box<Session>,
+    output: &mut R,
+) -> Result<(), FeedError<DeskError, R::Error>>
+    ensures finishes { (s : SessionValue) → StandsFor session.value s → IsLive s
+        → FinishesSession R.takes R.fails (Some s) output.old output.new result }
+    ensures live { (s : SessionValue) → StandsFor session.value s → IsLive s
+        → result ≢ Err (Machine NotLive) }
+{
+    let mut session = session;
+    session.finish_into(output)
 }
 
 /// The session after its end, where it answers no error.

@@ -1,14 +1,18 @@
 //! One session: a machine that seals a message, or one that opens one.
 
-ghost use Rattle.std.specs.Prelude.{◌≡◌, ◌-◌, ◌<◌, ◌≤◌, List, length, IfOk, IfErr};
+ghost use Rattle.std.specs.Prelude.{◌≡◌, ◌≢◌, ◌-◌, ◌<◌, ◌≤◌, List, Err, Some, length, IfOk, IfErr};
 ghost use Rattle.std.specs.Option.{option_copied};
+ghost use Rattle.esdk_base.specs.declared.receiver.FeedError.TheVariants.{Machine};
 ghost use Rattle.stream_seal.specs.declared.errors.SealError.{SealError};
-ghost use Rattle.desk_core.specs.declared.errors.DeskError.TheVariants.{Memory};
+ghost use Rattle.desk_core.specs.declared.errors.DeskError.TheVariants.{Memory, NotLive};
 ghost use Rattle.desk_core.specs.Session.{SessionValue, out_of, header_of, context_of, finish_answer, finished, seal_error, open_error};
-ghost use Rattle.desk_core.specs.Stands.{StandsFor};
+ghost use Rattle.desk_core.specs.Receiving.{FinishesSession};
+ghost use Rattle.desk_core.specs.Stands.{IsLive, StandsFor};
 
 use crate::errors::DeskError;
+use crate::receiving::sealing_failed;
 use context_codec::Context;
+use esdk_base::{FeedError, Receiver};
 use std::alloc::Global;
 use stream_open::{OpenError, Opener};
 use stream_seal::{SealError, Sealer};
@@ -67,6 +71,28 @@ impl Session {
             Session::Opening(opener) => match opener.finish() {
                 Ok(()) => Ok(()),
                 Err(error) => Err(opener_failed(error)),
+            },
+        }
+    }
+
+    /// Ends the message, and hands the final frame of one that is sealed to the receiver.
+    pub(crate) fn finish_into<R: Receiver>(
+        &mut self,
+        output: &mut R,
+    ) -> Result<(), FeedError<DeskError, R::Error>>
+        ensures finishes { (s : SessionValue) → StandsFor self.old s → IsLive s
+            → FinishesSession R.takes R.fails (Some s) output.old output.new result }
+        ensures live { (s : SessionValue) → StandsFor self.old s → IsLive s
+            → result ≢ Err (Machine NotLive) }
+    {
+        match self {
+            Session::Sealing(sealer) => match sealer.finish_into(output) {
+                Ok(()) => Ok(()),
+                Err(error) => Err(sealing_failed(error)),
+            },
+            Session::Opening(opener) => match opener.finish() {
+                Ok(()) => Ok(()),
+                Err(error) => Err(FeedError::Machine(opener_failed(error))),
             },
         }
     }

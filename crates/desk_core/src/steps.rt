@@ -179,7 +179,7 @@ fn step_locked<M: Manager>(
 
 /// Records how the manager's materials were served, where it answered with some. There is room for
 /// the line.
-fn record_served(journal: &mut Vec<JournalLine>, opener: &Opener, id: u64, now: u64)
+pub(crate) fn record_served(journal: &mut Vec<JournalLine>, opener: &Opener, id: u64, now: u64)
     requires { vec_len journal.old < vec_capacity journal.old }
     ensures { (v : OpeningValue) → Stands opener.now v
         → journal.new.items ≡ journal.old.items ++ lines_of id Unseal now None v.served }

@@ -1,12 +1,11 @@
 -- Counts of failures, and files that stay there.
-use Rattle.std.proofs.Common.{◌≡◌, ◌≢◌, ◌<◌, ◌≤◌, ◌+◌, ◌∙◌, ℕ, zero, suc, true, false, List, [], ◌∷◌, ◌++◌, length, get_or, set, map, refl, sym, ap, arith}
+use Rattle.std.proofs.Common.{◌≡◌, ◌≢◌, ◌<◌, ◌≤◌, ◌+◌, ◌∙◌, ℕ, zero, suc, true, false, List, [], ◌∷◌, length, get_or, set, map, refl, sym, ap, arith}
 use Rattle.std.specs.Prelude.{Option, Some, None, is_some, is_none, zip}
 use Rattle.std.specs.List.{sum_by}
-use Rattle.std.specs.Option.{option_map}
 use Rattle.std.proofs.lemmas.List.Sums.{sum_by-cons}
 use Rattle.esdk_fields.specs.Counts.{RoseBy}
 use Rattle.esdk_base.specs.Shelf.{Files, file_of, is_missing}
-use Rattle.esdk_batch.specs.Files.{Empties, Gains, KeepsOthers}
+use Rattle.esdk_batch.specs.Files.{Empties, KeepsOthers}
 
 -- ---- counts
 
@@ -44,20 +43,6 @@ held_there (Some files) name bytes held = ap is_none (held refl)
 -- what was made to hold nothing is there
 pub emptied_there : (old new : Option Files) (name : List ℕ) → Empties old new name → is_missing new name ≡ false
 emptied_there old new name empties = held_there new name [] (λ told. empties.this (sym empties.keeps.tells ∙ told))
-
-mapped_there : (held : Option (List ℕ)) (bytes : List ℕ) → is_none (option_map (λ held. held ++ bytes) held) ≡ is_none held
-mapped_there None bytes = refl
-mapped_there (Some held) bytes = refl
-
-gained_missing : (old new : Option Files) (name bytes : List ℕ) → is_some new ≡ is_some old → file_of new name ≡ option_map (λ held. held ++ bytes) (file_of old name) → is_missing new name ≡ is_missing old name
-gained_missing None None name bytes told this = refl
-gained_missing None (Some files) name bytes told this = absurd cc
-gained_missing (Some files) None name bytes told this = absurd cc
-gained_missing (Some files) (Some left) name bytes told this = ap is_none this ∙ mapped_there (file_of (Some files) name) bytes
-
--- what was there before an append is there behind it
-pub gained_there : (old new : Option Files) (name bytes : List ℕ) → Gains old new name bytes → is_missing old name ≡ false → is_missing new name ≡ false
-gained_there old new name bytes gains there = gained_missing old new name bytes gains.keeps.tells gains.this ∙ there
 
 -- ---- sums over the jobs
 

@@ -1,5 +1,5 @@
 -- The end of a session, and what its job's file holds then.
-use Rattle.std.proofs.Common.{◌≡◌, ◌≤◌, ℕ, Bool, true, false, List, [], length, take, refl, sym, ap, subst, ◌∙◌, arith}
+use Rattle.std.proofs.Common.{◌≡◌, ◌≤◌, ℕ, Bool, true, false, List, [], take, refl, sym, ap, subst, arith}
 use Rattle.std.specs.Prelude.{Option, Some, None, Result, Ok, Err, IfOk, if◌then◌else◌}
 use Rattle.std.specs.declared.alloc.AllocError.{AllocError}
 use Rattle.std.proofs.lemmas.Map.{update_apart, update_here}
@@ -7,6 +7,9 @@ use Rattle.esdk_fields.specs.declared.faults.Fault.{Fault}
 use Rattle.esdk_fields.specs.declared.faults.Fault.TheVariants.{Truncated}
 use Rattle.esdk_fields.specs.declared.refusals.Outside.TheVariants as outsides
 use Rattle.esdk_base.specs.Shelf.{Files}
+use Rattle.esdk_base.specs.Streams.{ShelfState}
+use Rattle.esdk_base.specs.declared.receiver.FeedError.{FeedError}
+use Rattle.esdk_base.specs.declared.receiver.FeedError.TheVariants as failures
 use Rattle.body_format.specs.declared.verdicts.Verdict.{Verdict}
 use Rattle.body_format.specs.declared.verdicts.Verdict.TheVariants.{Going, Whole, Faulty}
 use Rattle.stream_seal.specs.Session as seal
@@ -17,44 +20,27 @@ use Rattle.stream_open.specs.declared.errors.OpenError.TheVariants as opens
 use Rattle.esdk_decrypt.specs.Decrypt.{fault_at_end}
 use Rattle.desk_core.specs.declared.errors.DeskError.{DeskError}
 use Rattle.desk_core.specs.declared.errors.DeskError.TheVariants as errors
-use Rattle.desk_core.specs.Session.{SessionValue, Sealing, Opening, answered, ended, finish_answer, finished, open_answer, out_of, seal_answer}
-use Rattle.desk_core.specs.Desk.{DeskValue, End, after_call}
+use Rattle.desk_core.specs.declared.live_sessions.Desk.{Desk}
+use Rattle.desk_core.specs.Desk.{DeskValue}
+use Rattle.desk_core.specs.Stands.{Stands}
+use Rattle.desk_core.specs.Receiving.{FinishesSession, handed_over}
+use Rattle.desk_core.specs.Session.{SessionValue, Sealing, Opening, finish_answer, open_answer, seal_answer}
 use Rattle.batch_report.specs.declared.job_lines.JobEnd.{JobEnd}
 use Rattle.batch_report.specs.declared.job_lines.JobEnd.TheVariants as ends
+use Rattle.esdk_batch.specs.Ending.{EndsBy, EndsFor, EndsSession, FinishesSo}
+use Rattle.esdk_batch.specs.FileEndLaws.{gained_nothing}
 use Rattle.esdk_batch.specs.Files.{Gains}
-use Rattle.esdk_batch.specs.Ending.{EndsFor, EndsSession, FinishesSo, KeepsDesk}
+use Rattle.esdk_batch.proofs.Writing.{Put, Writes, put_same}
 
 -- ---- what is left of the desk
 
-left_none : (r : Result (Unit {0}) DeskError) (s : SessionValue) → (answered r s None).left ≡ None
-left_none (Ok x) s = refl
-left_none (Err error) s = refl
-
-answer_is : (r : Result (Unit {0}) DeskError) (s : SessionValue) → (answered r s None).answer ≡ r
-answer_is (Ok x) s = refl
-answer_is (Err error) s = refl
-
-out_is : (r : Result (Unit {0}) DeskError) (s : SessionValue) (x : Unit {0}) → r ≡ Ok x → (answered r s None).out ≡ out_of s
-out_is (Ok y) s x e = refl
-out_is (Err error) s x e = absurd cc
-
--- what the session answers is what the call does
-pub ended_answer : (v : DeskValue) (session : ℕ) (s : SessionValue) (result : Result (Unit {0}) DeskError) → v.live session ≡ Some s → result ≡ (ended (v.live session)).answer → finish_answer s ≡ result
-ended_answer v session s result live is = sym (is ∙ ap (λ o. (ended o).answer) live ∙ answer_is (finish_answer s) (finished s))
-
-pub ended_out : (v : DeskValue) (session : ℕ) (s : SessionValue) (x : Unit {0}) → v.live session ≡ Some s → finish_answer s ≡ Ok x → (ended (v.live session)).out ≡ out_of (finished s)
-ended_out v session s x live is = ap (λ o. (ended o).out) live ∙ out_is (finish_answer s) (finished s) x is
-
-ended_desk : (v : DeskValue) (session : ℕ) → KeepsDesk session v (after_call v session false End) []
-ended_desk v session = record { others = λ other apart. update_apart v.live session (ended (v.live session)).left other apart; last = refl; journal = refl }
-
-ended_left : (v : DeskValue) (session : ℕ) (s : SessionValue) → v.live session ≡ Some s → (after_call v session false End).live session ≡ None
-ended_left v session s live =
-    update_here v.live session (ended (v.live session)).left ∙ ap (λ o. (ended o).left) live ∙ left_none (finish_answer s) (finished s)
-
-pub ends_as : (v : DeskValue) (session : ℕ) (s : SessionValue) (to : List ℕ) (files after : Option Files) (end : JobEnd) → v.live session ≡ Some s → FinishesSo s to files after end
-    → EndsSession session s v (after_call v session false End) to files after end
-ends_as v session s to files after end live finishes = record { desk = ended_desk v session; left = ended_left v session s live; finishes = finishes }
+pub ends_as : (v : DeskValue) (session : ℕ) (s : SessionValue) (to : List ℕ) (files after : Option Files) (end : JobEnd) → FinishesSo s to files after end
+    → EndsSession session s v (handed_over v session [] None) to files after end
+ends_as v session s to files after end finishes = record {
+  desk = record { others = λ other apart. update_apart v.live session None other apart; last = refl; journal = refl };
+  left = update_here v.live session None;
+  finishes = finishes;
+}
 
 -- ---- how it ends
 
@@ -69,28 +55,6 @@ fault_by true verdict fault e = absurd cc
 fault_by false Going fault e = let same : Truncated ≡ fault = cc in ap (λ f. Some f) same
 fault_by false Whole fault e = absurd cc
 fault_by false (Faulty other) fault e = let same : other ≡ fault = cc in ap (λ f. Some f) same
-
--- all was appended that the end gave
-all_so : (s : SessionValue) (x : Unit {0}) (to : List ℕ) (files after : Option Files) → finish_answer s ≡ Ok x → Gains files after to (out_of (finished s)) → FinishesSo s to files after ends.Done
-unfolding open_session.finish_answer open_session.finished
-all_so (Sealing s) x to files after is gains = gains
-all_so (Opening s) x to files after is gains = (whole_by s.stopped (judged_now s).verdict x is, gains)
-
-pub done_so : (s : SessionValue) (x : Unit {0}) (to bytes : List ℕ) (files after : Option Files) → finish_answer s ≡ Ok x → bytes ≡ out_of (finished s) → Gains files after to bytes
-    → FinishesSo s to files after ends.Done
-done_so s x to bytes files after is out gains = all_so s x to files after is (subst (λ bytes. Gains files after to bytes) out gains)
-
--- an append failed: something was to be appended
-front_so : (s : SessionValue) (to : List ℕ) (files after : Option Files) (n : ℕ) → 1 ≤ length (out_of (finished s)) → Gains files after to (take n (out_of (finished s)))
-    → FinishesSo s to files after (ends.Outside outsides.ShelfFault)
-unfolding open_session.finished
-front_so (Sealing s) to files after n some gains = (n, gains)
-front_so (Opening s) to files after n some gains = absurd (omega (arith, some))
-
-pub failed_so : (s : SessionValue) (to bytes : List ℕ) (files after : Option Files) (n : ℕ) → bytes ≡ out_of (finished s) → 1 ≤ length bytes → Gains files after to (take n bytes)
-    → FinishesSo s to files after (ends.Outside outsides.ShelfFault)
-failed_so s to bytes files after n out some gains =
-    front_so s to files after n (subst (λ (bytes : List ℕ). 1 ≤ length bytes) out some) (subst (λ bytes. Gains files after to (take n bytes)) out gains)
 
 seal_by : (stopped : Bool) (error : DeskError) → seal_answer {A = Unit {0}} (if stopped then Err seals.Stopped else Ok tt) ≡ Err error → error ≡ errors.NotLive
 seal_by true error e = cc
@@ -119,3 +83,71 @@ error_so (Opening s) errors.KeyringFault to files result is ends_for = absurd (n
     no_failure false (Faulty fault) e = absurd cc
 error_so (Opening s) errors.Memory to files result is ends_for = subst (λ r. IfOk r (λ end. FinishesSo (Opening s) to files files end)) (sym ends_for) tt
 error_so (Opening s) errors.NotLive to files result is ends_for = absurd ends_for
+
+pub named_ok : (named end : JobEnd) → (let r : Result JobEnd AllocError = Ok end in r ≡ Ok named) → end ≡ named
+named_ok named end e = cc
+
+-- ---- what was put behind the file
+
+module _ {R E : Type 0} (takes : R → R → List ℕ → Type 0) (fails : R → R → List ℕ → E → Type 0) (before after : R) (to : List ℕ) (lent still : ℕ) (old new : ShelfState) (writes : Writes takes fails before after to lent still old new) where
+  nothing_put : after ≡ before → (bytes : List ℕ) × Gains old.files new.files to bytes × (old.faults ≤ new.faults) × (still ≡ lent)
+  nothing_put same =
+      let kept = writes.same same in (
+        [],
+        subst (λ (shelf : ShelfState). Gains old.files shelf.files to []) (sym kept.0) (gained_nothing old.files to),
+        omega (arith, ap (λ (shelf : ShelfState). shelf.faults) kept.0),
+        kept.1,
+      )
+
+  pub put_ended : (s : SessionValue) (result : Result (Unit {0}) (FeedError DeskError E)) → FinishesSession takes fails (Some s) before after result → Put lent still old new to result
+  put_ended (Sealing s) (Ok done) ends_so = let took = writes.took (seal.finished s).out ends_so in ((seal.finished s).out, took.0, took.1, took.2)
+  put_ended (Sealing s) (Err (failures.Receiver error)) ends_so =
+      let front = writes.failed (seal.finished s).out error ends_so.1 in (take front.0 (seal.finished s).out, front.1, front.2, front.3, front.4)
+  put_ended (Sealing s) (Err (failures.Machine error)) ends_so = absurd ends_so
+  put_ended (Opening s) (Ok done) ends_so = nothing_put ends_so.1
+  put_ended (Opening s) (Err (failures.Receiver error)) ends_so = absurd ends_so
+  put_ended (Opening s) (Err (failures.Machine error)) ends_so = nothing_put ends_so.1
+
+  pub ends_whole : (s : SessionValue) → FinishesSession {T = Unit {0}} takes fails (Some s) before after (Ok tt) → FinishesSo s to old.files new.files ends.Done
+  unfolding open_session.finish_answer
+  ends_whole (Sealing s) ends_so = (writes.took (seal.finished s).out ends_so).0
+  ends_whole (Opening s) ends_so = (
+    whole_by s.stopped (judged_now s).verdict tt (ap open_answer ends_so.0),
+    subst (λ (shelf : ShelfState). Gains old.files shelf.files to []) (sym (writes.same ends_so.1).0) (gained_nothing old.files to),
+  )
+
+  pub ends_broken : (s : SessionValue) (error : FeedError DeskError E) (end : JobEnd) → EndsBy error (Ok end) → FinishesSession {T = Unit {0}} takes fails (Some s) before after (Err error)
+      → FinishesSo s to old.files new.files end
+  ends_broken (Sealing s) (failures.Receiver error) end is ends_so =
+      let front = writes.failed (seal.finished s).out error ends_so.1 in
+      subst (λ (e : JobEnd). FinishesSo (Sealing s) to old.files new.files e) (sym (named_ok (ends.Outside outsides.ShelfFault) end is)) (front.0, front.1)
+  ends_broken (Sealing s) (failures.Machine error) end is ends_so = absurd ends_so
+  ends_broken (Opening s) (failures.Receiver error) end is ends_so = absurd ends_so
+  ends_broken (Opening s) (failures.Machine error) end is ends_so =
+      subst (λ (shelf : ShelfState). FinishesSo (Opening s) to old.files shelf.files end) (sym (writes.same ends_so.1).0) (error_so (Opening s) error to old.files (Ok end) ends_so.0 is)
+
+  -- ---- the desk
+
+  ended_as : (v : DeskValue) (session : ℕ) (s : SessionValue) (result : Result (Unit {0}) (FeedError DeskError E)) → v.live session ≡ Some s → FinishesSession takes fails (v.live session) before after result
+      → FinishesSession takes fails (Some s) before after result
+  ended_as v session s result live ends_so = subst (λ (o : Option SessionValue). FinishesSession takes fails o before after result) live ends_so
+
+  pub session_put : (v : DeskValue) (session : ℕ) (s : SessionValue) (result : Result (Unit {0}) (FeedError DeskError E)) → v.live session ≡ Some s → FinishesSession takes fails (v.live session) before after result
+      → Put lent still old new to result
+  session_put v session s result live ends_so = put_ended s result (ended_as v session s result live ends_so)
+
+  pub session_same : (v : DeskValue) (session : ℕ) (s : SessionValue) (result : Result (Unit {0}) (FeedError DeskError E)) → v.live session ≡ Some s → FinishesSession takes fails (v.live session) before after result
+      → still ≡ lent
+  session_same v session s result live ends_so = put_same lent still old new to result (session_put v session s result live ends_so)
+
+  pub session_whole : {M : Type 0} (next : Desk M) (v : DeskValue) (session : ℕ) (s : SessionValue) → v.live session ≡ Some s → FinishesSession {T = Unit {0}} takes fails (v.live session) before after (Ok tt)
+      → Stands next (handed_over v session [] None) → (w : DeskValue) × Stands next w × EndsSession session s v w to old.files new.files ends.Done
+  session_whole next v session s live ends_so stands =
+      (handed_over v session [] None, stands, ends_as v session s to old.files new.files ends.Done (ends_whole s (ended_as v session s (Ok tt) live ends_so)))
+
+  pub session_broken : {M : Type 0} (next : Desk M) (v : DeskValue) (session : ℕ) (s : SessionValue) (error : FeedError DeskError E) (result : Result JobEnd AllocError) → v.live session ≡ Some s → EndsBy error result
+      → FinishesSession {T = Unit {0}} takes fails (v.live session) before after (Err error) → Stands next (handed_over v session [] None)
+      → IfOk result (λ end. (w : DeskValue) × Stands next w × EndsSession session s v w to old.files new.files end)
+  session_broken next v session s error (Ok end) live is ends_so stands =
+      (handed_over v session [] None, stands, ends_as v session s to old.files new.files end (ends_broken s error end is (ended_as v session s (Err error) live ends_so)))
+  session_broken next v session s error (Err failed) live is ends_so stands = tt

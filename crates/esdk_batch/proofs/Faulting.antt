@@ -1,10 +1,14 @@
 -- A session's error, and the failure that was counted for it.
-use Rattle.std.proofs.Common.{◌≡◌, ◌∙◌, ℕ, ◌≤◌, ◌+◌, Bool, true, false, List, [], refl, sym, ap, subst}
-use Rattle.std.specs.Prelude.{Option, Some, None, Result, Ok, Err, IfOk}
+use Rattle.std.proofs.Common.{◌≡◌, ◌∙◌, ℕ, ◌≤◌, ◌+◌, Bool, true, false, List, [], refl, sym, ap, subst, arith}
+use Rattle.std.specs.Prelude.{Option, Some, None, Result, Ok, Err, IfOk, alloc_error}
 use Rattle.std.specs.declared.alloc.AllocError.{AllocError}
 use Rattle.esdk_fields.specs.Counts.{Rose, RoseBy}
 use Rattle.esdk_fields.specs.declared.refusals.Refusal.{Refusal}
 use Rattle.esdk_fields.specs.declared.refusals.Outside.TheVariants as outsides
+use Rattle.esdk_base.specs.Shelf.{is_missing}
+use Rattle.esdk_base.specs.Streams.{ShelfState}
+use Rattle.esdk_base.specs.declared.receiver.FeedError.{FeedError}
+use Rattle.esdk_base.specs.declared.receiver.FeedError.TheVariants as failures
 use Rattle.context_codec.specs.Context.{KeyValue}
 use Rattle.header_codec.specs.Header.{HeaderValue}
 use Rattle.header_codec.specs.declared.settings.Settings.{Settings}
@@ -13,26 +17,33 @@ use Rattle.keyring_trait.specs.Manager.{ManagerNow}
 use Rattle.keyring_trait.specs.Materials.{EncMaterialsValue}
 use Rattle.keyring_trait.specs.Requests.{DecRequestValue}
 use Rattle.keyring_trait.specs.Saying.{Saying, said_last}
-use Rattle.stream_seal.specs.Session as seal
 use Rattle.stream_seal.specs.Start.{start_refusal}
+use Rattle.stream_open.specs.declared.errors.OpenError.{OpenError}
+use Rattle.stream_open.specs.declared.errors.OpenError.TheVariants as opens
+use Rattle.stream_open.specs.declared.session.Opener.{Opener}
 use Rattle.stream_open.specs.Asking.{Failed, Found, Heard, IsHeard, Named, Nothing}
-use Rattle.stream_open.specs.Session.{asked_header}
-use Rattle.desk_core.proofs.Fed.{feeds_machines}
-use Rattle.desk_core.specs.Calls.{Feeds, IsReply, MayHear, OpensSeal}
+use Rattle.stream_open.specs.Receiving.{FedShort}
+use Rattle.stream_open.specs.Session.{OpeningValue, asked_header}
+use Rattle.desk_core.specs.Calls.{IsReply, OpensSeal}
 use Rattle.desk_core.specs.Desk.{DeskValue}
+use Rattle.desk_core.specs.Receiving.{FeedsInto, FeedsSession, FinishesSession}
 use Rattle.desk_core.specs.SealRequest.{SealRequestValue}
-use Rattle.desk_core.specs.Session.{Fails, Gives, NoReply, Opening, Refuses, Reply, Sealing, SessionValue, begun, fed, finish_answer, id_in, open_opened, seal_answer, seal_opened}
+use Rattle.desk_core.specs.Session.{Fails, Gives, NoReply, Opening, Refuses, Reply, Sealing, SessionValue, begun, finish_answer, id_in, open_error, open_opened, seal_opened}
+use Rattle.desk_core.specs.Stands.{manager_of}
 use Rattle.desk_core.specs.declared.errors.DeskError.{DeskError}
 use Rattle.desk_core.specs.declared.errors.DeskError.TheVariants as errors
 use Rattle.desk_core.specs.declared.live_sessions.Desk.{Desk}
 use Rattle.batch_report.specs.declared.job_lines.JobEnd.{JobEnd}
 use Rattle.batch_report.specs.declared.job_lines.JobEnd.TheVariants as ends
-use Rattle.esdk_batch.specs.Ending.{EndsFor}
-use Rattle.esdk_batch.specs.Failures.{entropy_fails, keyring_fails, shelf_fails}
-use Rattle.esdk_batch.proofs.Counting.{rose_zero}
-use Rattle.esdk_batch.proofs.Ends.{error_so}
-use Rattle.esdk_batch.proofs.FeedingOn.{answer_same, named_ok, no_seal_failure, not_memory}
-use Rattle.esdk_batch.proofs.Serving.{failing_heard}
+use Rattle.esdk_batch.specs.Ending.{EndsBy, EndsFor}
+use Rattle.esdk_batch.specs.Failures.{PieceCounts, entropy_fails, keyring_fails, shelf_fails}
+use Rattle.esdk_batch.specs.FileEndLaws.{gained_there}
+use Rattle.esdk_batch.proofs.Counting.{rose_none, rose_zero}
+use Rattle.esdk_batch.proofs.Ends.{error_so, named_ok}
+use Rattle.esdk_batch.proofs.Writing.{Put}
+
+pub not_memory : (end : JobEnd) → (let r : Result JobEnd AllocError = Ok end in r ≡ Err alloc_error) → ⊥
+not_memory end e = cc
 
 -- ---- how a job ends whose session answers an error
 
@@ -68,22 +79,53 @@ failed_asked asking moment given asked short (Found m) is hears = absurd cc
 failed_asked asking moment given asked short (Named fault) is hears = absurd cc
 failed_asked asking moment given asked short Failed is (h, same, none) = (_, none)
 
--- a step answers that the manager failed only where that says so
-feed_failed : (asking : Saying) (moment : ℕ) (session : Option SessionValue) (piece : List ℕ) (heard : Heard) (short : Bool) → MayHear asking moment session piece heard short → (fed session piece heard short).answer ≡ Err errors.KeyringFault
-    → (request : DecRequestValue) × asking.finds_none request managers.KeyringFault
-feed_failed asking moment None piece heard short hears is = absurd cc
-feed_failed asking moment (Some (Sealing v)) piece heard short hears is =
-    absurd (no_seal_failure (seal.step_answer v piece) (sym (answer_same (seal_answer (seal.step_answer v piece)) (Sealing (seal.stepped v piece))) ∙ is))
-feed_failed asking moment (Some (Opening v)) piece heard short hears is =
-    failed_asked asking moment v.given (asked_header v piece) (short ≡ true) heard (failing_heard v piece heard (feeds_machines.failed v piece heard short is)) hears.0
+-- an opener answers that the manager failed only where that says so
+short_rose : {M R : Type 0} (state : M → ManagerNow) (takes : R → R → List ℕ → Type 0) (now : ℕ) (v : OpeningValue) (piece : List ℕ) (own : OpenError) (old new : M) (before after : R) (opener : Opener)
+    → FedShort state takes now v piece own old new before after opener → errors.KeyringFault ≡ open_error own → Rose (state old).meaning.faults (state new).meaning.faults
+short_rose state takes now v piece (opens.Fault fault) old new before after opener short is = absurd cc
+short_rose state takes now v piece opens.KeyringFault old new before after opener short is =
+    let (request, none) = failed_asked (said_last (state old) (state new)) now v.given (asked_header v piece) (opens.KeyringFault ≡ opens.Memory) short.heard short.why.0 short.hears in none.0
+short_rose state takes now v piece opens.Stopped old new before after opener short is = absurd short.why
+short_rose state takes now v piece opens.Memory old new before after opener short is = absurd cc
 
-pub feed_rose : {M : Type 0} (old new : ManagerNow) (now : ℕ) (v : DeskValue) (session : ℕ)
-    (piece : List ℕ) (error : DeskError) (desk : Desk M)
-    → Feeds old new v session now piece (Err error) desk → error ≡ errors.KeyringFault
-    → Rose old.meaning.faults new.meaning.faults
-feed_rose old new now v session piece error desk feeds is =
-    let (request, none) = feed_failed (said_last old new) now (v.live session) piece feeds.heard
-    feeds.short feeds.hears (sym feeds.answer ∙ ap (λ (e : DeskError). Err e) is) in none.0
+fed_rose : {M R E : Type 0} (state : M → ManagerNow) (takes : R → R → List ℕ → Type 0) (fails : R → R → List ℕ → E → Type 0) (now : ℕ) (s : SessionValue) (piece : List ℕ) (old new : M) (before after : R) (heard : Heard)
+    (left : Option SessionValue) → FeedsSession {T = Unit {0}} state takes fails now (Some s) piece old new before after heard left (Err (failures.Machine errors.KeyringFault))
+    → Rose (state old).meaning.faults (state new).meaning.faults
+fed_rose state takes fails now (Sealing s) piece old new before after heard left fed = absurd fed.2
+fed_rose state takes fails now (Opening s) piece old new before after heard left (opener, own, short, same, none, named) = short_rose state takes now s piece own old new before after opener short named
+
+pub feed_rose : {M R E : Type 0} (state : M → ManagerNow) (takes : R → R → List ℕ → Type 0) (fails : R → R → List ℕ → E → Type 0) (v : DeskValue) (session now : ℕ) (s : SessionValue) (piece : List ℕ) (old new : Desk M)
+    (before after : R) (error : FeedError DeskError E) → v.live session ≡ Some s → FeedsInto {T = Unit {0}} state takes fails v session now piece old new before after (Err error)
+    → error ≡ failures.Machine errors.KeyringFault → Rose (state (manager_of old)).meaning.faults (state (manager_of new)).meaning.faults
+feed_rose state takes fails v session now s piece old new before after error live f is =
+    fed_rose state takes fails now s piece (manager_of old) (manager_of new) before after f.heard f.left
+    (subst (λ (e : FeedError DeskError _). FeedsSession {T = Unit {0}} state takes fails now (Some s) piece (manager_of old) (manager_of new) before after f.heard f.left (Err e)) is
+    (subst (λ (o : Option SessionValue). FeedsSession {T = Unit {0}} state takes fails now o piece (manager_of old) (manager_of new) before after f.heard f.left (Err error)) live f.feeds))
+
+-- ---- what was counted
+
+-- of an error with which the job ended
+pub error_counted : {E : Type 0} (error : FeedError DeskError E) (end : JobEnd) (to : List ℕ) (lent still : ℕ) (old new : ShelfState) (asked failed : ℕ) → EndsBy error (Ok end) → Put {T = Unit {0}} lent still old new to (Err error)
+    → is_missing old.files to ≡ false → asked ≤ failed → (error ≡ failures.Machine errors.KeyringFault → Rose asked failed) → PieceCounts to (Some end) old new asked failed
+error_counted (failures.Machine error) end to lent still old new asked failed is put there later rose = record {
+  there = gained_there old.files new.files to put.0 put.1 there;
+  entropy = entropy_sound error end is;
+  keyring = keyring_counted error end asked failed is later (λ same. rose (ap (λ (e : DeskError). failures.Machine e) same));
+  shelf = rose_zero (shelf_fails end) old.faults new.faults (shelf_sound error end is) put.2;
+}
+error_counted (failures.Receiver error) end to lent still old new asked failed is put there later rose =
+    subst (λ (e : JobEnd). PieceCounts to (Some e) old new asked failed) (sym (named_ok (ends.Outside outsides.ShelfFault) end is))
+    (record {
+      there = gained_there old.files new.files to put.0 put.1 there;
+      entropy = refl;
+      keyring = rose_none asked failed later;
+      shelf = put.3 there;
+    })
+
+pub errors_counted : {E : Type 0} (error : FeedError DeskError E) (result : Result JobEnd AllocError) (to : List ℕ) (lent still : ℕ) (old new : ShelfState) (keyring : ℕ) → EndsBy error result
+    → Put {T = Unit {0}} lent still old new to (Err error) → is_missing old.files to ≡ false → (error ≡ failures.Machine errors.KeyringFault → ⊥) → IfOk result (λ end. PieceCounts to (Some end) old new keyring keyring)
+errors_counted error (Ok end) to lent still old new keyring is put there sound = error_counted error end to lent still old new keyring keyring is put there (omega arith) (λ same. absurd (sound same))
+errors_counted error (Err failed) to lent still old new keyring is put there sound = tt
 
 -- ---- the beginning
 
@@ -134,3 +176,14 @@ sound_end (errors.Fault fault) result is sound = subst (λ (r : Result JobEnd Al
 sound_end errors.KeyringFault result is sound = absurd (sound refl)
 sound_end errors.Memory result is sound = subst (λ (r : Result JobEnd AllocError). IfOk r IsSound) (sym is) tt
 sound_end errors.NotLive result is sound = absurd is
+
+-- the end of a session doesn't say that the manager failed
+pub ended_soundly : {R E : Type 0} (takes : R → R → List ℕ → Type 0) (fails : R → R → List ℕ → E → Type 0) (before after : R) (o : Option SessionValue) (s : SessionValue) (error : FeedError DeskError E) → o ≡ Some s
+    → FinishesSession {T = Unit {0}} takes fails o before after (Err error) → error ≡ failures.Machine errors.KeyringFault → ⊥
+ended_soundly takes fails before after o s error live ends_so is =
+    by s (subst (λ (e : FeedError DeskError _). FinishesSession {T = Unit {0}} takes fails (Some s) before after (Err e)) is
+    (subst (λ (p : Option SessionValue). FinishesSession {T = Unit {0}} takes fails p before after (Err error)) live ends_so))
+  where
+    by : (s : SessionValue) → FinishesSession {T = Unit {0}} takes fails (Some s) before after (Err (failures.Machine errors.KeyringFault)) → ⊥
+    by (Sealing v) ends_so = ends_so
+    by (Opening v) ends_so = finish_soundly (Opening v) errors.KeyringFault ends_so.0 refl

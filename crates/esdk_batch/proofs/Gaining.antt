@@ -1,5 +1,5 @@
 -- Bytes that were appended to a file, one after another, and fronts of them.
-use Rattle.std.proofs.Common.{◌≡◌, ◌∙◌, ℕ, Bool, true, false, List, [], ◌∷◌, ◌++◌, take, zero, suc, refl, sym, ap, subst, append_assoc, append-nil}
+use Rattle.std.proofs.Common.{◌≡◌, ◌∙◌, ℕ, Bool, true, false, List, [], ◌∷◌, ◌++◌, refl, sym, ap, subst, append-nil}
 use Rattle.std.specs.Prelude.{bytes_eq}
 use Rattle.std.specs.declared.option.Option.{Option}
 use Rattle.std.specs.declared.option.Option.TheVariants.{None, Some}
@@ -8,28 +8,7 @@ use Rattle.std.specs.Cmp.Lexicographic.{nat_list_cmp_total, bytes_decides}
 use Rattle.std.specs.FinMap.{same_map}
 use Rattle.std.proofs.lemmas.Map.Lookups.{exact_bytes}
 use Rattle.esdk_base.specs.Shelf.{Files, file_of}
-use Rattle.esdk_batch.specs.Files.{Gains, KeepsOthers}
-
--- ---- bytes behind bytes
-
-behind_twice : (held : Option (List ℕ)) (x y : List ℕ) → option_map (λ h. h ++ y) (option_map (λ h. h ++ x) held) ≡ option_map (λ h. h ++ (x ++ y)) held
-behind_twice None x y = refl
-behind_twice (Some held) x y = ap (λ (h : List ℕ). Some h) (append_assoc held x y)
-
-pub others_none : (files : Option Files) (name : List ℕ) → KeepsOthers files files name
-others_none files name = record { tells = refl; others = λ other apart. refl }
-
-pub others_more : (first mid last : Option Files) (name : List ℕ) → KeepsOthers first mid name → KeepsOthers mid last name → KeepsOthers first last name
-others_more first mid last name one two = record {
-  tells = two.tells ∙ one.tells;
-  others = λ other apart. two.others other apart ∙ one.others other apart;
-}
-
-pub gains_more : (first mid last : Option Files) (name x y : List ℕ) → Gains first mid name x → Gains mid last name y → Gains first last name (x ++ y)
-gains_more first mid last name x y one two = record {
-  keeps = others_more first mid last name one.keeps two.keeps;
-  this = two.this ∙ ap (option_map (λ held. held ++ y)) one.this ∙ behind_twice (file_of first name) x y;
-}
+use Rattle.esdk_batch.specs.Files.{Gains}
 
 -- ---- no bytes
 
@@ -56,22 +35,6 @@ same_files (Some files) (Some now) name gains =
 
 pub gains_nothing : (old new : Option Files) (name bytes : List ℕ) → bytes ≡ [] → Gains old new name bytes → new ≡ old
 gains_nothing old new name bytes none gains = same_files old new name (subst (λ (b : List ℕ). Gains old new name b) none gains)
-
--- ---- fronts
-
-front_in : (out rest : List ℕ) (n : ℕ) → (k : ℕ) × (take n out ≡ take k (out ++ rest))
-front_in [] rest zero = (0, refl)
-front_in [] rest (suc n) = (0, refl)
-front_in (x ∷ out) rest zero = (0, refl)
-front_in (x ∷ out) rest (suc n) = let more = front_in out rest n in (suc more.0, ap (λ (l : List ℕ). x ∷ l) more.1)
-
--- a front of what was given behind all that was given before it is a front of all
-pub front_behind : (given out rest : List ℕ) (n : ℕ) → (k : ℕ) × (given ++ take n out ≡ take k (given ++ out ++ rest))
-front_behind [] out rest n = front_in out rest n
-front_behind (x ∷ given) out rest n = let more = front_behind given out rest n in (suc more.0, ap (λ (l : List ℕ). x ∷ l) more.1)
-
-pub front_last : (given out : List ℕ) (n : ℕ) → (k : ℕ) × (given ++ take n out ≡ take k (given ++ out))
-front_last given out n = let front = front_behind given out [] n in (front.0, front.1 ∙ ap (take front.0) (append-nil (given ++ out)))
 
 pub no_bytes_both : (before more : List ℕ) → before ++ more ≡ [] → (before ≡ []) × (more ≡ [])
 no_bytes_both [] more e = (refl, e)

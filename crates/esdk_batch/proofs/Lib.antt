@@ -3,12 +3,10 @@ pub mod Beginnings
 pub mod Beside
 pub mod Conclusion
 pub mod Counting
-pub mod DeskFeeding
 pub mod Ends
 pub mod Faulting
+pub mod FedPieces
 pub mod FedTurns
-pub mod FeedCalls
-pub mod FeedingOn
 pub mod FirstLines
 pub mod FirstTurns
 pub mod FurtherLines
@@ -16,13 +14,13 @@ pub mod FurtherTurns
 pub mod Gaining
 pub mod Judgements
 pub mod Judging
+pub mod KeptAnswers
 pub mod Lines
 pub mod Managers
 pub mod Moments
 pub mod Named
 pub mod OpenBegins
 pub mod OpeningJobs
-pub mod OpeningOn
 pub mod Openings
 pub mod Places
 pub mod SameDesk
@@ -30,7 +28,6 @@ pub mod SealBegins
 pub mod SealTurns
 pub mod SealedFirst
 pub mod SealingJobs
-pub mod SealingOn
 pub mod Serving
 pub mod Standing
 pub mod TakenTurns
@@ -40,3 +37,4 @@ pub mod Turning
 pub mod Unplaced
 pub mod Windows
 pub mod Wishes
+pub mod Writing

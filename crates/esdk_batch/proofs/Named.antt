@@ -1,12 +1,13 @@
 -- Files by their names: what one changed name leaves.
-use Rattle.std.proofs.Common.{◌≡◌, ◌≢◌, ◌∙◌, ℕ, Bool, true, false, cond, List, [], ◌∷◌, ◌++◌, length, take, refl, sym, ap, subst, inl, inr, arith, append-nil}
+use Rattle.std.proofs.Common.{◌≡◌, ◌≢◌, ◌∙◌, ℕ, Bool, true, false, cond, List, [], ◌∷◌, ◌++◌, length, take, refl, sym, ap, subst, inl, inr, arith}
 use Rattle.std.specs.Prelude.{bytes_eq, Result, Ok, Err}
 use Rattle.std.specs.declared.option.Option.{Option}
 use Rattle.std.specs.declared.option.Option.TheVariants.{None, Some}
 use Rattle.std.specs.Option.{option_map, option_map_or}
 use Rattle.std.specs.Cmp.Lexicographic.{nat_list_cmp_total, texts_ties, bytes_decides}
 use Rattle.std.specs.FinMap.{get, insert, get-insert}
-use Rattle.esdk_base.specs.Shelf.{AppendsTo, Creates, Files, appended, created, file_of}
+use Rattle.esdk_base.specs.Shelf.{AppendsTo, Creates, Files, appended, created}
+use Rattle.esdk_batch.specs.FileEndLaws.{gained_nothing}
 use Rattle.esdk_batch.specs.Files.{Empties, Gains, KeepsOthers, Makes, Puts}
 
 -- what a name holds once one was changed
@@ -51,14 +52,6 @@ pub gained : (told : Option Files) (name bytes : List ℕ) → Gains told (optio
 unfolding appended
 gained None name bytes = record { keeps = record { tells = refl; others = λ other apart. refl }; this = refl }
 gained (Some files) name bytes = appended_by (get files name) files name bytes refl
-
-nothing_behind : (held : Option (List ℕ)) → held ≡ option_map (λ bytes. bytes ++ []) held
-nothing_behind None = refl
-nothing_behind (Some bytes) = ap (λ b. Some b) (sym (append-nil bytes))
-
--- nothing was appended
-pub gained_nothing : (told : Option Files) (name : List ℕ) → Gains told told name []
-gained_nothing told name = record { keeps = record { tells = refl; others = λ other apart. refl }; this = nothing_behind (file_of told name) }
 
 -- ---- the calls
 

@@ -4,6 +4,8 @@ use Rattle.std.specs.declared.alloc.AllocError.{AllocError}
 use Rattle.esdk_fields.specs.declared.faults.Fault.{Fault}
 use Rattle.esdk_fields.specs.declared.refusals.Outside.TheVariants as outsides
 use Rattle.esdk_base.specs.Shelf.{Files}
+use Rattle.esdk_base.specs.declared.receiver.FeedError.{FeedError}
+use Rattle.esdk_base.specs.declared.receiver.FeedError.TheVariants as failures
 use Rattle.keyring_trait.specs.declared.journal.JournalLine.{JournalLine}
 use Rattle.keyring_trait.specs.declared.journal.Kind.TheVariants.{Unseal}
 use Rattle.keyring_trait.specs.declared.served.Served.{Served}
@@ -33,6 +35,11 @@ EndsFor (errors.Fault fault) result = result ≡ Ok (ends.Fault fault)
 EndsFor errors.KeyringFault result = result ≡ Ok (ends.Outside outsides.KeyringFault)
 EndsFor errors.Memory result = result ≡ Err alloc_error
 EndsFor errors.NotLive result = ⊥
+
+-- the same of an error with which a session is fed into the end of a file, which may be the shelf's
+abbrev pub EndsBy : {E : Type 0} → FeedError DeskError E → Result JobEnd AllocError → Type 0
+EndsBy (failures.Machine error) result = EndsFor error result
+EndsBy (failures.Receiver error) result = result ≡ Ok (ends.Outside outsides.ShelfFault)
 
 -- every other session is as before, no number is drawn, and the journal gained these lines
 pub record KeepsDesk (session : ℕ) (v w : DeskValue) (gained : List JournalLine) : Type 0 where

@@ -3,6 +3,8 @@ pub mod Batch
 pub mod Ending
 pub mod Failures
 pub mod Files
+pub mod FileEnd
+pub mod FileEndLaws
 pub mod Managing
 pub mod Moments
 pub mod OpenStory

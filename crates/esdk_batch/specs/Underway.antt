@@ -30,10 +30,6 @@ use Rattle.esdk_batch.specs.Files.{KeepsOthers, most_input}
 use Rattle.esdk_batch.specs.SealStory.{SealAsked, held, wish_of}
 use Rattle.esdk_batch.specs.Batch.{WorksSo, kind_of, seen_of}
 
--- the desk is worth something: a new desk is, and every call keeps that
-abbrev pub IsWorth : {M : Type 0} → Desk M → Type 0
-IsWorth desk = (v : DeskValue) × Stands desk v
-
 -- the desk is worth something at which this session is live
 abbrev pub IsLiveAt : {M : Type 0} → Desk M → ℕ → Type 0
 IsLiveAt desk session = (v : DeskValue) × Stands desk v

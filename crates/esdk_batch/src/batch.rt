@@ -4,12 +4,11 @@ ghost use Rattle.std.specs.Prelude.{◌≡◌, ◌≤◌, ◌-◌, ◌^◌, ℕ,
 ghost use Rattle.keyring_trait.specs.Manager.{Went};
 ghost use Rattle.keyring_trait.specs.Saying.{said_between};
 ghost use Rattle.desk_core.specs.Desk.{DeskValue};
-ghost use Rattle.desk_core.specs.Stands.{Stands, manager_of, journal_of, last_of};
+ghost use Rattle.desk_core.specs.Stands.{IsWorth, Stands, manager_of, journal_of, last_of};
 ghost use Rattle.esdk_batch.specs.Batch.{OnlyWritten, RunsBatch};
 ghost use Rattle.esdk_batch.specs.Failures.{CountsFailures, tally_of};
 ghost use Rattle.esdk_batch.specs.Moments.{ReadsClock};
 ghost use Rattle.esdk_batch.specs.Progress.{AreEnded, is_ended};
-ghost use Rattle.esdk_batch.specs.Underway.{IsWorth};
 
 use crate::progress::{Progress, all_waiting};
 use crate::rounds::run_rounds;

@@ -1,24 +1,25 @@
 //! A piece of a job's file that is fed to its session, and the session's end.
 
-ghost use Rattle.std.specs.Prelude.{◌≡◌, ◌≤◌, ℕ, true, false, List, Some, IfOk};
+ghost use Rattle.std.specs.Prelude.{◌≡◌, ◌≢◌, ℕ, true, false, List, Some, IfOk};
+ghost use Rattle.esdk_base.specs.declared.receiver.FeedError.TheVariants.{Machine};
+ghost use Rattle.desk_core.specs.declared.errors.DeskError.TheVariants.{NotLive};
 ghost use Rattle.desk_core.specs.Session.{SessionValue};
 ghost use Rattle.desk_core.specs.Desk.{DeskValue};
-ghost use Rattle.desk_core.specs.Stands.{Stands, manager_of, journal_of};
-ghost use Rattle.keyring_trait.specs.Manager.{Went};
+ghost use Rattle.desk_core.specs.Stands.{IsWorth, Stands, manager_of, journal_of};
 ghost use Rattle.keyring_trait.specs.Saying.{said_between};
 ghost use Rattle.esdk_batch.specs.Managing.{ManagerWent, SaysWithin};
-ghost use Rattle.esdk_batch.specs.Ending.{EndsSession, FeedsPiece};
+ghost use Rattle.esdk_batch.specs.Ending.{EndsBy, EndsSession, FeedsPiece};
 ghost use Rattle.esdk_base.specs.Shelf.{is_missing};
 ghost use Rattle.esdk_batch.specs.Failures.{PieceCounts};
 ghost use Rattle.esdk_batch.specs.Files.{KeepsOthers};
 ghost use Rattle.esdk_batch.specs.Moments.{GainsAt};
-ghost use Rattle.esdk_batch.specs.Underway.{IsLiveAt, IsWorth};
+ghost use Rattle.esdk_batch.specs.Underway.{IsLiveAt};
 
-use crate::files::put;
+use crate::file_end::FileEnd;
 use crate::opening::end_of;
 use batch_report::JobEnd;
-use desk_core::Desk;
-use esdk_base::Shelf;
+use desk_core::{Desk, DeskError};
+use esdk_base::{Failed, FeedError, Shelf};
 use esdk_fields::Outside;
 use keyring_trait::Manager;
 use std::alloc::{AllocError, Global};
@@ -34,8 +35,7 @@ pub(crate) fn feed_piece<M: Manager, F: Shelf>(
     desk: &mut Desk<M>,
     shelf: &mut F,
 ) -> Result<Option<JobEnd>, AllocError>
-    requires live { IsLiveAt desk.old session }
-    requires still { Went (M.state (manager_of desk.old)) (M.state (manager_of desk.old)) }
+    requires { IsLiveAt desk.old session }
     ensures feeds { (first last : M) (v : DeskValue) (s : SessionValue)
         → SaysWithin M.state first last desk.old desk.new
         → Stands desk.old v → v.live session ≡ Some s
@@ -51,20 +51,11 @@ pub(crate) fn feed_piece<M: Manager, F: Shelf>(
     ensures worth { IsWorth desk.new }
     ensures went { ManagerWent M.state desk.old desk.new }
 {
-    let mut left = piece;
-    while !left.is_empty() {
-        let used = match desk.feed(alloc, session, now, left) {
-            Ok(used) => used,
-            Err(error) => return Ok(Some(end_of(error)?)),
-        };
-        let Ok(()) = put(shelf, to, desk.out()) else {
-            let _dropped = desk.drop_session(session);
-            return Ok(Some(JobEnd::Outside(Outside::ShelfFault)));
-        };
-        let (_used, rest) = left.split_at(used);
-        left = rest;
+    let mut file = FileEnd { shelf, name: to };
+    match desk.feed_into(alloc, session, now, piece, &mut file) {
+        Ok(()) => Ok(None),
+        Err(error) => Ok(Some(end_by(error)?)),
     }
-    Ok(None)
 }
 
 /// Ends a live session, and appends what it gives to the file. Answers how the job ended.
@@ -87,11 +78,21 @@ pub(crate) fn end_session<M: Manager, F: Shelf>(
     ensures manager { manager_of desk.new ≡ manager_of desk.old }
     ensures journal { journal_of desk.new ≡ journal_of desk.old }
 {
-    match desk.end(session) {
-        Ok(()) => match put(shelf, to, desk.out()) {
-            Ok(()) => Ok(JobEnd::Done),
-            Err(_) => Ok(JobEnd::Outside(Outside::ShelfFault)),
-        },
-        Err(error) => end_of(error),
+    let mut file = FileEnd { shelf, name: to };
+    match desk.end_into(session, &mut file) {
+        Ok(()) => Ok(JobEnd::Done),
+        Err(error) => end_by(error),
+    }
+}
+
+/// How a job ends whose session was fed, or ended, into the end of its file with this error. Fails
+/// where memory ran out.
+fn end_by(error: FeedError<DeskError, Failed>) -> Result<JobEnd, AllocError>
+    requires { error ≢ Machine NotLive }
+    ensures { EndsBy error result }
+{
+    match error {
+        FeedError::Machine(error) => end_of(error),
+        FeedError::Receiver(_) => Ok(JobEnd::Outside(Outside::ShelfFault)),
     }
 }

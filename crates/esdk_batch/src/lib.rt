@@ -9,6 +9,7 @@
 
 mod batch;
 mod feeding;
+mod file_end;
 mod files;
 mod opening;
 mod placing;

@@ -13,7 +13,7 @@ ghost use Rattle.job_file.specs.declared.job.Work.TheVariants.{Decrypt, Encrypt}
 ghost use Rattle.desk_core.specs.declared.errors.DeskError.TheVariants.{NotLive};
 ghost use Rattle.desk_core.specs.Session.{SessionValue, header_of};
 ghost use Rattle.desk_core.specs.Desk.{DeskValue};
-ghost use Rattle.desk_core.specs.Stands.{Stands, manager_of, journal_of, last_of};
+ghost use Rattle.desk_core.specs.Stands.{IsWorth, Stands, manager_of, journal_of, last_of};
 ghost use Rattle.esdk_batch.specs.declared.progress.Progress.TheVariants.{Waiting};
 ghost use Rattle.keyring_trait.specs.declared.journal.Kind.TheVariants.{Seal, Unseal};
 ghost use Rattle.keyring_trait.specs.Manager.{Went};
@@ -25,7 +25,7 @@ ghost use Rattle.esdk_batch.specs.Moments.{GainsAt};
 ghost use Rattle.esdk_batch.specs.Ending.{EndsFor};
 ghost use Rattle.esdk_batch.specs.Opening.{BeginsFile, request_of};
 ghost use Rattle.esdk_batch.specs.SealStory.{SealAsked};
-ghost use Rattle.esdk_batch.specs.Underway.{IsLiveAt, IsWorth, TakesTurn};
+ghost use Rattle.esdk_batch.specs.Underway.{IsLiveAt, TakesTurn};
 ghost use Rattle.esdk_batch.specs.Batch.{kind_of};
 ghost use Rattle.esdk_batch.specs.Turns.{AddsLines, DrawsBytes, DrawsNumber, HasKind};
 

@@ -3,7 +3,7 @@
 ghost use Rattle.std.specs.Prelude.{◌≡◌, ◌≤◌, ◌<◌, ◌+◌, ◌-◌, ◌^◌, true, All, length, take, is_some, List, Some, OnOk};
 ghost use Rattle.job_file.specs.JobFile.{IsWork};
 ghost use Rattle.desk_core.specs.Desk.{DeskValue};
-ghost use Rattle.desk_core.specs.Stands.{Stands, manager_of, journal_of, last_of};
+ghost use Rattle.desk_core.specs.Stands.{IsWorth, Stands, manager_of, journal_of, last_of};
 ghost use Rattle.keyring_trait.specs.Manager.{Went};
 ghost use Rattle.keyring_trait.specs.Saying.{said_between};
 ghost use Rattle.esdk_batch.specs.Batch.{OnlyWritten};
@@ -11,7 +11,6 @@ ghost use Rattle.esdk_batch.specs.Failures.{AllCounted, Tally, tally_of};
 ghost use Rattle.esdk_batch.specs.Managing.{ManagerWent, SaysWithin};
 ghost use Rattle.esdk_batch.specs.Moments.{ReadsClock};
 ghost use Rattle.esdk_batch.specs.Progress.{IsFirstRunning, all_turns_left, is_ended};
-ghost use Rattle.esdk_batch.specs.Underway.{IsWorth};
 ghost use Rattle.esdk_batch.specs.Rounds.{AreApart, AreReady, Beginning, HaveBegun, IsOpened, Stand, all_waits};
 
 use crate::progress::{Progress, first_running};

@@ -3,13 +3,13 @@
 ghost use Rattle.std.specs.Prelude.{◌≡◌, ◌≤◌, ◌<◌, ◌+◌, ◌-◌, ◌^◌, ℕ, true, false, length, List, IfOk, OnOk};
 ghost use Rattle.job_file.specs.JobFile.{IsWork};
 ghost use Rattle.desk_core.specs.Desk.{DeskValue};
-ghost use Rattle.desk_core.specs.Stands.{Stands, manager_of, journal_of, last_of};
+ghost use Rattle.desk_core.specs.Stands.{IsWorth, Stands, manager_of, journal_of, last_of};
 ghost use Rattle.keyring_trait.specs.Manager.{Went};
 ghost use Rattle.keyring_trait.specs.Saying.{said_between};
 ghost use Rattle.esdk_batch.specs.Managing.{ManagerWent, SaysWithin};
 ghost use Rattle.esdk_batch.specs.Progress.{is_ended, turns_left};
 ghost use Rattle.esdk_batch.specs.Turns.{AddsLines, DrawsBytes, DrawsNumber, HasKind, Knows, either, waits};
-ghost use Rattle.esdk_batch.specs.Underway.{FurtherTurn, HasSession, IsLiveAt, IsReady, IsWorth, TakesTurn};
+ghost use Rattle.esdk_batch.specs.Underway.{FurtherTurn, HasSession, IsLiveAt, IsReady, TakesTurn};
 ghost use Rattle.esdk_batch.specs.Failures.{HasFile, TurnCounts, tally_of};
 ghost use Rattle.esdk_batch.specs.Files.{KeepsOthers, most_input};
 ghost use Rattle.esdk_batch.specs.Moments.{GainsAt, TakesMoment};

@@ -6,6 +6,8 @@ use Rattle.std.specs.Map.{update}
 use Rattle.std.proofs.lemmas.List.{take-append-drop}
 use Rattle.std.proofs.lemmas.List.Folds.{concat-append}
 use Rattle.std.proofs.lemmas.Map.{update_here}
+use Rattle.esdk_base.specs.declared.receiver.FeedError.{FeedError}
+use Rattle.esdk_base.specs.declared.receiver.FeedError.TheVariants as feeding
 use Rattle.esdk_fields.specs.declared.faults.Fault.{Fault}
 use Rattle.esdk_fields.specs.Place.{start, followed}
 use Rattle.esdk_fields.specs.Reading.{Reading, Read, Refused, Wanting, value_of}
@@ -27,24 +29,27 @@ use Rattle.message_format.proofs.Lines.{line_by_line}
 use Rattle.message_format.proofs.ReadingOn.{unlocking_is}
 use Rattle.stream_open.specs.declared.errors.OpenError.{OpenError}
 use Rattle.stream_open.specs.declared.errors.OpenError.TheVariants as opens
+use Rattle.stream_open.specs.declared.session.Opener.{Opener}
 use Rattle.stream_open.specs.Asking.{Heard, Nothing, Found, Named, Failed, IsHeard, request_of}
-use Rattle.stream_open.specs.Feeding.{FindsFault, GoesOn, IsFedExactly}
-use Rattle.stream_open.specs.Session.{OpeningValue, answer_kept, asked_header, end_of, finish_answer, finished, judged_now, keeping, new_session, step_answer, stepped}
-use Rattle.stream_open.proofs.Feeding.{asks_about, ends_so, feeds_exactly, may_hear, opened_goes, sure}
+use Rattle.stream_open.specs.Feeding.{GoesOn}
+use Rattle.stream_open.specs.Receiving.{Breaks, FedTo, HasFault}
+use Rattle.stream_open.specs.Session.{OpeningValue, answer_kept, asked_header, end_of, finish_answer, finished, judged_now, keeping, new_session}
+use Rattle.stream_open.proofs.Feeding.{asks_about, ends_so, opened_goes, sure}
 use Rattle.desk_core.specs.declared.errors.DeskError.{DeskError}
 use Rattle.desk_core.specs.declared.errors.DeskError.TheVariants as errors
 use Rattle.desk_core.specs.declared.live_sessions.Desk.{Desk}
-use Rattle.desk_core.specs.Calls.{Feeds, MayHear, OpensOpen}
-use Rattle.desk_core.specs.Desk.{DeskValue, Feed, OpenOpen, after_call}
-use Rattle.desk_core.specs.Session.{SessionValue, Opening, Turn, answered, ended, fed, open_answer, open_opened}
-use Rattle.desk_core.specs.Stands.{Stands, manager_of}
-use Rattle.desk_core.proofs.Fed.{feeds_machines}
+use Rattle.desk_core.specs.Calls.{OpensOpen}
+use Rattle.desk_core.specs.Desk.{OpenOpen, after_call, open_lines}
+use Rattle.desk_core.specs.Receiving.{FeedsInto, FeedsOpening, FeedsSession, handed_over}
+use Rattle.desk_core.specs.Session.{SessionValue, Opening, answered, ended, open_answer, open_error, open_opened}
+use Rattle.desk_core.specs.Stands.{manager_of}
 use Rattle.esdk_decrypt.specs.Decrypt.{answering_of}
 use Rattle.esdk_decrypt.specs.Told.{Reader, answering_by}
 use Rattle.esdk_decrypt.proofs.Told.{Allows, reader_allows}
 use Rattle.esdk_gen.specs.Generator.{key_of}
+use Rattle.esdk_gen.specs.Receivers.{Counts, CountsOver}
 use Rattle.esdk_gen.specs.Opening.{IsOpening, IsWhole, no_limits, unlocked_by}
-use Rattle.esdk_gen.specs.Sealing.{IsIdle, IsLive}
+use Rattle.esdk_gen.specs.Sealing.{IsIdle}
 use Rattle.esdk_gen.proofs.Materials.{manager_now, same_ring, saying}
 
 -- ---- judgements
@@ -100,17 +105,6 @@ abbrev pub HeardBy : WrapKeyValue → WrapKeyValue → OpeningValue → List ℕ
 HeardBy old new o left short heard =
     IsHeard (saying old new) 0 o.given (asked_header o left) short heard
 
--- the same of a session that may be another, and `short` says that memory ran out
-abbrev MayHearBy : WrapKeyValue → WrapKeyValue → List ℕ → Heard → Bool → Option SessionValue
-    → Type 0
-MayHearBy old new left heard short live = MayHear (saying old new) 0 live left heard short
-
-fed_exactly : (old new : WrapKeyValue) (o : OpeningValue) (left : List ℕ) (heard : Heard) → GoesOn o
-    → HeardBy old new o left ⊥ heard → IsFedExactly o left heard
-fed_exactly old new o left heard goes hears =
-    feeds_exactly o left heard goes
-    (may_hear (saying old new) 0 o.given (asked_header o left) ⊥ heard hears)
-
 abbrev reader_of : List ℕ → Reader
 reader_of key = record { keys = key_of key ∷ []; settings = no_limits; given = []; required = [] }
 
@@ -162,57 +156,40 @@ module _ (key : List ℕ) (new : WrapKeyValue) (message more left : List ℕ) (o
       (answers key new).finds_none (request_of [] h) managers.KeyringFault none_here
 
   -- no fault is found in a whole message
-  faulty_by : (heard : Heard) (fault : Fault) (kept_now : Option Unlocking) → (keeping o heard).answer ≡ kept_now → ((a : Unlocking) → kept_now ≡ Some a → a ≡ unlocked_by key message)
-      → (judged message no_limits (unlocked_by key message)).verdict ≡ Whole → FindsFault o left heard fault → ⊥
-  faulty_by heard fault (Some a) e is whole finds =
+  faulty_by : (heard : Heard) (given : List ℕ) (fault : Fault) (kept_now : Option Unlocking) → (keeping o heard).answer ≡ kept_now → ((a : Unlocking) → kept_now ≡ Some a → a ≡ unlocked_by key message)
+      → (judged message no_limits (unlocked_by key message)).verdict ≡ Whole → HasFault o left heard given fault → ⊥
+  faulty_by heard given fault (Some a) e is whole finds =
       let same : a ≡ unlocked_by key message = is a refl in
       let faulty : (judged (o.taken ++ left) no_limits (unlocked_by key message)).verdict ≡ Faulty fault =
       ap (λ (x : Unlocking). (judged (o.taken ++ left) no_limits x).verdict) (sym same)
       ∙ ap (λ (k : Option Unlocking). (judged (o.taken ++ left) no_limits (answer_kept k)).verdict) (sym e)
       ∙ ap (λ (s : Settings). (judged (o.taken ++ left) s (answer_kept (keeping o heard).answer)).verdict) (sym settings) ∙ finds.verdict in
       front_sound no_limits (o.taken ++ left) more (unlocked_by key message) fault (ap (λ (b : List ℕ). (judged b no_limits (unlocked_by key message)).verdict) (sym front) ∙ whole) faulty
-  faulty_by heard fault None e is whole finds =
+  faulty_by heard given fault None e is whole finds =
       let refused : header_fault no_limits (o.taken ++ left) ≡ Some fault = ap (λ (s : Settings). header_fault s (o.taken ++ left)) (sym settings) ∙ finds.unheard e in
       let faulty : (judged (o.taken ++ left) no_limits (unlocked_by key message)).verdict ≡ Faulty fault =
       ap (λ (j : Judged). j.verdict) ((line_by_line (o.taken ++ left) no_limits (unlocked_by key message)).header_is_faulty fault refused) in
       front_sound no_limits (o.taken ++ left) more (unlocked_by key message) fault (ap (λ (b : List ℕ). (judged b no_limits (unlocked_by key message)).verdict) (sym front) ∙ whole) faulty
 
-  never_faulty : (heard : Heard) (fault : Fault) → HeardBy (key_of key) new o left ⊥ heard
+  never_faulty : (heard : Heard) (given : List ℕ) (fault : Fault) → HeardBy (key_of key) new o left ⊥ heard
       → (judged message no_limits (unlocked_by key message)).verdict ≡ Whole
-      → FindsFault o left heard fault → ⊥
-  never_faulty heard fault hears whole finds =
-      faulty_by heard fault (keeping o heard).answer refl (kept_on heard hears) whole finds
+      → HasFault o left heard given fault → ⊥
+  never_faulty heard given fault hears whole finds =
+      faulty_by heard given fault (keeping o heard).answer refl (kept_on heard hears) whole finds
 
   heard_failed : (heard : Heard) → heard ≡ Failed → HeardBy (key_of key) new o left ⊥ heard → ⊥
   heard_failed heard is hears = never_failed (subst (HeardBy (key_of key) new o left ⊥) is hears)
 
-  -- only memory can be wanting in a step
-  step_goes : (heard : Heard) (error : DeskError) (r : Result ℕ OpenError)
-      → step_answer o left heard ≡ r → HeardBy (key_of key) new o left ⊥ heard
-      → (judged message no_limits (unlocked_by key message)).verdict ≡ Whole → (s : SessionValue)
-      → Err error ≡ (answered (open_answer r) s (Some s)).answer → error ≡ errors.Memory
-  step_goes heard error (Ok n) is hears whole s fails = absurd cc
-  step_goes heard error (Err (opens.Fault fault)) is hears whole s fails =
-      let exactly : IsFedExactly o left heard =
-      fed_exactly (key_of key) new o left heard goes hears in
-      absurd (never_faulty heard fault hears whole (exactly.fault fault is))
-  step_goes heard error (Err opens.KeyringFault) is hears whole s fails =
-      let exactly : IsFedExactly o left heard =
-      fed_exactly (key_of key) new o left heard goes hears in
-      absurd (heard_failed heard (exactly.failed is).0 hears)
-  step_goes heard error (Err opens.Stopped) is hears whole s fails =
-      let exactly : IsFedExactly o left heard =
-      fed_exactly (key_of key) new o left heard goes hears in
-      absurd (exactly.unstopped is)
-  step_goes heard error (Err opens.Memory) is hears whole s fails = cc
+  surely : (own : OpenError) (heard : Heard) → (own ≡ opens.Memory → ⊥) → HeardBy (key_of key) new o left (own ≡ opens.Memory) heard → HeardBy (key_of key) new o left ⊥ heard
+  surely own heard known hears = sure (saying (key_of key) new) 0 o.given (asked_header o left) (own ≡ opens.Memory) heard known hears
 
-surely_heard : (old new : WrapKeyValue) (o : OpeningValue) (left : List ℕ) (heard : Heard)
-    → HeardBy old new o left (false ≡ true) heard → HeardBy old new o left ⊥ heard
-surely_heard old new o left heard hears =
-    sure (saying old new) 0 o.given (asked_header o left) (false ≡ true) heard false_true hears
-  where
-    false_true : false ≡ true → ⊥
-    false_true e = cc
+  -- only memory can be wanting while it is fed
+  breaks_so : (own : OpenError) (heard : Heard) (given : List ℕ) (reached : OpeningValue) → HeardBy (key_of key) new o left (own ≡ opens.Memory) heard
+      → (judged message no_limits (unlocked_by key message)).verdict ≡ Whole → Breaks o left heard given reached own → open_error own ≡ errors.Memory
+  breaks_so (opens.Fault fault) heard given reached hears whole why = absurd (never_faulty heard given fault (surely (opens.Fault fault) heard (λ e. cc) hears) whole why)
+  breaks_so opens.KeyringFault heard given reached hears whole why = absurd (heard_failed heard why.0 (surely opens.KeyringFault heard (λ e. cc) hears))
+  breaks_so opens.Stopped heard given reached hears whole why = absurd why
+  breaks_so opens.Memory heard given reached hears whole why = refl
 
 -- ---- bounds
 
@@ -226,12 +203,6 @@ few_by key message text rest o (Some a) is goes settings front e kept =
     ap (λ (s : Settings). judged o.taken s (answer_kept o.answer)) settings ∙ ap (λ (k : Option Unlocking). judged o.taken no_limits (answer_kept k)) e ∙ ap (judged o.taken no_limits) (kept a refl) in
     let whole : content (judged (o.taken ++ rest) no_limits (unlocked_by key message)) ≡ text = ap (λ (b : List ℕ). content (judged b no_limits (unlocked_by key message))) (sym front) ∙ is.released in
     omega (arith, ap (λ (j : Judged). length (content j)) same, front_few no_limits o.taken rest (unlocked_by key message), ap length whole)
-
--- no more is handed out than the text has
-pub few_opened : (desk : Desk WrapKeyValue) (key : List ℕ) (id : ℕ) (message text left : List ℕ) (count : ℕ) → IsOpening desk key id message text left count → count ≤ 67108864
-few_opened desk key id message text left count is =
-    let o : OpeningValue = is.session in
-    omega (arith, is.counted, few_by key message text left o o.answer is.is_whole is.goes is.settings is.front refl is.kept, is.is_whole.few)
 
 -- ---- the session begins
 
@@ -270,141 +241,109 @@ opening_first desk next key id last message text idle whole begun same =
       is_whole = whole;
     }
 
--- ---- a step
+-- ---- a piece
 
--- The desk after a call, by what it came to for the session of this number.
-record IsLiveTurn (desk : Desk WrapKeyValue) (key : List ℕ) (id : ℕ) (turn : Turn ℕ) : Type 0 where
-  value : DeskValue
-  stands : Stands desk value
-  drawn : value.last ≡ id
-  ring : manager_of desk ≡ key_of key
-  live : value.live id ≡ turn.left
+-- The session took a front of the message, of which this is left, and gave this since.
+record TookFront (key message rest : List ℕ) (o w : OpeningValue) (given : List ℕ) : Type 0 where
+  settings : w.settings ≡ no_limits
+  none_given : w.given ≡ []
+  goes : GoesOn w
+  front : message ≡ w.taken ++ rest
+  kept : (answer : Unlocking) → w.answer ≡ Some answer → answer ≡ unlocked_by key message
+  released : content (judged_now w) ≡ content (judged_now o) ++ given
 
-module _ (desk next : Desk WrapKeyValue) (key : List ℕ) (id : ℕ) (message text left more : List ℕ)
-    (count : ℕ) (is : IsOpening desk key id message text (left ++ more) count)
-    (some : 1 ≤ length left) where
-  front_of : message ≡ (is.session.taken ++ left) ++ more
-  front_of = is.front ∙ sym (append_assoc is.session.taken left more)
+module _ {E : Type 0} (fails : ℕ → ℕ → List ℕ → E → Type 0) (desk next : Desk WrapKeyValue) (key : List ℕ) (id : ℕ) (message text piece more : List ℕ) (count after : ℕ)
+    (is : IsOpening desk key id message text (piece ++ more) count) where
+  -- the piece was fed to this session
+  fed_as : (result : Result (Unit {0}) (FeedError DeskError E)) → (f : FeedsInto manager_now Counts fails is.at.value id 0 piece desk next count after result)
+      → FeedsOpening manager_now Counts fails 0 is.session piece (manager_of desk) (manager_of next) count after f.heard f.left result
+  fed_as result f =
+      subst (λ (o : Option SessionValue). FeedsSession manager_now Counts fails 0 o piece (manager_of desk) (manager_of next) count after f.heard f.left result) is.at.live f.feeds
 
-  fed_on : (used : ℕ) (out : List ℕ) (heard : Heard)
-      → HeardBy (key_of key) (manager_of next) is.session left ⊥ heard
-      → step_answer is.session left heard ≡ Ok used
-      → (at : IsLive next key id (Opening (stepped is.session left heard (Ok used))))
-      → out ≡ (stepped is.session left heard (Ok used)).out
-      → IsOpening next key id message text (drop used left ++ more) (count + length out)
-  fed_on used out heard hears answer at out_is =
-      let o : OpeningValue = is.session in
-      let exactly : IsFedExactly o left heard =
-      fed_exactly (key_of key) (manager_of next) o left heard is.goes hears in
-      let fed = exactly.used used some answer in
-      record {
-        session = stepped o left heard (Ok used);
-        at = at;
-        settings = fed.feeds.settings ∙ is.settings;
-        none_given = fed.feeds.pairs ∙ is.none_given;
-        goes = fed.feeds.goes;
-        front = is.front ∙ ap (λ (b : List ℕ). o.taken ++ (b ++ more))
-            (sym (take-append-drop used left))
-            ∙ ap (λ (b : List ℕ). o.taken ++ b)
-            (append_assoc (take used left) (drop used left) more)
-            ∙ sym (append_assoc o.taken (take used left) (drop used left ++ more));
-        kept = kept_on key (manager_of next) message more left o is.goes is.settings
-            is.none_given front_of is.kept heard hears;
-        counted = omega (
-          arith,
-          is.counted,
-          ap length out_is,
-          ap length fed.feeds.content,
-          length-append (content (judged_now o)) (stepped o left heard (Ok used)).out,
-        );
-        is_whole = is.is_whole;
-      }
+  -- the manager was over the wrapping key of these bytes
+  heard_here : (bytes : List ℕ) (short : Type 0) (heard : Heard) → HeardBy (manager_of desk) (manager_of next) is.session bytes short heard
+      → HeardBy (key_of key) (manager_of next) is.session bytes short heard
+  heard_here bytes short heard hears = subst (λ (w : WrapKeyValue). HeardBy w (manager_of next) is.session bytes short heard) is.at.ring hears
 
-  heard_now : (heard : Heard)
-      → HeardBy (manager_of desk) (manager_of next) is.session left (false ≡ true) heard
-      → HeardBy (key_of key) (manager_of next) is.session left ⊥ heard
-  heard_now heard hears =
-      let here =
-      subst (λ (w : WrapKeyValue). HeardBy w (manager_of next) is.session left (false ≡ true)
-      heard) is.at.ring hears in
-      surely_heard (key_of key) (manager_of next) is.session left heard here
-
-  -- a step that used so many bytes
-  on_by : (used : ℕ) (out : List ℕ) (short : Bool) (heard : Heard)
-      → MayHearBy (manager_of desk) (manager_of next) left heard short (Some (Opening is.session))
-      → Ok used ≡ (fed (Some (Opening is.session)) left heard short).answer
-      → (at : IsLiveTurn next key id (fed (Some (Opening is.session)) left heard short))
-      → out ≡ (fed (Some (Opening is.session)) left heard short).out
-      → IsOpening next key id message text (drop used left ++ more) (count + length out)
-      × (1 ≤ used) × (used ≤ length left)
-  on_by used out true heard hears answer at out_is = absurd cc
-  on_by used out false heard hears answer at out_is =
-      let o : OpeningValue = is.session in
-      let here = heard_now heard hears.0 in
-      let machine = feeds_machines.opened o left heard false used (sym answer) in
-      let exactly : IsFedExactly o left heard =
-      fed_exactly (key_of key) (manager_of next) o left heard is.goes here in
-      let fed_so = exactly.used used some machine.steps in (
-        fed_on used out heard here machine.steps
-            (record {
-              value = at.value;
-              stands = at.stands;
-              drawn = at.drawn;
-              ring = at.ring;
-              live = at.live ∙ machine.left;
-            })
-            (out_is ∙ machine.out),
-        fed_so.some,
-        fed_so.within,
-      )
-
-  not_by : (error : DeskError) (short : Bool) (heard : Heard)
-      → MayHearBy (manager_of desk) (manager_of next) left heard short (Some (Opening is.session))
-      → Err error ≡ (fed (Some (Opening is.session)) left heard short).answer
-      → error ≡ errors.Memory
-  not_by error true heard hears answer = cc
-  not_by error false heard hears answer =
-      let o : OpeningValue = is.session in
-      step_goes key (manager_of next) message more left o is.goes is.settings is.none_given
-      front_of is.kept heard error (step_answer o left heard) refl (heard_now heard hears.0)
-      is.is_whole.whole (Opening (stepped o left heard (step_answer o left heard))) answer
+  took : (bytes rest given : List ℕ) (opener : Opener) → message ≡ (is.session.taken ++ bytes) ++ rest
+      → (fed : FedTo manager_now 0 is.session bytes given (manager_of desk) (manager_of next) opener) → TookFront key message rest is.session fed.session given
+  took bytes rest given opener front fed = record {
+    settings = fed.feeds.settings ∙ is.settings;
+    none_given = fed.feeds.pairs ∙ is.none_given;
+    goes = fed.feeds.goes;
+    front = front ∙ ap (λ (b : List ℕ). b ++ rest) (sym fed.feeds.taken);
+    kept = λ answer kept.
+        kept_on key (manager_of next) message rest bytes is.session is.goes is.settings is.none_given front is.kept fed.heard (heard_here bytes ⊥ fed.heard fed.hears) answer (sym fed.answer ∙ kept);
+    released = fed.feeds.content;
+  }
 
   ring_of : TellsOn (manager_now (manager_of desk)).tells (manager_now (manager_of next)).tells
       → manager_of next ≡ key_of key
   ring_of tells = same_ring (manager_of desk) (manager_of next) key is.at.ring tells
 
-  pub opening_on : (used : ℕ) (out : List ℕ)
-      → (f : Feeds (manager_now (manager_of desk)) (manager_now (manager_of next)) is.at.value
-      id 0 left (Ok used) next)
-      → TellsOn (manager_now (manager_of desk)).tells (manager_now (manager_of next)).tells
-      → out ≡ (after_call is.at.value id f.short (Feed 0 left f.heard)).out
-      → IsOpening next key id message text (drop used left ++ more) (count + length out)
-      × (1 ≤ used) × (used ≤ length left)
-  opening_on used out f tells out_is =
-      let v : DeskValue = is.at.value in
-      on_by used out f.short f.heard
-      (subst (MayHearBy (manager_of desk) (manager_of next) left f.heard f.short) is.at.live
-      f.hears)
-      (f.answer ∙ ap (λ (o : Option SessionValue). (fed o left f.heard f.short).answer) is.at.live)
-      (record {
-        value = after_call v id f.short (Feed 0 left f.heard);
-        stands = f.stands;
-        drawn = is.at.drawn;
-        ring = ring_of tells;
-        live = update_here v.live id (fed (v.live id) left f.heard f.short).left
-            ∙ ap (λ (o : Option SessionValue). (fed o left f.heard f.short).left) is.at.live;
-      })
-      (out_is ∙ ap (λ (o : Option SessionValue). (fed o left f.heard f.short).out) is.at.live)
+  whole_front : message ≡ (is.session.taken ++ piece) ++ more
+  whole_front = is.front ∙ sym (append_assoc is.session.taken piece more)
 
-  -- and one that failed
-  pub opening_not : (error : DeskError)
-      → Feeds (manager_now (manager_of desk)) (manager_now (manager_of next)) is.at.value
-      id 0 left (Err error) next → error ≡ errors.Memory
-  opening_not error f =
-      not_by error f.short f.heard
-      (subst (MayHearBy (manager_of desk) (manager_of next) left f.heard f.short) is.at.live
-      f.hears)
-      (f.answer ∙ ap (λ (o : Option SessionValue). (fed o left f.heard f.short).answer) is.at.live)
+  -- all of it was fed
+  pub piece_opened : FeedsInto {T = Unit {0}} manager_now Counts fails is.at.value id 0 piece desk next count after (Ok tt)
+      → TellsOn (manager_now (manager_of desk)).tells (manager_now (manager_of next)).tells → IsOpening next key id message text more after
+  piece_opened f tells =
+      let fed = fed_as (Ok tt) f in
+      let whole = fed.1 in
+      let on = took piece more whole.given fed.0 whole_front whole.fed in
+      record {
+        session = whole.fed.session;
+        at = record {
+          value = handed_over is.at.value id (open_lines id 0 f.heard) f.left;
+          stands = f.stands;
+          drawn = is.at.drawn;
+          ring = ring_of tells;
+          live = update_here is.at.value.live id f.left ∙ fed.3;
+        };
+        settings = on.settings;
+        none_given = on.none_given;
+        goes = on.goes;
+        front = on.front;
+        kept = on.kept;
+        counted = omega (arith, is.counted, whole.taken, ap length on.released, length-append (content (judged_now is.session)) whole.given);
+        is_whole = is.is_whole;
+      }
+
+  -- or memory was wanting
+  only_memory : (error : DeskError) → FeedsInto {T = Unit {0}} manager_now Counts fails is.at.value id 0 piece desk next count after (Err (feeding.Machine error)) → error ≡ errors.Memory
+  only_memory error f =
+      let fed = fed_as (Err (feeding.Machine error)) f in
+      let short = fed.2 in
+      fed.5
+      ∙ breaks_so key (manager_of next) message more piece is.session is.goes is.settings is.none_given whole_front is.kept fed.1 short.heard short.given short.reached
+      (heard_here piece (fed.1 ≡ opens.Memory) short.heard short.hears) is.is_whole.whole short.why
+
+  -- no more is handed out than the text has
+  never_over : (error : E) → ((old new : ℕ) (bytes : List ℕ) (e : E) → fails old new bytes e → CountsOver old bytes)
+      → FeedsInto {T = Unit {0}} manager_now Counts fails is.at.value id 0 piece desk next count after (Err (feeding.Receiver error)) → ⊥
+  never_over error over f =
+      let fed = fed_as (Err (feeding.Receiver error)) f in
+      let until = fed.1 in
+      let front : message ≡ (is.session.taken ++ take until.count piece) ++ (drop until.count piece ++ more) =
+      is.front ∙ ap (λ (b : List ℕ). is.session.taken ++ (b ++ more)) (sym (take-append-drop until.count piece))
+      ∙ ap (λ (b : List ℕ). is.session.taken ++ b) (append_assoc (take until.count piece) (drop until.count piece) more)
+      ∙ sym (append_assoc is.session.taken (take until.count piece) (drop until.count piece ++ more)) in
+      let on = took (take until.count piece) (drop until.count piece ++ more) until.given fed.0 front until.fed in
+      let w : OpeningValue = until.fed.session in
+      omega (
+        arith,
+        over count after until.given error until.failed,
+        is.counted,
+        ap length on.released,
+        length-append (content (judged_now is.session)) until.given,
+        few_by key message text (drop until.count piece ++ more) w w.answer is.is_whole on.goes on.settings on.front refl on.kept,
+        is.is_whole.few,
+      )
+
+  pub opening_not : (error : FeedError DeskError E) → ((old new : ℕ) (bytes : List ℕ) (e : E) → fails old new bytes e → CountsOver old bytes)
+      → FeedsInto {T = Unit {0}} manager_now Counts fails is.at.value id 0 piece desk next count after (Err error) → error ≡ feeding.Machine errors.Memory
+  opening_not (feeding.Machine error) over f = ap (λ (e : DeskError). feeding.Machine e) (only_memory error f)
+  opening_not (feeding.Receiver error) over f = absurd (never_over error over f)
 
 -- ---- the end
 

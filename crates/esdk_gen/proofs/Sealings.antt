@@ -1,27 +1,27 @@
 -- The session that seals: how it begins, what a step makes of it, and its end.
-use Rattle.std.proofs.Common.{◌≡◌, ◌∙◌, ℕ, ◌+◌, ◌≤◌, Bool, false, List, [], ◌++◌, length, drop, if◌then◌else◌, Option, Some, None, Result, Ok, Err, refl, sym, ap, subst, arith, append_assoc, append-nil, length-append}
+use Rattle.std.proofs.Common.{◌≡◌, ◌∙◌, ℕ, ◌+◌, ◌≤◌, List, [], ◌++◌, length, Option, Some, None, Result, Ok, Err, refl, sym, ap, subst, arith, length-append}
 use Rattle.std.specs.Prelude.{option_map}
 use Rattle.std.proofs.lemmas.Map.{update_here}
+use Rattle.esdk_base.specs.declared.receiver.FeedError.{FeedError}
+use Rattle.esdk_base.specs.declared.receiver.FeedError.TheVariants as feeding
 use Rattle.keyring_trait.specs.Manager.{ManagerNow}
 use Rattle.keyring_trait.specs.Wrapping.{WrapKeyValue}
-use Rattle.stream_seal.specs.declared.errors.SealError.{SealError}
-use Rattle.stream_seal.specs.declared.errors.SealError.TheVariants as seals
 use Rattle.stream_seal.specs.Session as seal
-use Rattle.stream_seal.specs.Session.{SealingValue, beginning, step_answer, stepped}
+use Rattle.stream_seal.specs.Session.{SealingValue, beginning}
 use Rattle.stream_seal.specs.Start.{message_of, most_text}
-use Rattle.stream_seal.specs.Feeding.{IsFed, StepFeeds, given_so_far, most_of, most_taken}
+use Rattle.stream_seal.specs.Feeding.{fed, fed_out, feed_refusal, most_of, most_taken}
 use Rattle.stream_seal.specs.Laws.{IsSameMessage}
-use Rattle.stream_seal.proofs.Feeding.{arrives, begin_fed, fails, feeds, finishes, goes_on, refuses_piece}
-use Rattle.stream_seal.proofs.FeedingSteps.{step_feeds}
+use Rattle.stream_seal.proofs.Feeding.{begin_fed, feeds, finishes, refuses_piece}
 use Rattle.desk_core.specs.declared.errors.DeskError.{DeskError}
+use Rattle.desk_core.specs.declared.errors.DeskError.TheVariants as errors
 use Rattle.desk_core.specs.declared.live_sessions.Desk.{Desk}
-use Rattle.desk_core.specs.Calls.{Feeds}
-use Rattle.desk_core.specs.Desk.{DeskValue, End, Feed, after_call}
-use Rattle.desk_core.specs.Session.{SessionValue, Sealing, answered, asked_by, ended, fed, header_of, seal_answer}
+use Rattle.desk_core.specs.Desk.{open_lines}
+use Rattle.desk_core.specs.Receiving.{FeedsInto, FeedsSealing, FeedsSession, FinishesSealing, FinishesSession, handed_over}
+use Rattle.desk_core.specs.Session.{SessionValue, Sealing, header_of}
 use Rattle.desk_core.specs.Stands.{Stands, manager_of}
-use Rattle.desk_core.proofs.Fed.{feeds_machines}
 use Rattle.esdk_gen.specs.Generator.{message_with}
-use Rattle.esdk_gen.specs.Sealing.{IsIdle, IsMidway, IsNewSession, IsSealing, SealsText, gen_session}
+use Rattle.esdk_gen.specs.Receivers.{Gathers}
+use Rattle.esdk_gen.specs.Sealing.{IsIdle, IsNewSession, IsSealing, SealsText, gen_session}
 
 -- ---- a session that begins
 
@@ -48,112 +48,55 @@ room_of s count undeclared size few =
     let most : most_taken s ≡ most_text 4096 = ap (λ (o : Option ℕ). most_of o (most_text s.size)) undeclared ∙ ap most_text size in
     omega (arith, most, few)
 
--- it begins
-pub midway_first : (desk : Desk WrapKeyValue) (key : List ℕ) (id : ℕ) (s : SealingValue) (piece message : List ℕ) → IsSealing desk key id s message → length s.taken + length piece ≤ 67108864
-    → IsMidway desk key id s piece piece message
-midway_first desk key id s piece message sealing few = record {
-  is_fed = sealing.is_fed;
-  undeclared = sealing.undeclared;
-  size = sealing.size;
-  now = s;
-  at = sealing.at;
-  given = [];
-  way = (feeds s piece sealing.is_fed).begins;
-  written = sealing.written ∙ sym (append-nil (given_so_far s));
-  room = (refuses_piece s piece).none.1 (room_of s (length (s.taken ++ piece)) sealing.undeclared sealing.size (omega (arith, length-append s.taken piece, few)));
-}
+module _ {E : Type 0} (state : WrapKeyValue → ManagerNow) (fails : List ℕ → List ℕ → List ℕ → E → Type 0) (desk next : Desk WrapKeyValue) (key : List ℕ) (id : ℕ) (s : SealingValue)
+    (piece message after : List ℕ) (sealing : IsSealing desk key id s message) (few : length s.taken + length piece ≤ 67108864) where
+  -- the piece was fed to this session
+  fed_as : (result : Result (Unit {0}) (FeedError DeskError E)) → (f : FeedsInto state Gathers fails sealing.at.value id 0 piece desk next message after result)
+      → FeedsSession state Gathers fails 0 (Some (Sealing s)) piece (manager_of desk) (manager_of next) message after f.heard f.left result
+  fed_as result f =
+      subst (λ (o : Option SessionValue). FeedsSession state Gathers fails 0 o piece (manager_of desk) (manager_of next) message after f.heard f.left result) sealing.at.live f.feeds
 
--- What a step of the session leaves: it used so many bytes.
-pub record Stepped (v : DeskValue) (id : ℕ) (now : SealingValue) (left : List ℕ) (used : ℕ) (w : DeskValue) : Type 0 where
-  pub steps : step_answer now left ≡ Ok used
-  pub live : w.live id ≡ Some (Sealing (stepped now left))
-  pub last : w.last ≡ v.last
-  pub out : w.out ≡ (stepped now left).out
+  room : feed_refusal s piece ≡ None
+  room = (refuses_piece s piece).none.1 (room_of s (length (s.taken ++ piece)) sealing.undeclared sealing.size (omega (arith, length-append s.taken piece, few)))
 
-pub steps_so : (old new : ManagerNow) (v : DeskValue) (id : ℕ) (now : SealingValue) (left : List ℕ)
-    (used : ℕ) (next : Desk WrapKeyValue) → v.live id ≡ Some (Sealing now)
-    → (f : Feeds old new v id 0 left (Ok used) next)
-    → Stepped v id now left used (after_call v id f.short (Feed 0 left f.heard))
-steps_so old new v id now left used next live f =
-    let answer : (fed (Some (Sealing now)) left f.heard f.short).answer ≡ Ok used =
-    sym (f.answer
-    ∙ ap (λ (o : Option SessionValue). (fed o left f.heard f.short).answer) live) in
-    let machine = feeds_machines.sealed now left f.heard f.short used answer in
-    record {
-      steps = machine.steps;
-      live = update_here v.live id (fed (v.live id) left f.heard f.short).left
-          ∙ ap (λ (o : Option SessionValue). (fed o left f.heard f.short).left) live ∙ machine.left;
-      last = refl;
-      out = ap (λ (o : Option SessionValue). (fed o left f.heard f.short).out) live ∙ machine.out;
-    }
-
--- the manager isn't asked
-pub unasked_then : (v : DeskValue) (id : ℕ) (now : SealingValue) (left : List ℕ) → v.live id ≡ Some (Sealing now) → asked_by (v.live id) left ≡ None
-unasked_then v id now left live = ap (λ (o : Option SessionValue). asked_by o left) live
-
-module _ (desk next : Desk WrapKeyValue) (key : List ℕ) (id : ℕ) (s : SealingValue)
-    (piece left message : List ℕ) (m : IsMidway desk key id s piece left message)
-    (some : 1 ≤ length left) where
-  pub midway_on : (old new : ManagerNow) (used : ℕ) (out : List ℕ)
-      → (f : Feeds old new m.at.value id 0 left (Ok used) next) → manager_of next ≡ manager_of desk
-      → out ≡ (after_call m.at.value id f.short (Feed 0 left f.heard)).out
-      → IsMidway next key id s piece (drop used left) (message ++ out)
-  midway_on old new used out f same out_is =
-      let step = steps_so old new m.at.value id m.now left used next m.at.live f in
-      let given : out ≡ (stepped m.now left).out = out_is ∙ step.out in
+  pub piece_fed : FeedsInto {T = Unit {0}} state Gathers fails sealing.at.value id 0 piece desk next message after (Ok tt) → SealsText next key id s (s.taken ++ piece) after
+  piece_fed f =
+      let session = fed_as (Ok tt) f in
+      let whole = session.3 sealing.is_fed in
+      let law = feeds s piece sealing.is_fed in
+      let all = law.whole room in
       record {
-        is_fed = m.is_fed;
-        undeclared = m.undeclared;
-        size = m.size;
-        now = stepped m.now left;
-        at = record {
-          value = after_call m.at.value id f.short (Feed 0 left f.heard);
-          stands = f.stands;
-          drawn = m.at.drawn;
-          ring = same ∙ m.at.ring;
-          live = step.live;
+        session = fed s piece;
+        sealing = record {
+          at = record {
+            value = handed_over sealing.at.value id (open_lines id 0 f.heard) f.left;
+            stands = f.stands;
+            drawn = sealing.at.drawn;
+            ring = session.0 ∙ sealing.at.ring;
+            live = update_here sealing.at.value.live id f.left ∙ whole.2;
+          };
+          is_fed = all.1;
+          undeclared = law.same.declared ∙ sealing.undeclared;
+          size = law.same.size ∙ sealing.size;
+          written = whole.1.taken ∙ ap (λ (b : List ℕ). b ++ fed_out s piece) sealing.written ∙ sym law.given;
         };
-        given = m.given ++ (stepped m.now left).out;
-        way = goes_on s piece m.now left m.given used m.way some step.steps;
-        written = ap (λ (b : List ℕ). b ++ out) m.written
-            ∙ append_assoc (given_so_far s) m.given out
-            ∙ ap (λ (o : List ℕ). given_so_far s ++ (m.given ++ o)) given;
-        room = m.room;
+        same = law.same;
+        taken = all.0;
       }
 
-  -- no step fails
-  step_goes : (r : Result ℕ SealError) (error : DeskError) → step_answer m.now left ≡ r → Err error ≡ (answered (seal_answer r) (Sealing (stepped m.now left)) (Some (Sealing (stepped m.now left)))).answer → ⊥
-  step_goes (Ok n) error is fails_so = cc
-  step_goes (Err (seals.Refusal refusal)) error is fails_so =
-      let no : None ≡ Some refusal = sym m.room ∙ (fails s piece m.now left m.given refusal m.way some is).why in cc
-  step_goes (Err seals.Stopped) error is fails_so = subst (λ (r : Result ℕ SealError). StepFeeds m.now left (stepped m.now left) r) is (step_feeds m.now left m.way.feeding some)
-  step_goes (Err seals.Memory) error is fails_so = subst (λ (r : Result ℕ SealError). StepFeeds m.now left (stepped m.now left) r) is (step_feeds m.now left m.way.feeding some)
+  refused_never : (error : DeskError) (left : Option SessionValue) → FeedsSealing {T = Unit {0}} Gathers fails s piece message after left (Err (feeding.Machine error)) → ⊥
+  refused_never (errors.Refusal refusal) left fed = let no : None ≡ Some refusal = sym room ∙ fed.1.why in cc
+  refused_never errors.NotLive left fed = fed
+  refused_never (errors.Fault fault) left fed = fed
+  refused_never errors.KeyringFault left fed = fed
+  refused_never errors.Memory left fed = fed
 
-  pub never_fails : (old new : ManagerNow) (error : DeskError)
-      → Feeds old new m.at.value id 0 left (Err error) next → ⊥
-  never_fails old new error f =
-      step_goes (step_answer m.now left) error refl
-      (f.answer ∙ ap (λ (o : Option SessionValue). (fed o left f.heard f.short).answer) m.at.live)
-
--- and ends
-pub midway_ends : (desk : Desk WrapKeyValue) (key : List ℕ) (id : ℕ) (s : SealingValue) (piece message : List ℕ) → IsMidway desk key id s piece [] message → SealsText desk key id s (s.taken ++ piece) message
-midway_ends desk key id s piece message m =
-    let law = feeds s piece m.is_fed in
-    let end = arrives s piece m.now m.given m.way in
-    let whole = law.whole m.room in
-    let same : IsSameMessage s m.now = subst (λ (w : SealingValue). IsSameMessage s w) (sym end.end) law.same in
-    record {
-      session = m.now;
-      sealing = record {
-        at = m.at;
-        is_fed = subst (λ (w : SealingValue). IsFed w) (sym end.end) whole.1;
-        undeclared = same.declared ∙ m.undeclared;
-        size = same.size ∙ m.size;
-        written = m.written ∙ ap (λ (g : List ℕ). given_so_far s ++ g) end.out ∙ sym law.given ∙ ap given_so_far (sym end.end);
-      };
-      same = same;
-      taken = ap (λ (w : SealingValue). w.taken) end.end ∙ whole.0;
-    }
+  -- there is room for it
+  pub never_refused : (error : FeedError DeskError E) → FeedsInto {T = Unit {0}} state Gathers fails sealing.at.value id 0 piece desk next message after (Err error) → (machine : DeskError)
+      → error ≡ feeding.Machine machine → ⊥
+  never_refused error fed machine is =
+      let f = subst (λ (e : FeedError DeskError E). FeedsInto {T = Unit {0}} state Gathers fails sealing.at.value id 0 piece desk next message after (Err e)) is fed in
+      let session = fed_as (Err (feeding.Machine machine)) f in refused_never machine f.left (session.3 sealing.is_fed)
 
 -- ---- one piece behind another
 
@@ -179,31 +122,27 @@ text_more next key id s text piece after t same taken more = record {
 
 -- ---- the end
 
-ends_well : (s : SealingValue) → s.stopped ≡ false → seal.finish_answer s ≡ Ok tt
-unfolding seal.finish_answer
-ends_well s on = ap (λ (b : Bool). if b then Err seals.Stopped else Ok tt) on
+module _ {E : Type 0} (fails : List ℕ → List ℕ → List ℕ → E → Type 0) (desk : Desk WrapKeyValue) (key : List ℕ) (id : ℕ) (s : SealingValue) (message after : List ℕ) (sealing : IsSealing desk key id s message) where
+  ended_as : (result : Result (Unit {0}) (FeedError DeskError E)) → FinishesSession Gathers fails (sealing.at.value.live id) message after result
+      → FinishesSealing Gathers fails s message after result
+  ended_as result ends = subst (λ (o : Option SessionValue). FinishesSession Gathers fails o message after result) sealing.at.live ends
 
-abbrev ended_by : SealingValue → Result (Unit {0}) SealError → Result (Unit {0}) DeskError
-ended_by s r = (answered (seal_answer r) (Sealing (seal.finished s)) None).answer
+  pub end_gives : FinishesSession {T = Unit {0}} Gathers fails (sealing.at.value.live id) message after (Ok tt) → after ≡ message_of s.materials s.size s.id s.taken
+  end_gives ends = ended_as (Ok tt) ends ∙ ap (λ (b : List ℕ). b ++ (seal.finished s).out) sealing.written ∙ finishes s sealing.is_fed
 
-module _ (desk : Desk WrapKeyValue) (key : List ℕ) (id : ℕ) (s : SealingValue) (message : List ℕ) (sealing : IsSealing desk key id s message) where
-  pub end_answers : (ended (sealing.at.value.live id)).answer ≡ Ok tt
-  end_answers = ap (λ (o : Option SessionValue). (ended o).answer) sealing.at.live ∙ ap (ended_by s) (ends_well s sealing.is_fed.on)
+  pub end_never : (error : FeedError DeskError E) → FinishesSession {T = Unit {0}} Gathers fails (sealing.at.value.live id) message after (Err error) → (machine : DeskError)
+      → error ≡ feeding.Machine machine → ⊥
+  end_never error ends machine is =
+      subst (λ (e : FeedError DeskError E). FinishesSealing {T = Unit {0}} Gathers fails s message after (Err e)) is (ended_as (Err error) ends)
 
-  pub end_gives : (out : List ℕ) → out ≡ (ended (sealing.at.value.live id)).out → message ++ out ≡ message_of s.materials s.size s.id s.taken
-  end_gives out is =
-      let last : out ≡ (seal.finished s).out =
-      is ∙ ap (λ (o : Option SessionValue). (ended o).out) sealing.at.live
-      ∙ ap (λ (r : Result (Unit {0}) SealError). (answered (seal_answer r) (Sealing (seal.finished s)) None).out) (ends_well s sealing.is_fed.on) in
-      ap (λ (b : List ℕ). b ++ out) sealing.written ∙ ap (λ (o : List ℕ). given_so_far s ++ o) last ∙ finishes s sealing.is_fed
-
-  pub end_idle : (next : Desk WrapKeyValue) → Stands next (after_call sealing.at.value id false End) → manager_of next ≡ manager_of desk → IsIdle next key id
-  end_idle next stands same = record {
-    value = after_call sealing.at.value id false End;
-    stands = stands;
-    drawn = sealing.at.drawn;
-    ring = same ∙ sealing.at.ring;
-  }
+pub end_idle : (desk next : Desk WrapKeyValue) (key : List ℕ) (id : ℕ) (s : SealingValue) (message : List ℕ) → (sealing : IsSealing desk key id s message)
+    → Stands next (handed_over sealing.at.value id [] None) → manager_of next ≡ manager_of desk → IsIdle next key id
+end_idle desk next key id s message sealing stands same = record {
+  value = handed_over sealing.at.value id [] None;
+  stands = stands;
+  drawn = sealing.at.drawn;
+  ring = same ∙ sealing.at.ring;
+}
 
 -- what is given of the session that began with these random bytes, and took this text
 pub message_then : (key random text : List ℕ) (t : SealingValue) → IsSameMessage (gen_session key random) t → t.taken ≡ text → message_of t.materials t.size t.id t.taken ≡ message_with key random text

@@ -1,8 +1,8 @@
 -- How the desk stands while the workload's message is sealed.
-use Rattle.std.specs.Prelude.{◌≡◌, ℕ, List, [], ◌++◌, take, drop, Some, None}
+use Rattle.std.specs.Prelude.{◌≡◌, ℕ, List, [], take, drop, Some, None}
 use Rattle.keyring_trait.specs.Wrapping.{WrapKeyValue}
 use Rattle.stream_seal.specs.Session.{SealingValue, new_session}
-use Rattle.stream_seal.specs.Feeding.{IsFed, IsOnTheWay, feed_refusal, given_so_far}
+use Rattle.stream_seal.specs.Feeding.{IsFed, given_so_far}
 use Rattle.stream_seal.specs.Laws.{IsSameMessage}
 use Rattle.desk_core.specs.declared.live_sessions.Desk.{Desk}
 use Rattle.desk_core.specs.Session.{SessionValue, Sealing}
@@ -52,15 +52,3 @@ pub record SealsText (desk : Desk WrapKeyValue) (key : List ℕ) (id : ℕ) (s :
   pub sealing : IsSealing desk key id session message
   pub same : IsSameMessage s session
   pub taken : session.taken ≡ text
-
--- A piece is fed to the session that was this fed one, and there is room for it: this is left of the piece, and this was given from the start.
-pub record IsMidway (desk : Desk WrapKeyValue) (key : List ℕ) (id : ℕ) (s : SealingValue) (piece left message : List ℕ) : Type 0 where
-  pub is_fed : IsFed s
-  pub undeclared : s.declared ≡ None
-  pub size : s.size ≡ 4096
-  pub now : SealingValue
-  pub at : IsLive desk key id (Sealing now)
-  pub given : List ℕ
-  pub way : IsOnTheWay s piece now left given
-  pub written : message ≡ given_so_far s ++ given
-  pub room : feed_refusal s piece ≡ None

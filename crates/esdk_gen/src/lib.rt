@@ -10,6 +10,7 @@ mod bytes;
 mod laws;
 mod line;
 mod opening;
+mod receivers;
 mod sealing;
 mod setting;
 mod workload;

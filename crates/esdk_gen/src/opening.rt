@@ -1,11 +1,16 @@
 //! A message, opened piece by piece.
 
-ghost use Rattle.std.specs.Prelude.{◌≡◌, ◌≤◌, ◌++◌, ℕ, List, [], length, drop, IfOk, OnOk};
+ghost use Rattle.std.specs.Prelude.{◌≡◌, ◌++◌, ℕ, List, [], length, IfOk, OnOk};
+ghost use Rattle.esdk_base.specs.declared.receiver.FeedError.TheVariants.{Machine};
+ghost use Rattle.desk_core.specs.declared.errors.DeskError.TheVariants.{Memory};
 ghost use Rattle.esdk_gen.specs.Opening.{IsOpening, IsWhole};
 ghost use Rattle.esdk_gen.specs.Sealing.{IsIdle};
 
+use crate::receivers::{Counted, Overflow};
 use crate::setting::{KeyDesk, PIECE, want_of_memory};
 use context_codec::Context;
+use desk_core::DeskError;
+use esdk_base::FeedError;
 use header_codec::Settings;
 use std::alloc::{AllocError, Global};
 
@@ -53,14 +58,14 @@ fn feed_message(
         → IsOpening desk.old key id message.now text message.now 0
         → IfOk result (λ count. IsOpening desk.new key id message.now text [] count) }
 {
-    let mut opened = 0;
+    let mut opened = Counted::new();
     let mut left = message;
     while !left.is_empty() {
         let (piece, rest) = left.split_at(left.len().min(PIECE));
         feed_piece(alloc, desk, id, piece, &mut opened)?;
         left = rest;
     }
-    Ok(opened)
+    Ok(opened.count())
 }
 
 /// Feeds a piece of the message to its end, and counts the bytes that are handed out.
@@ -69,7 +74,7 @@ fn feed_piece(
     desk: &mut KeyDesk,
     id: u64,
     piece: &[u8],
-    opened: &mut u64,
+    opened: &mut Counted,
 ) -> Result<(), AllocError>
     requires { (key : List ℕ) × (message : List ℕ) × (text : List ℕ) × (more : List ℕ)
         × IsOpening desk.old key id message text (piece.now ++ more) opened.old }
@@ -77,38 +82,19 @@ fn feed_piece(
         → IsOpening desk.old key id message text (piece.now ++ more) opened.old
         → OnOk result (IsOpening desk.new key id message text more opened.new) }
 {
-    let mut left = piece;
-    while !left.is_empty() {
-        let used = step(alloc, desk, id, left, opened)?;
-        let (_used, rest) = left.split_at(used);
-        left = rest;
+    match desk.feed_into(alloc, id, 0, piece, opened) {
+        Ok(()) => Ok(()),
+        Err(error) => Err(unopened(error)),
     }
-    Ok(())
 }
 
-/// One step of the session, which uses so many bytes of those that are left of a piece; what it
-/// hands out is counted.
-fn step(
-    alloc: Global,
-    desk: &mut KeyDesk,
-    id: u64,
-    left: &[u8],
-    opened: &mut u64,
-) -> Result<usize, AllocError>
-    requires some { 1 ≤ length left.now }
-    requires opening { (key : List ℕ) × (message : List ℕ) × (text : List ℕ) × (more : List ℕ)
-        × IsOpening desk.old key id message text (left.now ++ more) opened.old }
-    ensures on { (key : List ℕ) (message : List ℕ) (text : List ℕ) (more : List ℕ)
-        → IsOpening desk.old key id message text (left.now ++ more) opened.old
-        → IfOk result (λ used.
-        IsOpening desk.new key id message text (drop used left.now ++ more) opened.new) }
-    ensures used { IfOk result (λ used. (1 ≤ used) × (used ≤ length left.now)) }
+/// Want of memory, which is the one error that can come while the message is fed: the text has
+/// fewer bytes than 64 bits can count.
+fn unopened(error: FeedError<DeskError, Overflow>) -> AllocError
+    requires { error ≡ Machine Memory }
 {
-    match desk.feed(alloc, id, 0, left) {
-        Ok(used) => {
-            *opened += desk.out().len() as u64;
-            Ok(used)
-        }
-        Err(error) => Err(want_of_memory(error)),
+    match error {
+        FeedError::Machine(error) => want_of_memory(error),
+        FeedError::Receiver(_) => unreachable!(),
     }
 }

@@ -1,15 +1,19 @@
 //! The message of a text, sealed piece by piece.
 
-ghost use Rattle.std.specs.Prelude.{◌≡◌, ◌+◌, ◌-◌, ◌<◌, ◌≤◌, ◌++◌, ℕ, List, [], length, drop, IfOk, OnOk};
-ghost use Rattle.desk_core.specs.Stands.{work_at};
+ghost use Rattle.std.specs.Prelude.{◌≡◌, ◌≢◌, ◌+◌, ◌≤◌, ◌++◌, ℕ, List, [], length, IfOk, OnOk};
+ghost use Rattle.esdk_base.specs.declared.receiver.FeedError.TheVariants.{Machine};
+ghost use Rattle.desk_core.specs.declared.errors.DeskError.{DeskError};
 ghost use Rattle.stream_seal.specs.Session.{SealingValue};
 ghost use Rattle.stream_seal.specs.Start.{message_of};
 ghost use Rattle.esdk_gen.specs.Bytes.{gen_bytes};
 ghost use Rattle.esdk_gen.specs.Generator.{message_with};
-ghost use Rattle.esdk_gen.specs.Sealing.{IsIdle, IsMidway, IsNewSession, IsSealing, SealsText, gen_session};
+ghost use Rattle.esdk_gen.specs.Sealing.{IsIdle, IsNewSession, IsSealing, SealsText, gen_session};
 
 use crate::bytes::Generator;
+use crate::receivers::Gathered;
 use crate::setting::{KeyDesk, PIECE, request, want_of_memory};
+use desk_core::DeskError;
+use esdk_base::{FeedError, Receiver};
 use esdk_fields::Blob;
 use std::alloc::{AllocError, Global};
 
@@ -36,7 +40,7 @@ pub(crate) fn seal(
     let mut message = header(alloc, desk, id)?;
     feed_text(alloc, desk, id, text, size, &mut message)?;
     end(desk, id, &mut message)?;
-    Ok(message)
+    Ok(message.into_bytes())
 }
 
 /// Opens the session that seals, with these random bytes, and answers its number.
@@ -54,15 +58,15 @@ fn begin(alloc: Global, desk: &mut KeyDesk, random: &[u8; 76]) -> Result<u64, Al
 }
 
 /// What the message begins with.
-fn header(alloc: Global, desk: &KeyDesk, id: u64) -> Result<Blob, AllocError>
+fn header(alloc: Global, desk: &KeyDesk, id: u64) -> Result<Gathered, AllocError>
     requires { (key : List ℕ) × (random : List ℕ) × IsNewSession desk.now key random id }
     ensures { (key : List ℕ) (random : List ℕ) → IsNewSession desk.now key random id
         → IfOk result (λ message.
         IsSealing desk.now key id (gen_session key random) message) }
 {
-    let mut message = Blob::new(alloc);
+    let mut message = Gathered::new(alloc);
     match desk.header(id) {
-        Ok(header) => message.push_all(header)?,
+        Ok(header) => message.take(header)?,
         Err(_) => unreachable!(),
     }
     Ok(message)
@@ -75,7 +79,7 @@ fn feed_text(
     id: u64,
     text: &mut Generator,
     size: u64,
-    message: &mut Blob,
+    message: &mut Gathered,
 ) -> Result<(), AllocError>
     requires live { (key : List ℕ) × (s : SealingValue)
         × IsSealing desk.old key id s message.old × (s.taken ≡ []) }
@@ -102,7 +106,7 @@ fn feed_piece(
     desk: &mut KeyDesk,
     id: u64,
     piece: &[u8],
-    message: &mut Blob,
+    message: &mut Gathered,
 ) -> Result<(), AllocError>
     requires { (key : List ℕ) × (s : SealingValue) × IsSealing desk.old key id s message.old
         × (length s.taken + length piece.now ≤ 67108864) }
@@ -111,46 +115,14 @@ fn feed_piece(
         → length s.taken + length piece.now ≤ 67108864
         → OnOk result (SealsText desk.new key id s (s.taken ++ piece.now) message.new) }
 {
-    let mut left = piece;
-    while !left.is_empty() {
-        let used = step(alloc, desk, id, left, message)?;
-        let (_used, rest) = left.split_at(used);
-        left = rest;
-    }
-    Ok(())
-}
-
-/// One step of the session, which uses so many bytes of those that are left of a piece; what it
-/// gives is put behind the message.
-fn step(
-    alloc: Global,
-    desk: &mut KeyDesk,
-    id: u64,
-    left: &[u8],
-    message: &mut Blob,
-) -> Result<usize, AllocError>
-    requires some { 1 ≤ length left.now }
-    requires midway { (key : List ℕ) × (s : SealingValue) × (piece : List ℕ)
-        × IsMidway desk.old key id s piece left.now message.old }
-    ensures on { (key : List ℕ) (s : SealingValue) (piece : List ℕ)
-        → IsMidway desk.old key id s piece left.now message.old
-        → IfOk result (λ used.
-        IsMidway desk.new key id s piece (drop used left.now) message.new) }
-    ensures within { IfOk result (λ used. used ≤ length left.now) }
-    ensures falls { IfOk result (λ used. work_at desk.new id (length left.now - used)
-        < work_at desk.old id (length left.now)) }
-{
-    match desk.feed(alloc, id, 0, left) {
-        Ok(used) => {
-            message.push_all(desk.out())?;
-            Ok(used)
-        }
-        Err(_) => unreachable!(),
+    match desk.feed_into(alloc, id, 0, piece, message) {
+        Ok(()) => Ok(()),
+        Err(error) => Err(ungathered(error)),
     }
 }
 
 /// Ends the session, and puts the final frame behind the message.
-fn end(desk: &mut KeyDesk, id: u64, message: &mut Blob) -> Result<(), AllocError>
+fn end(desk: &mut KeyDesk, id: u64, message: &mut Gathered) -> Result<(), AllocError>
     requires { (key : List ℕ) × (s : SealingValue)
         × IsSealing desk.old key id s message.old }
     ensures message { (key : List ℕ) (s : SealingValue)
@@ -159,8 +131,18 @@ fn end(desk: &mut KeyDesk, id: u64, message: &mut Blob) -> Result<(), AllocError
     ensures idle { (key : List ℕ) (s : SealingValue)
         → IsSealing desk.old key id s message.old → IsIdle desk.new key id }
 {
-    match desk.end(id) {
-        Ok(()) => message.push_all(desk.out()),
-        Err(_) => unreachable!(),
+    match desk.end_into(id, message) {
+        Ok(()) => Ok(()),
+        Err(error) => Err(ungathered(error)),
+    }
+}
+
+/// Want of memory for the bytes that are gathered, which is the one error that can come here.
+fn ungathered(error: FeedError<DeskError, AllocError>) -> AllocError
+    requires { (machine : DeskError) → error ≢ Machine machine }
+{
+    match error {
+        FeedError::Receiver(error) => error,
+        FeedError::Machine(_) => unreachable!(),
     }
 }

@@ -8,8 +8,8 @@ use Rattle.stream_seal.specs.declared.errors.SealError.{SealError}
 use Rattle.stream_seal.specs.declared.errors.SealError.TheVariants as errors
 use Rattle.stream_seal.specs.declared.session.Sealer.{Sealer}
 use Rattle.stream_seal.specs.Feeding.{IsFed}
-use Rattle.stream_seal.specs.Receiving.{FedWhole, FeedsPiece, Finishes, GivesOut}
-use Rattle.stream_seal.specs.Session.{SealingValue, finish_answer, finished, stepped}
+use Rattle.stream_seal.specs.Receiving.{FedWhole, FeedsOn, FeedsPiece, Finishes, GivesOut}
+use Rattle.stream_seal.specs.Session.{SealingValue, IsNotMemory, finish_answer, finished, stepped}
 use Rattle.stream_seal.specs.Stands.{Stands, FeedsStill}
 use Rattle.stream_seal.proofs.Feeding.{goes_on}
 use Rattle.stream_seal.proofs.Standing.{finish_on, finish_stopped}
@@ -70,6 +70,26 @@ module _ {R E : Type 0} (takes : R → R → List ℕ → Type 0) (fails : R →
           none = end.why;
           taken = subst (λ (out : List ℕ). takes output now out) end.out feeding.taken;
         }
+
+    -- the receiver failed behind what it took
+    pub fails_on : (v : SealingValue) (piece : List ℕ) (old mid now : R) (sealer : Sealer)
+        (given bytes : List ℕ) (error : FeedError SealError E) → ((r s t : R) (xs ys : List ℕ) (e : E)
+        → takes r s xs → fails s t ys e → fails r t (xs ++ ys) e) → takes old mid given
+        → GivesOut {T = Unit {0}} takes fails bytes mid now (Err error)
+        → FeedsOn {T = Unit {0}} takes fails v piece old now sealer (Err error)
+    fails_on v piece old mid now sealer given bytes (feeds.Receiver error) behind took gives =
+        (given ++ bytes, behind old mid now given bytes error took gives.1)
+    fails_on v piece old mid now sealer given bytes (feeds.Machine error) behind took gives =
+        absurd gives
+
+    -- or a byte was refused
+    pub refuses_on : (v : SealingValue) (piece : List ℕ) (old now : R) (sealer : Sealer)
+        (given : List ℕ) (error : SealError) → takes old now given → (error ≡ errors.Stopped → ⊥)
+        → IsNotMemory error
+        → FeedsOn {T = Unit {0}} takes fails v piece old now sealer (Err (feeds.Machine error))
+    refuses_on v piece old now sealer given (errors.Refusal refusal) took on known = (given, took)
+    refuses_on v piece old now sealer given errors.Stopped took on known = on refl
+    refuses_on v piece old now sealer given errors.Memory took on known = known
 
     -- the final frame was handed to the receiver
     gives_last : (v : SealingValue) (old now : R) (r : Result (Unit {0}) (FeedError SealError E))

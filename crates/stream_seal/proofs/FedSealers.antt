@@ -8,10 +8,11 @@ use Rattle.stream_seal.specs.declared.session.Sealer.{Sealer}
 use Rattle.stream_seal.specs.DeclaredLength.{spent, within}
 use Rattle.stream_seal.specs.Feeding.{IsFed, IsOnTheWay, StepFeeds}
 use Rattle.stream_seal.specs.FrameBuffer.{FrameValue}
-use Rattle.stream_seal.specs.Session.{SealingValue, step_answer, stepped}
-use Rattle.stream_seal.specs.Stands.{Stands, FeedsStill, FeedsNoMore, FeedFails}
+use Rattle.stream_seal.specs.Session.{SealingValue, Doing, Stops, Gives, Takes, after_doing, answer_of, doing, step_answer, stepped}
+use Rattle.stream_seal.specs.Stands.{Stands, FeedsStill, FeedsNoMore, FeedFails, StillSeals}
 use Rattle.stream_seal.proofs.Feeding.{arrives, fails, feeds, goes_on}
 use Rattle.stream_seal.proofs.FeedingSteps.{step_feeds}
+use Rattle.stream_seal.proofs.Refusing.{stopped_only}
 
 -- ---- a loop of steps
 
@@ -49,6 +50,53 @@ still_fails v piece old new rest given answer errors.Stopped still some step is 
     subst (λ (r : Result ℕ SealError). StepFeeds still.now rest (stepped still.now rest) r) (sym (step.answers still.now still.stands) ∙ is) (step_feeds still.now rest still.way.feeding some)
 still_fails v piece old new rest given answer errors.Memory still some step is =
     subst (λ (r : Result ℕ SealError). StepFeeds still.now rest (stepped still.now rest) r) (sym (step.answers still.now still.stands) ∙ is) (step_feeds still.now rest still.way.feeding some)
+
+-- ---- a session that goes on
+
+stays_on : (v : SealingValue) (rest : List ℕ) (does : Doing) (used : ℕ) → v.stopped ≡ false → answer_of does ≡ Ok used → (after_doing v rest does).stopped ≡ false
+stays_on v rest (Stops error) used on is = absurd cc
+stays_on v rest Gives used on is = on
+stays_on v rest (Takes count) used on is = on
+
+-- This is left of the piece, and the session hasn't stopped.
+pub record GoesOn (v : SealingValue) (piece : List ℕ) (sealer : Sealer) (rest : List ℕ) : Type 0 where
+  pub session : SealingValue
+  pub stands : Stands sealer session
+  pub on : session.stopped ≡ false
+  pub way : IsFed v → (given : List ℕ) × IsOnTheWay v piece session rest given
+
+pub going_begins : (v : SealingValue) (piece : List ℕ) (sealer : Sealer) → Stands sealer v → v.stopped ≡ false → GoesOn v piece sealer piece
+going_begins v piece sealer stands on = record { session = v; stands = stands; on = on; way = λ is. ([], (feeds v piece is).begins) }
+
+-- no step but one that fails stops it
+pub going_more : (v : SealingValue) (piece : List ℕ) (old new : Sealer) (rest : List ℕ) (answer : Result ℕ SealError) (used : ℕ) → GoesOn v piece old rest → 1 ≤ length rest
+    → Stepped old new rest answer → answer ≡ Ok used → GoesOn v piece new (drop used rest)
+going_more v piece old new rest answer used goes some step is =
+    let now : SealingValue = goes.session in
+    let steps : step_answer now rest ≡ Ok used = sym (step.answers now goes.stands) ∙ is in
+    record {
+      session = stepped now rest;
+      stands = step.stands now goes.stands;
+      on = stays_on now rest (doing now rest) used goes.on steps;
+      way = λ fed_before.
+          (let way = goes.way fed_before in
+          (way.0 ++ (stepped now rest).out, goes_on v piece now rest way.0 used way.1 some steps));
+    }
+
+pub going_ends : (v : SealingValue) (piece : List ℕ) (sealer : Sealer) → GoesOn v piece sealer [] → StillSeals v piece sealer
+going_ends v piece sealer goes = record {
+  session = goes.session;
+  stands = goes.stands;
+  on = goes.on;
+  feeds = λ fed_before. (let way = goes.way fed_before in (arrives v piece goes.session way.0 way.1).end);
+}
+
+-- and no error says that it had stopped
+pub going_fails : (v : SealingValue) (piece : List ℕ) (old new : Sealer) (rest : List ℕ) (answer : Result ℕ SealError) (error : SealError) → GoesOn v piece old rest → Stepped old new rest answer
+    → answer ≡ Err error → error ≡ errors.Stopped → ⊥
+going_fails v piece old new rest answer error goes step is stopped =
+    let steps : step_answer goes.session rest ≡ Err error = sym (step.answers goes.session goes.stands) ∙ is in
+    let off : true ≡ false = sym (stopped_only goes.session rest (steps ∙ ap (λ (e : SealError). Err e) stopped)) ∙ goes.on in cc
 
 -- ---- it ends
 

@@ -103,6 +103,10 @@ stops_by v piece (Takes count) error is = absurd (cc)
 told : (v : SealingValue) (piece : List ℕ) (error : SealError) → step_answer v piece ≡ Err error → Tells v piece (Stops error)
 told v piece error is = subst (λ d. Tells v piece d) (stops_by v piece (doing v piece) error is) (tells v piece)
 
+-- a session that goes on isn't said to have stopped
+pub stopped_only : (v : SealingValue) (piece : List ℕ) → step_answer v piece ≡ Err errors.Stopped → v.stopped ≡ true
+stopped_only v piece is = told v piece errors.Stopped is
+
 answered : (v : SealingValue) (piece : List ℕ) (error : SealError) → doing v piece ≡ Stops error → step_answer v piece ≡ Err error
 answered v piece error is = ap answer_of is
 
@@ -220,7 +224,7 @@ refuses v piece ended given wide kept = record {
         answered v piece (errors.Refusal refusals.TooManyFrames) (doing_last v piece many.goes many.full many.last)),
   );
   stopped = (
-    (λ is. told v piece errors.Stopped is),
+    (λ is. stopped_only v piece is),
     (λ stopped. answered v piece errors.Stopped (doing_stopped v piece stopped)),
   );
   goes = λ count offered is.

@@ -10,7 +10,7 @@ use Rattle.stream_seal.specs.declared.errors.SealError.TheVariants as errors
 use Rattle.stream_seal.specs.declared.session.Sealer.{Sealer}
 use Rattle.stream_seal.specs.Feeding.{fed, fed_out, feed_refusal}
 use Rattle.stream_seal.specs.Session.{SealingValue, finished}
-use Rattle.stream_seal.specs.Stands.{FeedsStill, Stands}
+use Rattle.stream_seal.specs.Stands.{FeedsStill, Stands, StillSeals}
 
 -- What handing out these bytes comes to: all were taken, or the receiver failed at them. Where they
 -- are none, it isn't asked.
@@ -58,6 +58,18 @@ FeedsPiece takes fails v piece old new sealer (Err (feeds.Receiver error)) =
 FeedsPiece takes fails v piece old new sealer (Err (feeds.Machine (errors.Refusal refusal))) =
     FedShort takes v piece refusal old new sealer
 FeedsPiece takes fails v piece old new sealer (Err (feeds.Machine error)) = ⊥
+
+-- Whatever was fed before: the session goes on, and the receiver took something; or it failed at
+-- something; or a byte was refused behind what it took.
+abbrev pub FeedsOn : {R E T : Type 0} → (R → R → List ℕ → Type 0) → (R → R → List ℕ → E → Type 0)
+    → SealingValue → List ℕ → R → R → Sealer → Result T (FeedError SealError E) → Type 0
+FeedsOn takes fails v piece old new sealer (Ok done) =
+    (given : List ℕ) × takes old new given × StillSeals v piece sealer
+FeedsOn takes fails v piece old new sealer (Err (feeds.Receiver error)) =
+    (given : List ℕ) × fails old new given error
+FeedsOn takes fails v piece old new sealer (Err (feeds.Machine (errors.Refusal refusal))) =
+    (given : List ℕ) × takes old new given
+FeedsOn takes fails v piece old new sealer (Err (feeds.Machine error)) = ⊥
 
 -- ---- the end
 

@@ -7,7 +7,7 @@ use Rattle.stream_seal.specs.declared.errors.SealError.{SealError}
 use Rattle.stream_seal.specs.declared.errors.SealError.TheVariants as errors
 use Rattle.stream_seal.specs.declared.session.Sealer.{Sealer}
 use Rattle.stream_seal.specs.DeclaredLength.{declared_after}
-use Rattle.stream_seal.specs.Feeding.{IsOnTheWay, fed, fed_out, feed_refusal}
+use Rattle.stream_seal.specs.Feeding.{IsFed, IsOnTheWay, fed, fed_out, feed_refusal}
 use Rattle.stream_seal.specs.Session.{SealingValue, beginning, held}
 
 -- It has the session's header, derived key, id and frame length, the number of the open frame, what is still to come of the bytes declared, what the last call gave, and
@@ -47,3 +47,10 @@ abbrev pub FeedFails : SealingValue → List ℕ → Sealer → List ℕ → Sea
 FeedFails v piece sealer given (errors.Refusal refusal) = FeedsNoMore v piece sealer given (Some refusal)
 FeedFails v piece sealer given errors.Stopped = ⊥
 FeedFails v piece sealer given errors.Memory = ⊥
+
+-- After the piece it stands for a session that hasn't stopped, which is what feeding comes to.
+pub record StillSeals (v : SealingValue) (piece : List ℕ) (sealer : Sealer) : Type 0 where
+  pub session : SealingValue
+  pub stands : Stands sealer session
+  pub on : session.stopped ≡ false
+  pub feeds : IsFed v → session ≡ fed v piece

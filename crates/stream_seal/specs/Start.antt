@@ -1,11 +1,12 @@
 -- What a message begins with, and why it can't begin. Standard: AWS Encryption SDK Specification, "Encrypt".
-use Rattle.std.specs.Prelude.{◌≡◌, ℕ, ◌-◌, ◌*◌, ◌^◌, List, ◌++◌, replicate, ⊤, Option, Some}
+use Rattle.std.specs.Prelude.{◌≡◌, ℕ, ◌-◌, ◌*◌, ◌^◌, List, ◌++◌, ⊤, Option, Some}
 use Rattle.esdk_fields.specs.declared.refusals.Refusal.{Refusal}
 use Rattle.context_codec.specs.Parts.{only_of, stored_of}
 use Rattle.context_codec.specs.declared.insert.PairError.{PairError}
 use Rattle.context_codec.specs.declared.insert.PairError.TheVariants as pairs
 use Rattle.header_codec.specs.Written.{header_refusal}
 use Rattle.suite_table.specs.declared.suite.Suite.TheVariants.{Committing}
+use Rattle.suite_table.specs.Suites.{zero_iv}
 use Rattle.keyring_trait.specs.Materials.{EncMaterialsValue}
 use Rattle.message_format.specs.Message.{header_body, header_tag, message}
 use Rattle.stream_seal.specs.declared.errors.SealError.{SealError}
@@ -19,7 +20,7 @@ message_of m size id text = message text m.context m.required size m.key m.entri
 unfoldable pub start_of : EncMaterialsValue → ℕ → List ℕ → List ℕ
 start_of m size id =
     let raw = header_body m.context m.required size m.key m.entries id in
-    raw ++ header_tag Committing (replicate 12 0) raw (only_of m.required m.context) m.key id
+    raw ++ header_tag Committing zero_iv raw (only_of m.required m.context) m.key id
 
 -- why such a message can't begin: there are more entries than the limit (Q7), or its header would be too long (Q8)
 abbrev pub start_refusal : EncMaterialsValue → Option ℕ → List ℕ → Option Refusal

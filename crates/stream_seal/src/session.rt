@@ -1,10 +1,10 @@
 //! A message that is sealed piece by piece.
 
-ghost use Rattle.std.specs.Prelude.{◌≡◌, ◌-◌, ◌<◌, ◌≤◌, true, length, None, Err, IfErr, IfOk, OnOk};
+ghost use Rattle.std.specs.Prelude.{◌≡◌, ◌-◌, ◌<◌, ◌≤◌, true, false, length, None, Err, IfErr, IfOk, OnOk};
 ghost use Rattle.esdk_base.specs.declared.receiver.FeedError.TheVariants.{Machine};
 ghost use Rattle.stream_seal.specs.declared.errors.SealError.TheVariants.{Stopped};
 ghost use Rattle.stream_seal.specs.Feeding.{IsFed};
-ghost use Rattle.stream_seal.specs.Receiving.{FeedsPiece, Finishes, GivesOut};
+ghost use Rattle.stream_seal.specs.Receiving.{FeedsOn, FeedsPiece, Finishes, GivesOut};
 ghost use Rattle.stream_seal.specs.Session.{SealingValue, beginning, IsNotMemory, new_session, step_answer, stepped, finish_answer, finished};
 ghost use Rattle.stream_seal.specs.Stands.{Stands, work_of};
 ghost use Rattle.stream_seal.specs.Start.{BeginsNot, start_refusal};
@@ -177,8 +177,8 @@ impl Sealer {
     /// `OverDeclared` (Q10) and `TooManyFrames` (Q9), where the piece has a byte beyond those
     /// declared, or beyond those that a message has room for: the bytes before it were taken, and
     /// all their frames but the last handed over. `Receiver`, where the receiver failed at a frame;
-    /// it isn't asked again. `Stopped`, where the sealer had stopped before; then the receiver
-    /// isn't asked.
+    /// it isn't asked again. `Stopped`, exactly where the sealer had stopped before; then the
+    /// receiver isn't asked. After Ok it goes on, whatever it was fed before.
     pub fn feed<R: Receiver>(
         &mut self,
         piece: &[u8],
@@ -188,6 +188,8 @@ impl Sealer {
             → FeedsPiece R.takes R.fails v piece.now output.old output.new self.new result }
         ensures stopped { (v : SealingValue) → Stands self.old v → v.stopped ≡ true
             → (result ≡ Err (Machine Stopped)) × (output.new ≡ output.old) }
+        ensures on { (v : SealingValue) → Stands self.old v → v.stopped ≡ false
+            → FeedsOn R.takes R.fails v piece.now output.old output.new self.new result }
     {
         if self.stopped {
             return Err(FeedError::Machine(SealError::Stopped));

@@ -15,9 +15,7 @@ use header_codec::write_header;
 use keyring_trait::EncMaterials;
 use message_format::header_tag;
 use std::alloc::Global;
-
-/// The initialization vector of the header's tag under the suite of the messages that are written.
-const HEADER_IV: [u8; 12] = [0; 12];
+use suite_table::ZERO_IV;
 
 /// The header of a message with these materials, with the commitment to their data key, and its tag
 /// under the message's key. The header stores the pairs whose keys aren't required; the tag
@@ -52,7 +50,7 @@ pub(crate) fn message_start(
         commit_key,
     )?;
     let only = materials.context().only(alloc, materials.required())?;
-    let tag = header_tag(alloc, key, &HEADER_IV, start.bytes(), &only)?;
+    let tag = header_tag(alloc, key, &ZERO_IV, start.bytes(), &only)?;
     start.push_all(&tag)?;
     Ok(start)
 }

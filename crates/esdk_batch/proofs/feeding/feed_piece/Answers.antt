@@ -1,165 +1,67 @@
--- Each step keeps what the invariant says, and where one fails the job ends so.
-use Rattle.std.proofs.Common.{Ok, Err, refl, ap, arith}
-use Rattle.desk_core.specs.Stands.{manager_of}
-use Rattle.stream_seal.proofs.FedReceivers.{none_left, some_left}
-use Rattle.esdk_batch.proofs.Counting.{gained_there, rose_from, rose_none, rose_zero}
-use Rattle.esdk_batch.proofs.DeskFeeding.{feeds_all, feeds_none}
-use Rattle.esdk_batch.proofs.Faulting.{entropy_sound, feed_rose, keyring_counted, shelf_sound}
-use Rattle.esdk_batch.proofs.FeedCalls.{Calls, always_more, always_not, always_unput, call_lives, dropped_worth}
-use Rattle.esdk_batch.proofs.Gaining.{others_more, others_none}
-use Rattle.esdk_batch.proofs.Managers.{desk_none, desk_on, desk_same}
-use Rattle.esdk_batch.proofs.Moments.{fed_gains, gains_more, gains_none, gains_same}
+-- What the session hands over is put behind the file, and where an error ends it the job ends so.
+use Rattle.std.proofs.Common.{◌≡◌, ◌∙◌, Ok, Err, Some, None, sym, rules}
+use Rattle.keyring_trait.specs.Saying.{said_between}
+use Rattle.desk_core.specs.Desk.{DeskValue}
+use Rattle.desk_core.specs.Stands.{Stands, manager_of}
+use Rattle.esdk_batch.specs.Ending.{FeedsPiece}
+use Rattle.esdk_batch.specs.Failures.{PieceCounts}
+use Rattle.esdk_batch.specs.FileEnd.{file_fails, file_takes}
+use Rattle.esdk_batch.proofs.Faulting.{error_counted, feed_rose}
+use Rattle.esdk_batch.proofs.FedPieces.{piece_ended, piece_put, piece_same, piece_whole}
+use Rattle.esdk_batch.proofs.Managers.{admits_last}
+use Rattle.esdk_batch.proofs.Writing.{along, writes_file}
 use Rattle.esdk_batch.proofs.feeding.feed_piece.Goals as goal
 
-pub loop-left-init : goal.loop-left-init
-loop-left-init g c = record {
-  live = c.requires.live;
-  moment = gains_none c.args.now _ _ refl;
-  kept = others_none _ c.args.to.now;
-  counted = λ there. (there, omega arith);
-  went = desk_none g.M.Manager.state c.args.desk.now c.requires.still;
-  on = λ first last v s admits stands live. feeds_none _ c.args.session s c.args.piece.now v c.args.desk.now c.args.to.now _ stands live;
-}
+pub feed_into-requires : goal.feed_into-requires
+feed_into-requires g c = (c.requires.0, c.requires.1)
 
-pub loop-left-preserved : goal.loop-left-preserved
-loop-left-preserved g c =
-    let before = c.loop-left.invariant in
-    let feed = c.in-Ok.ensures in
-    let call : Calls g.M.Manager.state c.loop-left.desk c.feed.new.self c.args.session c.args.now c.loop-left.left.now (Ok c.in-Ok.used) =
-    record {
-      feeds = feed.feeds;
-      went = record { went = feed.went; bears = feed.bears before.live.0 before.live.1 };
-    } in
-    record {
-      live = call_lives g.M.Manager.state c.loop-left.desk c.feed.new.self c.args.session c.args.now c.loop-left.left.now c.in-Ok.used call before.live;
-      moment = gains_more c.args.now _ _ _ before.moment
-          (fed_gains _ _ c.loop-left.desk c.feed.new.self before.live.0 c.args.session c.args.now c.loop-left.left.now (Ok c.in-Ok.used) before.live.1 (feed.feeds before.live.0 before.live.1));
-      kept = others_more _ _ _ c.args.to.now before.kept c.put.ensures.kept;
-      counted = λ there. (gained_there _ _ c.args.to.now _ c.in-Ok-put.ensures.puts (before.counted there).0, omega (arith, (before.counted there).1, c.put.ensures.later));
-      went = desk_on g.M.Manager.state c.args.desk.now c.loop-left.desk c.feed.new.self before.went call.went;
-      on = rw c.split_at.ensures.back (
-          always_more g.M.Manager.state c.args.desk.now c.loop-left.desk c.feed.new.self c.args.session c.args.now c.args.piece.now c.loop-left.left.now c.args.to.now _ _ c.requires.still before.went
-          (some_left c.loop-left.left.now c.is_empty.result c.is_empty.ensures c.loop-left-test.true) before.on _ c.out.result.now c.in-Ok.used call c.out.ensures c.in-Ok-put.ensures.puts
-          );
-    }
+pub end_by-requires : goal.end_by-requires
+end_by-requires g c = λ is.
+    let (v, stands, (s, live)) = c.requires in
+    let dead = (c.in-Err.ensures.not_live v stands).0 (λ i. Err (is i)) in
+    let no : Some s ≡ None = sym live ∙ dead in cc
 
-pub returns-in-Err-clause-feeds : goal.returns-in-Err-clause-feeds
-returns-in-Err-clause-feeds g c =
-    let before = c.loop-left.invariant in
-    let feed = c.in-Err.ensures in
-    let call : Calls g.M.Manager.state c.loop-left.desk c.feed.new.self c.args.session c.args.now c.loop-left.left.now (Err c.in-Err.error) =
-    record {
-      feeds = feed.feeds;
-      went = record { went = feed.went; bears = feed.bears before.live.0 before.live.1 };
-    } in
-    always_not g.M.Manager.state c.args.desk.now c.loop-left.desk c.feed.new.self c.args.session c.args.now c.args.piece.now c.loop-left.left.now c.args.to.now _ _ c.requires.still before.went
-    (some_left c.loop-left.left.now c.is_empty.result c.is_empty.ensures c.loop-left-test.true) before.on c.in-Err.error c.in_ok-end_of-in-Err.field-0 call c.in_ok-end_of-in-Err.ensures
+pub returns-in-Ok-clause-feeds : goal.returns-in-Ok-clause-feeds
+returns-in-Ok-clause-feeds g c = λ first last v s admits stands live.
+    let manager = said_between (g.M.Manager.state first) (g.M.Manager.state last) in
+    let after = c.feed_into.new.output in
+    let fed = c.in-Ok.ensures.feeds v stands in
+    let same = piece_same g.M.Manager.state (file_takes g.F.Shelf.state) (file_fails g.F.Shelf.state) manager c.args.session c.args.now s c.args.piece.now c.args.to.now v c.args.desk.now c.feed_into.new.self _ after _ _ _ _
+    (writes_file g.F.Shelf.state _ after) stands live (Ok tt) fed in
+    along (λ (f : g.row.F.Denot). (w : DeskValue) × Stands c.feed_into.new.self w × FeedsPiece manager c.args.session s c.args.piece.now v w c.args.to.now (g.F.Shelf.state c.args.shelf.now).files (g.F.Shelf.state f).files None)
+    _ after.shelf.now
+    (piece_whole g.M.Manager.state (file_takes g.F.Shelf.state) (file_fails g.F.Shelf.state) manager c.args.session c.args.now s c.args.piece.now c.args.to.now v c.args.desk.now c.feed_into.new.self _ after _ _ _ _
+    (writes_file g.F.Shelf.state _ after) stands live (admits_last _ _ _ admits) fed)
+    (search (rules, same))
 
-pub returns-in-Err-clause-went : goal.returns-in-Err-clause-went
-returns-in-Err-clause-went g c =
-    let before = c.loop-left.invariant in
-    let feed = c.in-Err.ensures in
-    desk_on g.M.Manager.state c.args.desk.now c.loop-left.desk c.feed.new.self before.went
-    (record { went = feed.went; bears = feed.bears before.live.0 before.live.1 })
+pub returns-in_ok-end_by-in-Err-clause-feeds : goal.returns-in_ok-end_by-in-Err-clause-feeds
+returns-in_ok-end_by-in-Err-clause-feeds g c = λ first last v s admits stands live.
+    let manager = said_between (g.M.Manager.state first) (g.M.Manager.state last) in
+    let after = c.feed_into.new.output in
+    let fed = c.in-Err.ensures.feeds v stands in
+    let end = c.in_ok-end_by-in-Err.field-0 in
+    let same = piece_same g.M.Manager.state (file_takes g.F.Shelf.state) (file_fails g.F.Shelf.state) manager c.args.session c.args.now s c.args.piece.now c.args.to.now v c.args.desk.now c.feed_into.new.self _ after _ _ _ _
+    (writes_file g.F.Shelf.state _ after) stands live (Err c.in-Err.error) fed in
+    along (λ (f : g.row.F.Denot). (w : DeskValue) × Stands c.feed_into.new.self w × FeedsPiece manager c.args.session s c.args.piece.now v w c.args.to.now (g.F.Shelf.state c.args.shelf.now).files (g.F.Shelf.state f).files (Some end))
+    _ after.shelf.now
+    (piece_ended g.M.Manager.state (file_takes g.F.Shelf.state) (file_fails g.F.Shelf.state) manager c.args.session c.args.now s c.args.piece.now c.args.to.now v c.args.desk.now c.feed_into.new.self _ after _ _ _ _
+    (writes_file g.F.Shelf.state _ after) stands live c.in-Err.error end c.in_ok-end_by-in-Err.ensures (admits_last _ _ _ admits) fed)
+    (search (rules, same))
 
-pub returns-in_err-end_of-in-Err-clause-went : goal.returns-in_err-end_of-in-Err-clause-went
-returns-in_err-end_of-in-Err-clause-went g c =
-    let before = c.loop-left.invariant in
-    let feed = c.in-Err.ensures in
-    desk_on g.M.Manager.state c.args.desk.now c.loop-left.desk c.feed.new.self before.went
-    (record { went = feed.went; bears = feed.bears before.live.0 before.live.1 })
-
-pub returns-in_default-clause-went : goal.returns-in_default-clause-went
-returns-in_default-clause-went g c =
-    let before = c.loop-left.invariant in
-    let feed = c.in-Ok.ensures in
-    let drop = c.drop_session-dropped.ensures in
-    desk_same g.M.Manager.state c.args.desk.now c.feed.new.self c.drop_session-dropped.new.self
-    (desk_on g.M.Manager.state c.args.desk.now c.loop-left.desk c.feed.new.self before.went
-    (record { went = feed.went; bears = feed.bears before.live.0 before.live.1 }))
-    drop.manager drop.journal
-
-pub returns-in_default-clause-feeds : goal.returns-in_default-clause-feeds
-returns-in_default-clause-feeds g c =
-    let before = c.loop-left.invariant in
-    let feed = c.in-Ok.ensures in
-    let call : Calls g.M.Manager.state c.loop-left.desk c.feed.new.self c.args.session c.args.now c.loop-left.left.now (Ok c.in-Ok.used) =
-    record {
-      feeds = feed.feeds;
-      went = record { went = feed.went; bears = feed.bears before.live.0 before.live.1 };
-    } in
-    let drop = c.drop_session-dropped.ensures in
-    always_unput g.M.Manager.state c.args.desk.now c.loop-left.desk c.feed.new.self c.args.session c.args.now c.args.piece.now c.loop-left.left.now c.args.to.now _ _ c.requires.still before.went
-    (some_left c.loop-left.left.now c.is_empty.result c.is_empty.ensures c.loop-left-test.true) before.on c.drop_session-dropped.new.self _ c.out.result.now c.in-Ok.used _ call c.out.ensures
-    c.in_default.ensures.puts.1 drop.stands drop.manager
-
-pub returns-in_default-clause-worth : goal.returns-in_default-clause-worth
-returns-in_default-clause-worth g c =
-    let live = c.loop-left.invariant.live in
-    dropped_worth _ _ live.0 c.feed.new.self c.drop_session-dropped.new.self c.args.session c.args.now c.loop-left.left.now (Ok c.in-Ok.used) (c.in-Ok.ensures.feeds live.0 live.1)
-    c.drop_session-dropped.ensures.stands
-
-pub returns-clause-feeds : goal.returns-clause-feeds
-returns-clause-feeds g c = λ first last v s admits stands live.
-    feeds_all _ c.args.session s c.args.piece.now c.loop-left.left.now v c.loop-left.desk c.args.to.now _ _
-    (none_left c.loop-left.left.now c.is_empty.result c.is_empty.ensures c.loop-left-test.false)
-    (c.loop-left.invariant.on first last v s admits stands live)
-
--- ---- the moment
-
-pub returns-in-Err-clause-moment : goal.returns-in-Err-clause-moment
-returns-in-Err-clause-moment g c =
-    let before = c.loop-left.invariant in
-    gains_more c.args.now _ _ _ before.moment
-    (fed_gains _ _ c.loop-left.desk c.feed.new.self before.live.0 c.args.session c.args.now c.loop-left.left.now (Err c.in-Err.error) before.live.1 (c.in-Err.ensures.feeds before.live.0 before.live.1))
-
-pub returns-in_err-end_of-in-Err-clause-moment : goal.returns-in_err-end_of-in-Err-clause-moment
-returns-in_err-end_of-in-Err-clause-moment g c =
-    let before = c.loop-left.invariant in
-    gains_more c.args.now _ _ _ before.moment
-    (fed_gains _ _ c.loop-left.desk c.feed.new.self before.live.0 c.args.session c.args.now c.loop-left.left.now (Err c.in-Err.error) before.live.1 (c.in-Err.ensures.feeds before.live.0 before.live.1))
-
-pub returns-in_default-clause-moment : goal.returns-in_default-clause-moment
-returns-in_default-clause-moment g c =
-    let before = c.loop-left.invariant in
-    gains_same c.args.now _ _ _
-    (gains_more c.args.now _ _ _ before.moment
-    (fed_gains _ _ c.loop-left.desk c.feed.new.self before.live.0 c.args.session c.args.now c.loop-left.left.now (Ok c.in-Ok.used) before.live.1 (c.in-Ok.ensures.feeds before.live.0 before.live.1)))
-    c.drop_session-dropped.ensures.journal
-
--- ---- what was counted
-
-pub returns-in-Err-clause-counts : goal.returns-in-Err-clause-counts
-returns-in-Err-clause-counts g c = λ there.
-    let before = c.loop-left.invariant in
-    let feed = c.in-Err.ensures in
-    let ends = c.in_ok-end_of-in-Err.ensures in
-    let end = c.in_ok-end_of-in-Err.field-0 in
-    let old = manager_of c.loop-left.desk in
-    let new = manager_of c.feed.new.self in
-    let failed = feed_rose (g.M.Manager.state old) (g.M.Manager.state new) c.args.now before.live.0 c.args.session c.loop-left.left.now c.in-Err.error c.feed.new.self (feed.feeds before.live.0 before.live.1) in
-    record {
-      there = (before.counted there).0;
-      entropy = entropy_sound c.in-Err.error end ends;
-      keyring = rose_from _ _ _ _ before.went.went.goes.later (keyring_counted c.in-Err.error end _ _ ends feed.went.goes.later failed);
-      shelf = rose_zero _ _ _ (shelf_sound c.in-Err.error end ends) (before.counted there).1;
-    }
-
-pub returns-in_default-clause-counts : goal.returns-in_default-clause-counts
-returns-in_default-clause-counts g c = λ there.
-    let before = c.loop-left.invariant in
-    let feed = c.in-Ok.ensures in
-    let drop = c.drop_session-dropped.ensures in
-    let counted = before.counted there in
-    record {
-      there = gained_there _ _ c.args.to.now _ c.in_default.ensures.puts.1 counted.0;
-      entropy = refl;
-      keyring = rose_none _ _ (omega (arith, before.went.went.goes.later, feed.went.goes.later, ap (λ m. (g.M.Manager.state m).meaning.faults) drop.manager));
-      shelf = rose_from _ _ _ _ counted.1 (c.in_default.ensures.cause counted.0);
-    }
-
-pub returns-clause-counts : goal.returns-clause-counts
-returns-clause-counts g c = λ there.
-    let before = c.loop-left.invariant in
-    let counted = before.counted there in
-    record { there = counted.0; entropy = refl; keyring = rose_none _ _ before.went.went.goes.later; shelf = rose_none _ _ counted.1 }
+pub returns-in_ok-end_by-in-Err-clause-counts : goal.returns-in_ok-end_by-in-Err-clause-counts
+returns-in_ok-end_by-in-Err-clause-counts g c = λ there.
+    let (v, stands, (s, live)) = c.requires in
+    let manager = said_between (g.M.Manager.state (manager_of c.args.desk.now)) (g.M.Manager.state (manager_of c.args.desk.now)) in
+    let after = c.feed_into.new.output in
+    let fed = c.in-Err.ensures.feeds v stands in
+    let end = c.in_ok-end_by-in-Err.field-0 in
+    let put = piece_put g.M.Manager.state (file_takes g.F.Shelf.state) (file_fails g.F.Shelf.state) manager c.args.session c.args.now s c.args.piece.now c.args.to.now v c.args.desk.now c.feed_into.new.self _ after _ _ _ _
+    (writes_file g.F.Shelf.state _ after) stands live (Err c.in-Err.error) fed in
+    let same = piece_same g.M.Manager.state (file_takes g.F.Shelf.state) (file_fails g.F.Shelf.state) manager c.args.session c.args.now s c.args.piece.now c.args.to.now v c.args.desk.now c.feed_into.new.self _ after _ _ _ _
+    (writes_file g.F.Shelf.state _ after) stands live (Err c.in-Err.error) fed in
+    along (λ (f : g.row.F.Denot). PieceCounts c.args.to.now (Some end) (g.F.Shelf.state c.args.shelf.now) (g.F.Shelf.state f) (g.M.Manager.state (manager_of c.args.desk.now)).meaning.faults (g.M.Manager.state (manager_of c.feed_into.new.self)).meaning.faults)
+    _ after.shelf.now
+    (error_counted c.in-Err.error end c.args.to.now _ _ _ _ (g.M.Manager.state (manager_of c.args.desk.now)).meaning.faults (g.M.Manager.state (manager_of c.feed_into.new.self)).meaning.faults c.in_ok-end_by-in-Err.ensures put there
+    c.in-Err.ensures.went.goes.later
+    (feed_rose g.M.Manager.state (file_takes g.F.Shelf.state) (file_fails g.F.Shelf.state) v c.args.session c.args.now s c.args.piece.now c.args.desk.now c.feed_into.new.self _ after c.in-Err.error live fed))
+    (search (rules, same))

@@ -1,16 +1,22 @@
-use Rattle.std.proofs.Common.{◌∙◌, sym}
-use Rattle.std.proofs.lemmas.Result.{on_ok_weaker}
-use Rattle.esdk_gen.proofs.Sealings.{end_answers, end_gives}
+-- The final frame makes the message whole.
+use Rattle.std.specs.Prelude.{⊤}
+use Rattle.esdk_gen.proofs.Sealings.{end_gives, end_idle, end_never}
 use Rattle.esdk_gen.proofs.sealing.end.Goals as goal
 
-pub unreachable-requires : goal.unreachable-requires
-unreachable-requires c =
-    let sealing = c.requires.2 in
-    let answer = sym c.in-Err.is ∙ c.end.ensures.answer sealing.at.value sealing.at.stands ∙ end_answers c.args.desk.now c.requires.0 c.args.id c.requires.1 c.args.message.now sealing in
-    absurd cc
+pub ungathered-requires : goal.ungathered-requires
+ungathered-requires c = λ machine is.
+    let (key, s, sealing) = c.requires in
+    end_never (λ old new bytes error. ⊤) c.args.desk.now key c.args.id s c.args.message.now c.end_into.new.output sealing c.in-Err.error
+    (c.in-Err.ensures.finishes sealing.at.value sealing.at.stands) machine is
 
-pub returns-clause-message : goal.returns-clause-message
-returns-clause-message c = λ key s sealing.
-    let stands = c.end.ensures.stands sealing.at.value sealing.at.stands in
-    let gives = end_gives c.args.desk.now key c.args.id s c.args.message.now sealing c.out.result.now (c.out.ensures _ stands) in
-    on_ok_weaker c.push_all.result (λ put. put ∙ gives) c.push_all.ensures.ok
+pub returns-in-Ok-clause-message : goal.returns-in-Ok-clause-message
+returns-in-Ok-clause-message c = λ key s sealing.
+    end_gives (λ old new bytes error. ⊤) c.args.desk.now key c.args.id s c.args.message.now c.end_into.new.output sealing (c.in-Ok.ensures.finishes sealing.at.value sealing.at.stands)
+
+pub returns-in-Ok-clause-idle : goal.returns-in-Ok-clause-idle
+returns-in-Ok-clause-idle c = λ key s sealing.
+    end_idle c.args.desk.now c.end_into.new.self key c.args.id s c.args.message.now sealing (c.in-Ok.ensures.stands sealing.at.value sealing.at.stands) c.in-Ok.ensures.manager
+
+pub returns-in-Err-clause-idle : goal.returns-in-Err-clause-idle
+returns-in-Err-clause-idle c = λ key s sealing.
+    end_idle c.args.desk.now c.end_into.new.self key c.args.id s c.args.message.now sealing (c.in-Err.ensures.stands sealing.at.value sealing.at.stands) c.in-Err.ensures.manager

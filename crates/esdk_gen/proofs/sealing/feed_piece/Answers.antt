@@ -1,17 +1,17 @@
-use Rattle.std.proofs.Common.{rules, tests}
-use Rattle.std.proofs.lemmas.List.{nil_from_length}
-use Rattle.esdk_gen.proofs.Sealings.{midway_ends, midway_first}
+-- The piece is fed to its end, since there is room for it.
+use Rattle.esdk_gen.proofs.Sealings.{never_refused, piece_fed}
 use Rattle.esdk_gen.proofs.sealing.feed_piece.Goals as goal
 
-pub loop-left-init : goal.loop-left-init
-loop-left-init c = λ key s sealing few. midway_first c.args.desk.now key c.args.id s c.args.piece.now c.args.message.now sealing few
+pub feed_into-requires : goal.feed_into-requires
+feed_into-requires c = let (key, s, sealing, few) = c.requires in (sealing.at.value, sealing.at.stands)
 
-pub step-requires-clause-midway : goal.step-requires-clause-midway
-step-requires-clause-midway c =
-    let (key, s, sealing, few) = c.requires in (key, s, c.args.piece.now, c.loop-left.invariant key s sealing few)
+pub ungathered-requires : goal.ungathered-requires
+ungathered-requires c = λ machine is.
+    let (key, s, sealing, few) = c.requires in
+    never_refused _ _ c.args.desk.now c.feed_into.new.self key c.args.id s c.args.piece.now c.args.message.now c.feed_into.new.output sealing few c.in-Err.error
+    (c.in-Err.ensures.feeds sealing.at.value sealing.at.stands) machine is
 
-pub returns : goal.returns
-returns c = λ key s sealing few.
-    let m = c.loop-left.invariant key s sealing few in
-    let none = nil_from_length c.loop-left.left.now (search (tests, rules)) in
-    midway_ends c.loop-left.desk key c.args.id s c.args.piece.now c.loop-left.message (rw none at m)
+pub returns-in-Ok : goal.returns-in-Ok
+returns-in-Ok c = λ key s sealing few.
+    piece_fed _ _ c.args.desk.now c.feed_into.new.self key c.args.id s c.args.piece.now c.args.message.now c.feed_into.new.output sealing few
+    (c.in-Ok.ensures.feeds sealing.at.value sealing.at.stands)

@@ -22,7 +22,7 @@ pub returns-clause-message : goal.returns-clause-message
 returns-clause-message c = λ key idle.
     let sealing = c.in_ok-message.ensures key c.args.random.now (c.in_ok-id.ensures.session key idle) in
     let sealed = c.in_ok-feed_text.ensures key (gen_session key c.args.random.now) sealing refl in
-    c.in_ok-end.ensures.message key sealed.session sealed.sealing ∙ message_then key c.args.random.now _ sealed.session sealed.same sealed.taken
+    c.into_bytes.ensures ∙ c.in_ok-end.ensures.message key sealed.session sealed.sealing ∙ message_then key c.args.random.now _ sealed.session sealed.same sealed.taken
 
 pub returns-clause-idle : goal.returns-clause-idle
 returns-clause-idle c = λ key idle.

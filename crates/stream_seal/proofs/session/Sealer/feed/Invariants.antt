@@ -1,14 +1,20 @@
-use Rattle.std.proofs.Common.{length}
+use Rattle.std.proofs.Common.{◌≡◌, ℕ, List, false, length}
 use Rattle.stream_seal.specs.Feeding.{IsFed}
 use Rattle.stream_seal.specs.Session.{SealingValue}
 use Rattle.stream_seal.specs.Stands.{Stands, work_of}
 use Rattle.stream_seal.proofs.FedReceivers.{Feeding}
+use Rattle.stream_seal.proofs.FedSealers.{GoesOn}
 use Rattle.stream_seal.proofs.session.Sealer.feed.Given as goal
 
 abbrev pub invariant-loop-left : goal.invariant-loop-left
-invariant-loop-left g l =
-    (v : SealingValue) → Stands l.fn.self v → IsFed v
-    → Feeding g.R.Receiver.takes g.R.Receiver.fails v l.piece l.fn.output l.output l.self l.left
+invariant-loop-left g l = record {
+  feeds : (v : SealingValue) → Stands l.fn.self v → IsFed v
+      → Feeding g.R.Receiver.takes g.R.Receiver.fails v l.piece l.fn.output l.output l.self l.left;
+  still : (v : SealingValue) → Stands l.fn.self v → v.stopped ≡ false
+      → GoesOn v l.piece l.self l.left;
+  handed : (v : SealingValue) → Stands l.fn.self v → v.stopped ≡ false
+      → (given : List ℕ) × g.R.Receiver.takes l.fn.output l.output given;
+}
 
 abbrev pub decreases-loop-left : goal.decreases-loop-left
 decreases-loop-left g l = work_of l.self (length l.left)

@@ -1,0 +1,111 @@
+-- What appending bytes to a file keeps, one append after another; and the laws of receivers, which
+-- an `impl` can cite from specs/ alone.
+use Rattle.std.proofs.Common.{◌≡◌, ◌∙◌, ℕ, ◌+◌, false, List, [], ◌++◌, length, take, refl, sym, ap, subst, arith, append_assoc, append-nil}
+use Rattle.std.proofs.Math.Seq.{take-append-add}
+use Rattle.std.specs.Prelude.{is_none, is_some}
+use Rattle.std.specs.declared.option.Option.{Option}
+use Rattle.std.specs.declared.option.Option.TheVariants.{None, Some}
+use Rattle.std.specs.Option.{option_map}
+use Rattle.esdk_base.specs.Shelf.{Files, file_of, is_missing}
+use Rattle.esdk_base.specs.Streams.{ShelfState}
+use Rattle.esdk_batch.specs.FileEnd.{FileFails, FileTakes}
+use Rattle.esdk_batch.specs.Files.{Gains, KeepsOthers}
+
+-- ---- bytes behind bytes
+
+behind_twice : (held : Option (List ℕ)) (x y : List ℕ)
+    → option_map (λ h. h ++ y) (option_map (λ h. h ++ x) held)
+    ≡ option_map (λ h. h ++ (x ++ y)) held
+behind_twice None x y = refl
+behind_twice (Some held) x y = ap (λ (h : List ℕ). Some h) (append_assoc held x y)
+
+others_more : (first mid last : Option Files) (name : List ℕ) → KeepsOthers first mid name
+    → KeepsOthers mid last name → KeepsOthers first last name
+others_more first mid last name one two = record {
+  tells = two.tells ∙ one.tells;
+  others = λ other apart. two.others other apart ∙ one.others other apart;
+}
+
+gains_more : (first mid last : Option Files) (name x y : List ℕ) → Gains first mid name x
+    → Gains mid last name y → Gains first last name (x ++ y)
+gains_more first mid last name x y one two = record {
+  keeps = others_more first mid last name one.keeps two.keeps;
+  this = two.this ∙ ap (option_map (λ held. held ++ y)) one.this
+      ∙ behind_twice (file_of first name) x y;
+}
+
+nothing_behind : (held : Option (List ℕ)) → held ≡ option_map (λ bytes. bytes ++ []) held
+nothing_behind None = refl
+nothing_behind (Some bytes) = ap (λ b. Some b) (sym (append-nil bytes))
+
+-- nothing was appended
+pub gained_nothing : (told : Option Files) (name : List ℕ) → Gains told told name []
+gained_nothing told name = record {
+  keeps = record { tells = refl; others = λ other apart. refl };
+  this = nothing_behind (file_of told name);
+}
+
+-- ---- a name that is there
+
+mapped_there : (held : Option (List ℕ)) (bytes : List ℕ)
+    → is_none (option_map (λ held. held ++ bytes) held) ≡ is_none held
+mapped_there None bytes = refl
+mapped_there (Some held) bytes = refl
+
+gained_missing : (old new : Option Files) (name bytes : List ℕ) → is_some new ≡ is_some old
+    → file_of new name ≡ option_map (λ held. held ++ bytes) (file_of old name)
+    → is_missing new name ≡ is_missing old name
+gained_missing None None name bytes told this = refl
+gained_missing None (Some files) name bytes told this = absurd cc
+gained_missing (Some files) None name bytes told this = absurd cc
+gained_missing (Some files) (Some left) name bytes told this =
+    ap is_none this ∙ mapped_there (file_of (Some files) name) bytes
+
+-- what was there before an append is there behind it
+pub gained_there : (old new : Option Files) (name bytes : List ℕ) → Gains old new name bytes
+    → is_missing old name ≡ false → is_missing new name ≡ false
+gained_there old new name bytes gains there =
+    gained_missing old new name bytes gains.keeps.tells gains.this ∙ there
+
+-- ---- the laws
+
+pub takes_none : (lent : ℕ) (name : List ℕ) (shelf : ShelfState)
+    → FileTakes lent lent name name shelf shelf []
+takes_none lent name shelf = record {
+  shelf = refl;
+  file = refl;
+  gains = gained_nothing shelf.files name;
+  later = omega arith;
+}
+
+pub takes_more : (l m n : ℕ) (x y z : List ℕ) (a b c : ShelfState) (first second : List ℕ)
+    → FileTakes l m x y a b first → FileTakes m n y z b c second
+    → FileTakes l n x z a c (first ++ second)
+takes_more l m n x y z a b c first second one two = record {
+  shelf = two.shelf ∙ one.shelf;
+  file = two.file ∙ one.file;
+  gains = gains_more a.files b.files c.files x first second one.gains
+      (subst (λ (name : List ℕ). Gains b.files c.files name second) one.file two.gains);
+  later = omega (arith, one.later, two.later);
+}
+
+pub fails_behind : (l m n : ℕ) (x y z : List ℕ) (a b c : ShelfState) (first second : List ℕ)
+    → FileTakes l m x y a b first → FileFails m n y z b c second
+    → FileFails l n x z a c (first ++ second)
+fails_behind l m n x y z a b c first second one two =
+    let front : List ℕ = take two.count second in
+    record {
+      shelf = two.shelf ∙ one.shelf;
+      file = two.file ∙ one.file;
+      count = length first + two.count;
+      gains = subst (λ (bytes : List ℕ). Gains a.files c.files x bytes)
+          (sym (take-append-add first second two.count))
+          (gains_more a.files b.files c.files x first front one.gains
+          (subst (λ (name : List ℕ). Gains b.files c.files name front) one.file two.gains));
+      later = omega (arith, one.later, two.later);
+      rose = λ there.
+          (let still = gained_there a.files b.files x first one.gains there in
+          let rose = two.rose (subst (λ (name : List ℕ). is_missing b.files name ≡ false)
+          (sym one.file) still) in
+          omega (arith, rose, one.later));
+    }
