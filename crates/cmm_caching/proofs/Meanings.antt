@@ -1,5 +1,5 @@
 -- What a manager with a cache means before and after a call.
-use Rattle.std.proofs.Common.{◌≡◌, ◌&&◌, true, List, Option, None, Some, is_none, Result, Ok, Err, IfOk, MatchResult, refl, sym, subst, ◌∙◌}
+use Rattle.std.proofs.Common.{◌≡◌, ◌&&◌, true, false, true≢false, List, Option, None, Some, is_none, Result, Ok, Err, IfOk, MatchResult, refl, sym, subst, ◌∙◌}
 use Rattle.keyring_trait.specs.declared.served.Served.{Served}
 use Rattle.keyring_trait.specs.declared.served.Served.TheVariants.{Direct, New, Hit}
 use Rattle.context_codec.specs.Context.{KeyValue}
@@ -73,17 +73,23 @@ pub holds_then : {M E : Type 0} (view : M → HandedValue) (name : NameValue) (o
 holds_then view name old new (Ok m) rights P holds got = (rights P holds got).1
 holds_then view name old new (Err e) rights P holds got = rights P holds got
 
-pub tells_on : (old new : Option Store) (m n : ManagerNow) → Went m n → ((keys : List WrapKeyValue) → CachingTells old m keys → Holds (IsRight keys) new)
+-- where it has a cache still, P holds of its entries
+pub holds_cached : (P : NameValue → GivenValue → Type 0) (old new : Option Store) → is_none new ≡ is_none old → (is_none old ≡ false → Holds P new) → Holds P new
+holds_cached P None None same cached = tt
+holds_cached P None (Some s) same cached = absurd (true≢false (sym same))
+holds_cached P (Some o) new same cached = cached refl
+
+pub tells_on : (old new : Option Store) (m n : ManagerNow) → is_none new ≡ is_none old → Went m n → ((keys : List WrapKeyValue) → CachingTells old m keys → Holds (IsRight keys) new)
     → TellsOn (CachingTells old m) (CachingTells new n)
-tells_on old new m n went right = λ keys t. record {
+tells_on old new m n same went right = λ keys t. record {
   told = went.tells keys t.told;
-  steady = went.goes.steady ∙ t.steady;
+  steady = λ cached. went.goes.steady ∙ t.steady (sym same ∙ cached);
   right = right keys t;
 }
 
 -- a plain one tells nothing else then
 pub tells_back : (old new : Option Store) (m n : ManagerNow) → Went m n → (caching_meaning old m.meaning).plain ≡ true → TellsOn (CachingTells new n) (CachingTells old m)
-tells_back None new m n went plain = λ keys t. record { told = went.same plain keys t.told; steady = sym went.goes.steady ∙ t.steady; right = tt }
+tells_back None new m n went plain = λ keys t. record { told = went.same plain keys t.told; steady = λ cached. absurd (true≢false cached); right = tt }
 tells_back (Some store) new m n went plain = absurd cc
 
 pub exact_on : (old new : Option Store) (m n : ManagerNow) → Went m n → (CachingExact old m → Holds (IsExact (unfailing m.meaning)) new) → CachingExact old m → CachingExact new n

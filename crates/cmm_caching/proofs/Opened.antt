@@ -1,5 +1,5 @@
 -- What the manager with a cache promises of an answer to a request to decrypt.
-use Rattle.std.proofs.Common.{◌≡◌, ℕ, Bool, false, List, Option, None, Result, Ok, Err, IfOk, IfErr, refl}
+use Rattle.std.proofs.Common.{◌≡◌, ℕ, Bool, false, List, Option, None, is_none, Result, Ok, Err, IfOk, IfErr, refl}
 use Rattle.keyring_trait.specs.declared.manager_errors.ManagerError.{ManagerError}
 use Rattle.keyring_trait.specs.declared.journal.Kind.TheVariants.{Unseal}
 use Rattle.keyring_trait.specs.Manager.{ManagerNow, Went, FindsMaterials, FindsNone, BearsOn, dec_served}
@@ -14,7 +14,7 @@ use Rattle.cmm_caching.specs.Holding.{IsRight, IsExact, unfailing}
 use Rattle.cmm_caching.specs.CachingCmm.{caching_now, CachingTells, CachingExact, GaveToOpen}
 use Rattle.cmm_caching.specs.Inner.{OpensOver}
 use Rattle.cmm_caching.proofs.Finds.{found_right, found_exact, finds_materials, finds_none}
-use Rattle.cmm_caching.proofs.Meanings.{map_not_hit, map_ok, holds_then}
+use Rattle.cmm_caching.proofs.Meanings.{map_not_hit, map_ok, holds_cached, holds_then}
 use Rattle.cmm_caching.proofs.Whole.{same_kind, same_limits, went_caching, none_direct, rights, answers, stands_then, bears_then, where_answered}
 
 -- nothing that is decrypted goes past the cache for the number of encrypted data keys
@@ -29,11 +29,11 @@ module _ (old new : Option Store) (m n : ManagerNow) (request : DecRequestValue)
   abbrev IsGot : Type 0
   IsGot = IfOk r (λ found. NotHit found.served (GaveToOpen m n request (dec_given found)))
 
-  right_got : Went m n → (keys : List WrapKeyValue) → CachingTells old m keys → IsGot → IfOk r (λ found. NotHit found.served (IsRight keys (dec_name request) (dec_given found)))
-  right_got went keys t got =
+  right_got : Went m n → (keys : List WrapKeyValue) → CachingTells old m keys → is_none old ≡ false → IsGot → IfOk r (λ found. NotHit found.served (IsRight keys (dec_name request) (dec_given found)))
+  right_got went keys t cached got =
       map_ok (λ found. NotHit found.served (GaveToOpen m n request (dec_given found))) (λ found. NotHit found.served (IsRight keys (dec_name request) (dec_given found))) r
       (λ found. map_not_hit (GaveToOpen m n request (dec_given found)) (IsRight keys (dec_name request) (dec_given found)) found.served
-      (found_right m n request old (dec_given found) keys went t)) got
+      (found_right m n request old (dec_given found) keys went t cached)) got
 
   exact_got : CachingExact old m → IsGot → IfOk r (λ found. NotHit found.served (IsExact (unfailing m.meaning) (dec_name request) (dec_given found)))
   exact_got x got =
@@ -44,7 +44,8 @@ module _ (old new : Option Store) (m n : ManagerNow) (request : DecRequestValue)
   open_went : Went m n → IsAsked → IsGot → Went (caching_now old m) (caching_now new n)
   open_went went asked got =
       went_caching old new m n (same_kind dec_handed never (dec_wish request) now old new r asked) (same_limits dec_handed never (dec_wish request) now old new r asked) went
-      (λ keys t. holds_then dec_handed (dec_name request) old new r (rights dec_handed never (dec_wish request) now old new r asked) (IsRight keys) t.right (right_got went keys t got))
+      (λ keys t. holds_cached (IsRight keys) old new (same_kind dec_handed never (dec_wish request) now old new r asked)
+      (λ cached. holds_then dec_handed (dec_name request) old new r (rights dec_handed never (dec_wish request) now old new r asked) (IsRight keys) t.right (right_got went keys t cached got)))
       (λ x. holds_then dec_handed (dec_name request) old new r (rights dec_handed never (dec_wish request) now old new r asked) (IsExact (unfailing m.meaning)) x.kept (exact_got x got))
 
   open_bears : IsSound old → IsAsked → BearsOn (caching_now old m) (caching_now new n) Unseal now None dec_served r
@@ -64,9 +65,10 @@ module _ (old new : Option Store) (m n : ManagerNow) (request : DecRequestValue)
   open_finds (Ok found) went fits asked got =
       finds_materials m n request old new found fits
       (none_direct ManagerError dec_handed never (dec_wish request) now old new found asked)
-      (λ keys t. (rights dec_handed never (dec_wish request) now old new (Ok found) asked (IsRight keys) t.right
+      got
+      (λ keys cached t. (rights dec_handed never (dec_wish request) now old new (Ok found) asked (IsRight keys) t.right
       (map_not_hit (GaveToOpen m n request (dec_given found)) (IsRight keys (dec_name request) (dec_given found)) found.served
-      (found_right m n request old (dec_given found) keys went t) got)).0)
+      (found_right m n request old (dec_given found) keys went t cached) got)).0)
       (λ x. (rights dec_handed never (dec_wish request) now old new (Ok found) asked (IsExact (unfailing m.meaning)) x.kept
       (map_not_hit (GaveToOpen m n request (dec_given found)) (IsExact (unfailing m.meaning) (dec_name request) (dec_given found)) found.served
       (found_exact m n request old (dec_given found) x) got)).0)

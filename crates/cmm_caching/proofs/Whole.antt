@@ -115,7 +115,7 @@ pub went_caching : (old new : Option Store) (m n : ManagerNow) → is_none new �
     → (CachingExact old m → Holds (IsExact (unfailing m.meaning)) new) → Went (caching_now old m) (caching_now new n)
 went_caching old new m n same limits went right exact = record {
   goes = goes_caching old new m.meaning n.meaning same went.goes;
-  tells = tells_on old new m n went right;
+  tells = tells_on old new m n same went right;
   same = tells_back old new m n went;
   exact = exact_on old new m n went exact;
   limits = λ lines within. within_kept (limits_of old) (limits_of new) lines limits within;

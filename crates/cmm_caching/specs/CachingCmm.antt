@@ -1,6 +1,6 @@
 -- What a manager with a cache is to its callers, over the manager that it asks. AWS Encryption SDK
 -- Specification, "Caching CMM".
-use Rattle.std.specs.Prelude.{◌≡◌, ℕ, true, ◌&&◌, List, Option, is_none}
+use Rattle.std.specs.Prelude.{◌≡◌, ℕ, true, false, ◌&&◌, List, Option, is_none}
 use Rattle.keyring_trait.specs.declared.served.Served.{Served}
 use Rattle.keyring_trait.specs.Manager.{ManagerMeaning, ManagerNow, GivesMaterials, FindsMaterials}
 use Rattle.keyring_trait.specs.Materials.{EncMaterialsValue, DecMaterialsValue}
@@ -20,12 +20,12 @@ caching_meaning cache inner = record inner {
   plain = is_none cache && inner.plain;
 }
 
--- It tells the keys that the inner manager tells, where that one is steady and every entry is what
--- these keys give.
+-- It tells the keys that the inner manager tells. With a cache, it does so where that manager is
+-- steady and every entry is what these keys give.
 pub record CachingTells (cache : Option Store) (inner : ManagerNow)
     (keys : List WrapKeyValue) : Type 0 where
   pub told : inner.tells keys
-  pub steady : inner.meaning.steady ≡ true
+  pub steady : is_none cache ≡ false → inner.meaning.steady ≡ true
   pub right : Holds (IsRight keys) cache
 
 -- It is exact where the inner manager is, and every entry is what an exact manager gives.

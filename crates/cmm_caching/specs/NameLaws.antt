@@ -1,21 +1,13 @@
 -- Names are equal exactly where they are one: so their equality is an equivalence, and equal names
 -- are fed alike to a hasher.
-use Rattle.std.specs.Prelude.{◌≡◌, ℕ, Bool, true, ◌&&◌, List, Option, Some, None, nat_eq, refl, Decides}
+use Rattle.std.specs.Prelude.{◌≡◌, ℕ, true, List, Option, Some, None, nat_eq, refl, Decides}
 use Rattle.std.proofs.Common.{ap, sym, true≢false}
-use Rattle.std.specs.Cmp.{IsEquivalence, IsPartialEquivalence, partial_equiv_from_equiv, decided, first_so, second_so, unsigned_Decides}
+use Rattle.std.specs.Cmp.{IsEquivalence, IsPartialEquivalence, partial_equiv_from_equiv, decided, unsigned_Decides}
 use Rattle.std.specs.Cmp.Lexicographic.{pointwise, pointwise_decides, bytes_decides}
 use Rattle.std.specs.Option.{option_eq}
 use Rattle.context_codec.specs.Context.{KeyValue}
-use Rattle.edk_codec.specs.Entry.{Entry}
-use Rattle.cmm_caching.specs.Names.{NameValue, key_eq, pair_eq, entry_eq, name_eq, key_hash, pair_hash, entry_hash, name_hash}
-
--- a test of two parts decides what both parts come to
-both_decide : {P Q R : Type 0} (s t : Bool) → Decides s P → Decides t Q → (P → Q → R) → (R → P)
-    → (R → Q) → Decides (s && t) R
-both_decide s t d e join left right = (
-  λ h. join (d.0 (first_so s t h)) (e.0 (second_so s t h)),
-  λ r. λ i. d.1 (left r) i && e.1 (right r) i,
-)
+use Rattle.edk_codec.specs.Equal.{both_decide, entry_decides}
+use Rattle.cmm_caching.specs.Names.{NameValue, key_eq, pair_eq, name_eq, key_hash, pair_hash, name_hash}
 
 key_decides : (a b : List ℕ) → Decides (key_eq a b) (a ≡ b)
 key_decides = bytes_decides
@@ -25,18 +17,6 @@ pair_decides p q =
     both_decide (pointwise nat_eq p.0 q.0) (pointwise nat_eq p.1 q.1) (bytes_decides p.0 q.0)
     (bytes_decides p.1 q.1)
     (λ e f. λ i. (e i, f i)) (λ e. ap (λ r. r.0) e) (λ e. ap (λ r. r.1) e)
-
-entry_decides : (a b : Entry) → Decides (entry_eq a b) (a ≡ b)
-entry_decides a b =
-    both_decide (pointwise nat_eq a.provider b.provider)
-    (pointwise nat_eq a.info b.info && pointwise nat_eq a.cipher b.cipher)
-    (bytes_decides a.provider b.provider)
-    (both_decide {R = (a.info ≡ b.info) × (a.cipher ≡ b.cipher)} (pointwise nat_eq a.info b.info)
-    (pointwise nat_eq a.cipher b.cipher)
-    (bytes_decides a.info b.info) (bytes_decides a.cipher b.cipher) (λ e f. (e, f)) (λ r. r.0)
-    (λ r. r.1))
-    (λ e r. λ i. record { provider = e i; info = r.0 i; cipher = r.1 i })
-    (λ e. ap (λ x. x.provider) e) (λ e. (ap (λ x. x.info) e, ap (λ x. x.cipher) e))
 
 suite_decides : (a b : Option ℕ) → Decides (option_eq nat_eq a b) (a ≡ b)
 suite_decides None None = (λ _. refl, λ _. refl)
@@ -83,9 +63,6 @@ pair_equiv = decided pair_eq pair_decides
 pub key_equiv : IsEquivalence key_eq
 key_equiv = decided key_eq key_decides
 
-pub entry_equiv : IsEquivalence entry_eq
-entry_equiv = decided entry_eq entry_decides
-
 pub name_equiv : IsEquivalence name_eq
 name_equiv = decided name_eq name_decides
 
@@ -95,9 +72,6 @@ pair_partial = partial_equiv_from_equiv pair_equiv
 pub key_partial : IsPartialEquivalence key_eq
 key_partial = partial_equiv_from_equiv key_equiv
 
-pub entry_partial : IsPartialEquivalence entry_eq
-entry_partial = partial_equiv_from_equiv entry_equiv
-
 pub name_partial : IsPartialEquivalence name_eq
 name_partial = partial_equiv_from_equiv name_equiv
 
@@ -106,9 +80,6 @@ pair_fed p q h = ap pair_hash ((pair_decides p q).0 h)
 
 pub key_fed : (a b : List ℕ) → key_eq a b ≡ true → key_hash a ≡ key_hash b
 key_fed a b h = ap key_hash ((key_decides a b).0 h)
-
-pub entry_fed : (a b : Entry) → entry_eq a b ≡ true → entry_hash a ≡ entry_hash b
-entry_fed a b h = ap entry_hash ((entry_decides a b).0 h)
 
 pub name_fed : (a b : NameValue) → name_eq a b ≡ true → name_hash a ≡ name_hash b
 name_fed a b h = ap name_hash ((name_decides a b).0 h)

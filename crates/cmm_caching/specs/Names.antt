@@ -5,6 +5,7 @@ use Rattle.std.specs.Option.{option_eq}
 use Rattle.std.specs.Hash as fed
 use Rattle.context_codec.specs.Context.{KeyValue}
 use Rattle.edk_codec.specs.Entry.{Entry}
+use Rattle.edk_codec.specs.Equal.{entry_eq, entry_hash}
 use Rattle.keyring_trait.specs.Requests.{EncRequestValue, DecRequestValue}
 
 -- Of a request to encrypt: the context and the keys required of it, and no suite. Of a request to
@@ -46,10 +47,6 @@ key_eq = pointwise nat_eq
 abbrev pub pair_eq : KeyValue → KeyValue → Bool
 pair_eq p q = pointwise nat_eq p.0 q.0 && pointwise nat_eq p.1 q.1
 
-abbrev pub entry_eq : Entry → Entry → Bool
-entry_eq a b = pointwise nat_eq a.provider b.provider
-    && (pointwise nat_eq a.info b.info && pointwise nat_eq a.cipher b.cipher)
-
 unfoldable pub name_eq : NameValue → NameValue → Bool
 name_eq a b =
     option_eq nat_eq a.suite b.suite
@@ -59,17 +56,11 @@ name_eq a b =
 
 -- ---- what a hasher is fed of them
 
-abbrev pub bytes_hash : List ℕ → fed.HashWrites
-bytes_hash = fed.slice fed.u8
-
 abbrev pub key_hash : List ℕ → fed.HashWrites
 key_hash = fed.str
 
 abbrev pub pair_hash : KeyValue → fed.HashWrites
 pair_hash p = fed.str p.0 ++ fed.str p.1
-
-abbrev pub entry_hash : Entry → fed.HashWrites
-entry_hash e = bytes_hash e.provider ++ (bytes_hash e.info ++ bytes_hash e.cipher)
 
 unfoldable pub name_hash : NameValue → fed.HashWrites
 name_hash n =

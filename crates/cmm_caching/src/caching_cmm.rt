@@ -1,6 +1,6 @@
 //! The caching materials manager. AWS Encryption SDK Specification, "Caching CMM".
 
-ghost use Rattle.std.specs.Prelude.{◌≡◌, ◌+◌, ◌*◌, true, List, length, None, Option, IfOk, IfErr};
+ghost use Rattle.std.specs.Prelude.{◌≡◌, ◌+◌, ◌*◌, true, false, List, length, None, is_none, Option, IfOk, IfErr};
 ghost use Rattle.keyring_trait.specs.declared.journal.Kind.TheVariants.{Seal, Unseal};
 ghost use Rattle.keyring_trait.specs.declared.manager_errors.ManagerError.TheVariants.{Memory};
 ghost use Rattle.keyring_trait.specs.Manager.{Went, GivesMaterials, GivesNone, FindsMaterials, FindsNone, BearsOn, enc_served, dec_served};
@@ -59,7 +59,8 @@ impl<M: Manager> CachingCmm<M> {
         ensures limits { IfOk result (λ c. limits_of c.1 ≡ limits) }
         ensures stands { IfOk result (λ c. StandsFor (M.state inner).meaning.wraps c.1 empty) }
         ensures tells { IfOk result (λ c. (keys : List WrapKeyValue) → (M.state inner).tells keys
-            → (M.state inner).meaning.steady ≡ true → CachingTells c.1 (M.state inner) keys) }
+            → (is_none limits ≡ false → (M.state inner).meaning.steady ≡ true)
+            → CachingTells c.1 (M.state inner) keys) }
         ensures exact { IfOk result (λ c. (M.state inner).exact
             → CachingExact c.1 (M.state inner)) }
     {

@@ -5,7 +5,7 @@ ghost use Rattle.keyring_trait.specs.Materials.{AreEncMaterials};
 ghost use Rattle.cmm_caching.specs.Ask.{GivenValue, HandedValue, enc_given, dec_given, enc_handed, dec_handed};
 
 use context_codec::{Context, KeySet};
-use edk_codec::DataKeyEntry;
+use edk_codec::{DataKeyEntry, copied_entries};
 use keyring_trait::{DataKey, DecMaterials, EncMaterials, Served};
 use std::alloc::{AllocError, Global};
 use std::marker::Model;
@@ -75,7 +75,7 @@ impl Given {
             only: self.only.copy(alloc)?,
             required: self.required.copy(alloc)?,
             key: self.key,
-            entries: copied(alloc, &self.entries)?,
+            entries: copied_entries(alloc, &self.entries)?,
         })
     }
 
@@ -96,15 +96,4 @@ impl Given {
     {
         DecMaterials::new(self.context, self.only, self.key, served)
     }
-}
-
-/// Equal encrypted data keys, in the same order.
-fn copied(alloc: Global, entries: &[DataKeyEntry]) -> Result<Vec<DataKeyEntry>, AllocError>
-    ensures { IfOk result (λ made. made.items ≡ entries.now) }
-{
-    let mut made = Vec::new(alloc);
-    for entry in entries {
-        made.push(entry.copy(alloc)?)?;
-    }
-    Ok(made)
 }

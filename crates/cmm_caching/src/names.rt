@@ -1,11 +1,11 @@
 //! The names of a cache's entries: whole requests, compared as values.
 
 ghost use Rattle.std.specs.Prelude.{◌≡◌, IfOk};
-ghost use Rattle.cmm_caching.specs.Names.{NameValue, key_eq, pair_eq, entry_eq, name_eq, key_hash, pair_hash, entry_hash, name_hash, enc_name, dec_name};
-ghost use Rattle.cmm_caching.specs.NameLaws.{pair_equiv, key_equiv, entry_equiv, name_equiv, pair_partial, key_partial, entry_partial, name_partial, pair_fed, key_fed, entry_fed, name_fed};
+ghost use Rattle.cmm_caching.specs.Names.{NameValue, key_eq, pair_eq, name_eq, key_hash, pair_hash, name_hash, enc_name, dec_name};
+ghost use Rattle.cmm_caching.specs.NameLaws.{pair_equiv, key_equiv, name_equiv, pair_partial, key_partial, name_partial, pair_fed, key_fed, name_fed};
 
 use context_codec::{Context, Pair};
-use edk_codec::DataKeyEntry;
+use edk_codec::{DataKeyEntry, copied_entries};
 use esdk_fields::Text;
 use keyring_trait::{DecRequest, EncRequest};
 use std::alloc::{AllocError, Global};
@@ -89,48 +89,6 @@ impl Hash for NamedKey {
     }
 }
 
-/// An encrypted data key, as a part of a name.
-#[derive(Drop)]
-struct NamedEntry {
-    entry: DataKeyEntry,
-}
-
-impl Model for NamedEntry {
-    ghost use Rattle.edk_codec.specs.Entry.{Entry};
-
-    ghost Value = { Entry };
-
-    ghost view = { λ n. n.entry };
-}
-
-impl PartialEq for NamedEntry {
-    ghost eq = { entry_eq };
-
-    ghost laws = { entry_partial };
-
-    fn eq(&self, other: &NamedEntry) -> bool {
-        self.entry.provider() == other.entry.provider()
-            && (self.entry.info() == other.entry.info()
-                && self.entry.cipher() == other.entry.cipher())
-    }
-}
-
-impl Eq for NamedEntry {
-    ghost laws = { entry_equiv };
-}
-
-impl Hash for NamedEntry {
-    ghost hash_input = { entry_hash };
-
-    ghost respects_eq = { entry_fed };
-
-    fn hash<H: Hasher>(&self, state: &mut H) {
-        self.entry.provider().hash(state);
-        self.entry.info().hash(state);
-        self.entry.cipher().hash(state);
-    }
-}
-
 /// What names an entry of the cache: the whole request. A contract sees a `NameValue`.
 #[derive(Drop)]
 pub(crate) struct Name {
@@ -138,7 +96,7 @@ pub(crate) struct Name {
     pairs: Vec<NamedPair>,
     given: Vec<NamedPair>,
     required: Vec<NamedKey>,
-    entries: Vec<NamedEntry>,
+    entries: Vec<DataKeyEntry>,
 }
 
 impl Model for Name {
@@ -212,7 +170,7 @@ impl Name {
             pairs: named_pairs(alloc, request.stored())?,
             given: named_pairs(alloc, request.given())?,
             required: Vec::new(alloc),
-            entries: named_entries(alloc, request.entries())?,
+            entries: copied_entries(alloc, request.entries())?,
         })
     }
 }
@@ -235,19 +193,6 @@ fn named_keys(alloc: Global, keys: &[Text]) -> Result<Vec<NamedKey>, AllocError>
     let mut made = Vec::new(alloc);
     for key in keys {
         made.push(NamedKey { key: key.copy()? })?;
-    }
-    Ok(made)
-}
-
-/// The encrypted data keys, in order.
-fn named_entries(alloc: Global, entries: &[DataKeyEntry]) -> Result<Vec<NamedEntry>, AllocError>
-    ensures { IfOk result (λ made. made.items ≡ entries.now) }
-{
-    let mut made = Vec::new(alloc);
-    for entry in entries {
-        made.push(NamedEntry {
-            entry: entry.copy(alloc)?,
-        })?;
     }
     Ok(made)
 }
