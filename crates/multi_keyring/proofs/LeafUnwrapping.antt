@@ -16,7 +16,7 @@ use Rattle.multi_keyring.specs.declared.tree.Node.{Node}
 use Rattle.multi_keyring.specs.declared.tree.Node.TheVariants.{Raw, Handed, Multi}
 use Rattle.multi_keyring.specs.declared.tree.Members.{Members}
 use Rattle.multi_keyring.proofs.Finding.{all_with, leaves-append, stays_join, stays_same}
-use Rattle.multi_keyring.proofs.Appending.{Kept, one_stays}
+use Rattle.multi_keyring.proofs.Appending.{one_stays}
 use Rattle.multi_keyring.proofs.Joining.{all_faults-append}
 
 -- ---- the leaves of a row

@@ -17,7 +17,7 @@ use std::alloc::Global;
 impl<P: Keyring> Node<P> {
     /// What the leaf of this number finds by itself, as its own `Keyring::on_decrypt` says: the
     /// data key of the first of its keys that opens an entry. The leaves are counted from 1, the
-    /// generator's first, then each child's. No other leaf is asked: each means what it meant.
+    /// generator's first, then each child's. Every other leaf means what it meant.
     ///
     /// `KeyringFault` only where the leaf's count of faults rose, and so the tree's; never
     /// `Refused`.

@@ -19,7 +19,7 @@ use std::alloc::Global;
 impl<P: Keyring> Node<P> {
     /// Unwraps as `Keyring::on_decrypt` says. A member that fails is passed over: `KeyringFault`
     /// comes only where no leaf opens that didn't fail. Behind the first leaf that tells its keys,
-    /// didn't fail and opens an entry, none is asked.
+    /// didn't fail and opens an entry, every leaf means what it meant.
     #[cycle(decrypt)]
     pub(crate) fn decrypt(
         &mut self,

@@ -1,6 +1,8 @@
-use Rattle.std.proofs.Common.{rules, arith, ◌≡◌, ◌+◌, refl, sym, ap, ◌∙◌, subst, List, None, map, min, slice_set}
+use Rattle.std.proofs.Common.{rules, arith, ◌≡◌, ◌+◌, refl, sym, ap, ◌∙◌, subst, List, ◌++◌, None, map, min, slice_set}
 use Rattle.std.specs.Prelude.{is_some, IfOk, IfErr, OnOk}
 use Rattle.std.specs.Option.{option_copied}
+use Rattle.std.proofs.lemmas.List.Elements.{All-append, All-same}
+use Rattle.edk_codec.specs.Entry.{IsEntry}
 use Rattle.keyring_trait.specs.Keyring.{KeyringMeaning, Wraps, WrapCause, refusal_with, wanted}
 use Rattle.multi_keyring.specs.Forest.{tallest}
 use Rattle.multi_keyring.specs.TreeFalls.{members_fall}
@@ -82,6 +84,7 @@ wrapping::wrap_with_all-loop-i-init g t c = (
   rw c.into_parts-key.ensures.entries (begins g.P.Keyring.meaning c.args.nodes.now.items c.deref.result.now c.args.context.now c.args.begun.key c.args.random.now c.args.begun.entries
       c.deref.ensures.value c.entry_count_of-count.ensures.counted c.requires.takes c.requires.room),
   c.into_parts-key.ensures.key,
+  All-same IsEntry _ _ c.into_parts-key.ensures.entries c.into_parts-key.ensures.each,
 )
 
 pub wrapping::wrap_with_all-returns-in_err-wrapped-clause-cause :
@@ -117,4 +120,6 @@ wrapping::wrap_with_all-loop-i-preserved g t c = (
       (record { kept = record { height = c.encrypt.ensures.height; goes = c.encrypt.ensures.goes }; wraps = rw c.loop-i.invariant.2 at c.in_ok-wrapped.ensures.wraps })
       (search rules),
   c.loop-i.invariant.2,
+  All-same IsEntry c.append.new.self.items (c.loop-i.entries.items ++ c.into_parts-made.result.1.items) (search rules)
+      (All-append IsEntry _ _ c.loop-i.invariant.3 (All-same IsEntry _ _ c.into_parts-made.ensures.entries c.into_parts-made.ensures.each)),
 )
