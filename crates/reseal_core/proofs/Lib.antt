@@ -1,0 +1,12 @@
+pub mod Beginning
+pub mod Concluding
+pub mod Feeding
+pub mod NewMessages
+pub mod OpenerEnds
+pub mod Reaching
+pub mod Requiring
+pub mod Sessions
+pub mod StepEnds
+pub mod Stepping
+pub mod Telling
+pub mod Unlocked

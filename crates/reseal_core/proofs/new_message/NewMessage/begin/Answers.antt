@@ -1,0 +1,30 @@
+use Rattle.std.proofs.Common.{◌≡◌, ◌∙◌, ap, refl, inl, take, drop}
+use Rattle.keyring_trait.specs.Saying.{Saying, said_last}
+use Rattle.reseal_core.specs.NewMessage.{AreGiven}
+use Rattle.reseal_core.proofs.NewMessages.{are_given, begins, header_fails}
+use Rattle.reseal_core.proofs.new_message.NewMessage.begin.Goals as goal
+
+pub returns-in_default-clause-begins : goal.returns-in_default-clause-begins
+returns-in_default-clause-begins g c = λ size random text written.
+    let saying : Saying = said_last (g.B.Manager.state c.args.sealing.now) (g.B.Manager.state c.for_encryption.new.self) in
+    let id_is : c.array_of-id.result ≡ take 32 c.args.self.now.random = cc in
+    let given : AreGiven saying c.args.now c.args.self.now.random c.args.whole.now c.args.only.now c.in-Ok.materials =
+    are_given saying c.args.now c.in_ok-request.request _ c.array_of-id.result c.args.self.now.random c.args.whole.now c.args.only.now c.in-Ok.materials c.in_ok-request.ensures.request
+    (c.split_at.ensures.back ∙ ap (drop 32) c.bytes.ensures) id_is
+    (c.in-Ok.ensures.gives, c.in-Ok.ensures.gave) c.in_ok-sealer.ensures.taken in
+    inl (
+      refl,
+      header_fails saying c.args.now c.args.whole.now c.args.only.now c.args.self.now size random text c.in-Ok.materials written given c.array_of-id.result c.header.result.now id_is
+          (c.header.ensures _ c.in_ok-sealer.ensures.stands) (g.O.Sink.state c.args.output.now) (g.O.Sink.state c.put.new.self) c.in_default.ensures.bytes c.in_default.ensures.cause.failed,
+    )
+
+pub returns-clause-begins : goal.returns-clause-begins
+returns-clause-begins g c = λ size random text written.
+    let saying : Saying = said_last (g.B.Manager.state c.args.sealing.now) (g.B.Manager.state c.for_encryption.new.self) in
+    let id_is : c.array_of-id.result ≡ take 32 c.args.self.now.random = cc in
+    let given : AreGiven saying c.args.now c.args.self.now.random c.args.whole.now c.args.only.now c.in-Ok.materials =
+    are_given saying c.args.now c.in_ok-request.request _ c.array_of-id.result c.args.self.now.random c.args.whole.now c.args.only.now c.in-Ok.materials c.in_ok-request.ensures.request
+    (c.split_at.ensures.back ∙ ap (drop 32) c.bytes.ensures) id_is
+    (c.in-Ok.ensures.gives, c.in-Ok.ensures.gave) c.in_ok-sealer.ensures.taken in
+    begins saying c.args.now c.args.whole.now c.args.only.now c.args.self.now size random text c.in-Ok.materials written given c.array_of-id.result c.header.result.now id_is
+    (c.header.ensures _ c.in_ok-sealer.ensures.stands) (g.O.Sink.state c.args.output.now) (g.O.Sink.state c.put.new.self) c.in_ok-sealer.sealer c.in_ok-sealer.ensures.stands c.in-Ok-put.ensures.bytes c.in-Ok-put.ensures.cause.same

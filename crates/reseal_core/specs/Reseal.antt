@@ -1,0 +1,313 @@
+-- What resealing an input comes to. Standard: AWS Encryption SDK Specification, "Decrypt" and
+-- "Encrypt".
+use Rattle.std.specs.Prelude.{◌≡◌, ◌⊎◌, ℕ, ◌<◌, ◌≤◌, List, [], ◌++◌, length, take, All, Bool, true, Some, None}
+use Rattle.std.specs.Io.KnownBytes.{Appends}
+use Rattle.esdk_fields.specs.Counts.{Rose}
+use Rattle.esdk_base.specs.Receiver.{SinkTakes}
+use Rattle.esdk_base.specs.Sink.{AppendsFront}
+use Rattle.esdk_base.specs.Streams.{EntropyState, SinkState, SourceState}
+use Rattle.esdk_fields.specs.declared.faults.Fault.{Fault}
+use Rattle.esdk_fields.specs.declared.refusals.Outside.TheVariants as outsides
+use Rattle.esdk_fields.specs.declared.refusals.Refusal.{Refusal}
+use Rattle.esdk_fields.specs.declared.refusals.Refusal.TheVariants.{TooManyFrames}
+use Rattle.context_codec.specs.Context.{KeyValue}
+use Rattle.edk_codec.specs.Entry.{IsEntry}
+use Rattle.header_codec.specs.declared.settings.Settings.{Settings}
+use Rattle.keyring_trait.specs.declared.manager_errors.ManagerError.{ManagerError}
+use Rattle.keyring_trait.specs.declared.manager_errors.ManagerError.TheVariants as managers
+use Rattle.keyring_trait.specs.Manager.{ManagerNow}
+use Rattle.keyring_trait.specs.Materials.{EncMaterialsValue}
+use Rattle.keyring_trait.specs.Requests.{EncRequestValue}
+use Rattle.keyring_trait.specs.Saying.{Saying, said_last}
+use Rattle.keyring_trait.specs.Unlocking.{Unlocking, Unlocks}
+use Rattle.body_format.specs.declared.verdicts.Verdict.TheVariants.{Whole}
+use Rattle.message_format.specs.Judgement.{Judged, content, judged}
+use Rattle.stream_seal.specs.Start.{message_of, most_text, start_refusal}
+use Rattle.whole_input.specs.Pieces.{APieceBehind, most_piece}
+use Rattle.whole_input.specs.Taken.{Came, EndSeen, MostTaken}
+use Rattle.esdk_encrypt.specs.Encrypt.{Drew, EntropyFails, drawn_id, drawn_rest, written_so_far}
+use Rattle.esdk_decrypt.specs.Decrypt.{Asked, AnswersTo, ManagerFails, asked_from, fault_at_end, fault_of}
+use Rattle.reseal_core.specs.declared.errors.InputError.{InputError}
+use Rattle.reseal_core.specs.declared.errors.InputError.TheVariants as errors
+use Rattle.reseal_core.specs.Front.{request_for}
+
+-- What a run is about: the opening of the old message; how many wraps the manager of the new one
+-- makes, what it gives to a request with these random bytes, and why it gives nothing; and the new
+-- frame length.
+pub record Resealing : Type 1 where
+  pub opening : Asked
+  pub wraps : ℕ
+  pub gives : EncRequestValue → List ℕ → EncMaterialsValue → Type 0
+  pub gives_none : EncRequestValue → ManagerError → Type 0
+  pub size : ℕ
+
+-- the sealing of a manager that may say this at a moment
+abbrev pub resealing_of : Asked → Saying → ℕ → ℕ → Resealing
+resealing_of opening saying now size = record {
+  opening = opening;
+  wraps = saying.wraps;
+  gives = λ request random materials. saying.gives request now random materials;
+  gives_none = saying.gives_none;
+  size = size;
+}
+
+-- the run that began when the managers were so, and has come to where they are so now
+abbrev pub resealing_from : ManagerNow → ManagerNow → ManagerNow → ManagerNow → ℕ → Settings
+    → List KeyValue → ℕ → Resealing
+resealing_from opened opening sealed sealing now settings given size = resealing_of
+    (asked_from opened opening now settings given) (said_last sealed sealing) now size
+
+-- ---- what is written
+
+-- With the random bytes the manager gave these materials for this whole context, of which these
+-- pairs are only authenticated, and a message can begin with them.
+pub record HasMaterials (asked : Resealing) (drawn : List ℕ) (whole only : List KeyValue)
+    (m : EncMaterialsValue) : Type 0 where
+  pub given : asked.gives (request_for whole only) (drawn_rest drawn) m
+  pub begins : start_refusal m None (drawn_id drawn) ≡ None
+
+-- The output gained the header of a message with such materials, and all frames of the text but the
+-- last.
+pub record WritesFront (asked : Resealing) (drawn : List ℕ) (whole only : List KeyValue)
+    (text : List ℕ) (output put : SinkState) : Type 0 where
+  pub materials : EncMaterialsValue
+  pub has : HasMaterials asked drawn whole only materials
+  pub room : length text ≤ most_text asked.size
+  pub gained : Appends output.written put.written
+      (written_so_far materials asked.size (drawn_id drawn) text)
+
+-- where the old message is unlocked, that; where it isn't, nothing
+abbrev pub WritesBy : Resealing → List ℕ → Unlocking → List ℕ → Bool → SinkState → SinkState
+    → Type 0
+WritesBy asked drawn (Unlocks whole only key) text true output put = WritesFront asked drawn whole
+    only text output put
+WritesBy asked drawn answer text unlocked output put = Appends output.written put.written []
+
+abbrev pub Writes : Resealing → List ℕ → Unlocking → Judged → SinkState → SinkState → Type 0
+Writes asked drawn answer j output put = WritesBy asked drawn answer (content j) j.unlocked output
+    put
+
+-- These bytes were taken, the manager answered so to their header, and the output gained what is
+-- written of what they release.
+pub record Passes (asked : Resealing) (drawn : List ℕ) (input taken : SourceState)
+    (output put : SinkState) (bytes : List ℕ) (answer : Unlocking) : Type 0 where
+  pub came : Came input taken bytes
+  pub answered : AnswersTo asked.opening.manager asked.opening.settings asked.opening.given bytes
+      answer
+  pub written : Writes asked drawn answer (judged bytes asked.opening.settings answer) output put
+
+-- ---- the whole input
+
+-- The whole input was taken and is a whole message, with this whole context, and the output gained
+-- the new message of its content.
+pub record Reseals (asked : Resealing) (drawn : List ℕ) (input taken : SourceState)
+    (output put : SinkState) (context : List KeyValue) : Type 0 where
+  pub bytes : List ℕ
+  pub only : List KeyValue
+  pub key : List ℕ
+  pub came : Came input taken bytes
+  pub answered : AnswersTo asked.opening.manager asked.opening.settings asked.opening.given bytes
+      (Unlocks context only key)
+  pub end : EndSeen input taken bytes
+  pub whole : (judged bytes asked.opening.settings (Unlocks context only key)).verdict ≡ Whole
+  pub materials : EncMaterialsValue
+  pub has : HasMaterials asked drawn context only materials
+  pub room : length (content (judged bytes asked.opening.settings (Unlocks context only key))) ≤
+      most_text asked.size
+  pub gained : Appends output.written put.written
+      (message_of materials asked.size (drawn_id drawn)
+      (content (judged bytes asked.opening.settings (Unlocks context only key))))
+
+-- ---- why an input isn't resealed
+
+-- The bytes taken have this fault, or the whole input was taken and has it; those before the last
+-- piece have none. What they release before it was passed on, and the new message isn't whole.
+pub record HasFault (asked : Resealing) (drawn : List ℕ) (input taken : SourceState)
+    (output put : SinkState) (fault : Fault) : Type 0 where
+  pub bytes : List ℕ
+  pub answer : Unlocking
+  pub passes : Passes asked drawn input taken output put bytes answer
+  pub cause : (fault_of (judged bytes asked.opening.settings answer).verdict ≡ Some fault)
+      ⊎ (EndSeen input taken bytes
+      × (fault_at_end (judged bytes asked.opening.settings answer).verdict ≡ Some fault))
+  pub last : APieceBehind
+      (λ before. fault_of (judged before asked.opening.settings answer).verdict ≡ None) bytes
+
+-- The bytes taken have no fault, and a read failed.
+pub record SourceFails (asked : Resealing) (drawn : List ℕ) (input taken : SourceState)
+    (output put : SinkState) : Type 0 where
+  pub bytes : List ℕ
+  pub answer : Unlocking
+  pub passes : Passes asked drawn input taken output put bytes answer
+  pub sound : fault_of (judged bytes asked.opening.settings answer).verdict ≡ None
+  pub rose : Rose input.faults taken.faults
+
+-- 2^62 bytes were taken, and have no fault.
+pub record IsTooLong (asked : Resealing) (drawn : List ℕ) (input taken : SourceState)
+    (output put : SinkState) : Type 0 where
+  pub bytes : List ℕ
+  pub answer : Unlocking
+  pub passes : Passes asked drawn input taken output put bytes answer
+  pub sound : fault_of (judged bytes asked.opening.settings answer).verdict ≡ None
+  pub most : MostTaken input taken bytes
+
+-- These bytes came first, and at most a piece behind them. They have no fault, and are unlocked
+-- with this whole context.
+pub record OpensFirst (asked : Resealing) (input taken : SourceState) (first : List ℕ)
+    (whole only : List KeyValue) (key : List ℕ) : Type 0 where
+  pub behind : List ℕ
+  pub few : length behind ≤ most_piece
+  pub came : Came input taken (first ++ behind)
+  pub answered : AnswersTo asked.opening.manager asked.opening.settings asked.opening.given first
+      (Unlocks whole only key)
+  pub sound : fault_of (judged first asked.opening.settings (Unlocks whole only key)).verdict ≡ None
+  pub unlocked : (judged first asked.opening.settings (Unlocks whole only key)).unlocked ≡ true
+
+-- The manager gave materials with which the header would be too long.
+pub record StartsNot (asked : Resealing) (drawn : List ℕ) (whole only : List KeyValue)
+    (refusal : Refusal) : Type 0 where
+  pub materials : EncMaterialsValue
+  pub given : asked.gives (request_for whole only) (drawn_rest drawn) materials
+  pub each : All IsEntry materials.entries
+  pub refused : start_refusal materials None (drawn_id drawn) ≡ Some refusal
+
+-- The old message was unlocked, and the new one is refused, by the manager or for its header:
+-- nothing was written.
+pub record RefusesMessage (asked : Resealing) (drawn : List ℕ) (input taken : SourceState)
+    (output put : SinkState) (refusal : Refusal) : Type 0 where
+  pub first : List ℕ
+  pub whole : List KeyValue
+  pub only : List KeyValue
+  pub key : List ℕ
+  pub opens : OpensFirst asked input taken first whole only key
+  pub why : asked.gives_none (request_for whole only) (managers.Refusal refusal)
+      ⊎ StartsNot asked drawn whole only refusal
+  pub nothing : SinkTakes output put []
+
+-- The text released has a byte beyond those that have room in a message. What is written of those
+-- that have was written, all frames but the last.
+pub record HasTooMany (asked : Resealing) (drawn : List ℕ) (input taken : SourceState)
+    (output put : SinkState) : Type 0 where
+  pub first : List ℕ
+  pub whole : List KeyValue
+  pub only : List KeyValue
+  pub key : List ℕ
+  pub opens : OpensFirst asked input taken first whole only key
+  pub materials : EncMaterialsValue
+  pub has : HasMaterials asked drawn whole only materials
+  pub many : most_text asked.size < length
+      (content (judged first asked.opening.settings (Unlocks whole only key)))
+  pub gained : Appends output.written put.written
+      (written_so_far materials asked.size (drawn_id drawn)
+      (take (most_text asked.size)
+      (content (judged first asked.opening.settings (Unlocks whole only key)))))
+
+-- The old message was unlocked, and a keyring of the new one's manager failed: nothing was written.
+pub record SealingFails (asked : Resealing) (input taken : SourceState) (output put : SinkState)
+    : Type 0 where
+  pub first : List ℕ
+  pub whole : List KeyValue
+  pub only : List KeyValue
+  pub key : List ℕ
+  pub opens : OpensFirst asked input taken first whole only key
+  pub none : asked.gives_none (request_for whole only) managers.KeyringFault
+  pub nothing : SinkTakes output put []
+
+-- A write failed while the old message went on: a front of what is written of the bytes that have
+-- room was written.
+pub record FrontFails (asked : Resealing) (drawn : List ℕ) (input taken : SourceState)
+    (output put : SinkState) : Type 0 where
+  pub first : List ℕ
+  pub whole : List KeyValue
+  pub only : List KeyValue
+  pub key : List ℕ
+  pub opens : OpensFirst asked input taken first whole only key
+  pub materials : EncMaterialsValue
+  pub has : HasMaterials asked drawn whole only materials
+  pub front : AppendsFront output.written put.written
+      (written_so_far materials asked.size (drawn_id drawn)
+      (take (most_text asked.size)
+      (content (judged first asked.opening.settings (Unlocks whole only key)))))
+
+-- The write of the final frame failed: the whole input was taken and is a whole message, and a
+-- front of the new one was written.
+pub record FinalFails (asked : Resealing) (drawn : List ℕ) (input taken : SourceState)
+    (output put : SinkState) : Type 0 where
+  pub bytes : List ℕ
+  pub whole : List KeyValue
+  pub only : List KeyValue
+  pub key : List ℕ
+  pub came : Came input taken bytes
+  pub answered : AnswersTo asked.opening.manager asked.opening.settings asked.opening.given bytes
+      (Unlocks whole only key)
+  pub end : EndSeen input taken bytes
+  pub verdict : (judged bytes asked.opening.settings (Unlocks whole only key)).verdict ≡ Whole
+  pub materials : EncMaterialsValue
+  pub has : HasMaterials asked drawn whole only materials
+  pub front : AppendsFront output.written put.written
+      (message_of materials asked.size (drawn_id drawn)
+      (content (judged bytes asked.opening.settings (Unlocks whole only key))))
+
+-- The output gained what is written of what bytes release that came first, and unlock the old
+-- message.
+pub record WritesFirst (asked : Resealing) (drawn : List ℕ) (input taken : SourceState)
+    (output put : SinkState) : Type 0 where
+  pub first : List ℕ
+  pub whole : List KeyValue
+  pub only : List KeyValue
+  pub key : List ℕ
+  pub opens : OpensFirst asked input taken first whole only key
+  pub front : WritesFront asked drawn whole only
+      (content (judged first asked.opening.settings (Unlocks whole only key))) output put
+
+-- These bytes were taken, and memory ran out. Nothing was written, or what was passed on before.
+pub record HasNoMemory (asked : Resealing) (drawn : List ℕ) (input taken : SourceState)
+    (output put : SinkState) : Type 0 where
+  pub bytes : List ℕ
+  pub came : Came input taken bytes
+  pub written : SinkTakes output put [] ⊎ WritesFirst asked drawn input taken output put
+
+-- why a run ended whose random bytes were drawn, and what it left
+abbrev pub EndsSo : Resealing → List ℕ → SourceState → SourceState → SinkState → SinkState
+    → InputError → Type 0
+EndsSo asked drawn input taken output put (errors.Fault fault) = HasFault asked drawn input taken
+    output put fault
+EndsSo asked drawn input taken output put (errors.Refusal refusal) =
+    RefusesMessage asked drawn input taken output put refusal
+    ⊎ ((refusal ≡ TooManyFrames) × HasTooMany asked drawn input taken output put)
+EndsSo asked drawn input taken output put (errors.Outside outsides.SourceFault) = SourceFails asked
+    drawn input taken output put
+EndsSo asked drawn input taken output put (errors.Outside outsides.SinkFault) =
+    Rose output.faults put.faults
+    × (FrontFails asked drawn input taken output put
+    ⊎ FinalFails asked drawn input taken output put)
+EndsSo asked drawn input taken output put (errors.Outside outsides.KeyringFault) =
+    (ManagerFails asked.opening input taken × SinkTakes output put [])
+    ⊎ SealingFails asked input taken output put
+EndsSo asked drawn input taken output put (errors.Outside outsides.InputTooLong) = IsTooLong asked
+    drawn input taken output put
+EndsSo asked drawn input taken output put (errors.Outside outside) = ⊥
+EndsSo asked drawn input taken output put errors.Memory = HasNoMemory asked drawn input taken output
+    put
+
+-- ---- the whole run
+
+-- Just these bytes were drawn, and this is so of them.
+pub record Draws (wraps : ℕ) (entropy spent : EntropyState) (so : List ℕ → Type 0) : Type 0 where
+  pub drawn : List ℕ
+  pub drew : Drew wraps entropy spent drawn
+  pub is : so drawn
+
+abbrev pub ResealsInput : Resealing → SourceState → SourceState → SinkState → SinkState
+    → EntropyState → EntropyState → List KeyValue → Type 0
+ResealsInput asked input taken output put entropy spent context = Draws asked.wraps entropy spent
+    (λ drawn. Reseals asked drawn input taken output put context)
+
+-- why an input wasn't resealed; `untouched` says that the input and the output are as before,
+-- `unasked` that both managers are
+abbrev pub ResealEnds : Resealing → SourceState → SourceState → SinkState → SinkState → EntropyState
+    → EntropyState → Type 0 → Type 0 → InputError → Type 0
+ResealEnds asked input taken output put entropy spent untouched unasked
+    (errors.Outside outsides.EntropyFault) = EntropyFails entropy spent untouched unasked
+ResealEnds asked input taken output put entropy spent untouched unasked error = Draws asked.wraps
+    entropy spent (λ drawn. EndsSo asked drawn input taken output put error)
