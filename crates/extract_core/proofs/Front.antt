@@ -1,0 +1,264 @@
+-- The header at the front of a file.
+use Rattle.std.proofs.Common.{◌≡◌, ◌⊎◌, ℕ, ◌+◌, ◌^◌, ◌<◌, ◌≤◌, Bool, true, false, List, [], ◌∷◌, ◌++◌, length, take, Option, Some, None, Err, refl, sym, ap, subst, ◌∙◌, arith, inl, inr, append_assoc}
+use Rattle.std.specs.FinMap.{get}
+use Rattle.std.specs.Io.KnownBytes.{Consumes, IsAtEnd}
+use Rattle.std.proofs.lemmas.List.{append-nil, length-append, length-take}
+use Rattle.esdk_fields.specs.Counts.{Rose}
+use Rattle.esdk_fields.specs.declared.faults.Fault.{Fault}
+use Rattle.esdk_fields.specs.Place.{Place, start, followed}
+use Rattle.esdk_fields.specs.Reading.{Reading, Read, Refused, Wanting, bytes}
+use Rattle.esdk_fields.proofs.Fronts.{fault_after_at, fault_stays, read_after}
+use Rattle.esdk_fields.proofs.Inverse.{field_is_read}
+use Rattle.esdk_base.specs.Shelf.{Files, Holds, is_missing}
+use Rattle.esdk_base.specs.Streams.{FailsToRead, ShelfState, SourceState}
+use Rattle.suite_table.specs.declared.suite.Suite.{Suite}
+use Rattle.suite_table.specs.declared.suite.Suite.TheVariants.{Committing, Uncommitted}
+use Rattle.header_codec.specs.declared.session.HeaderReader.{HeaderReader}
+use Rattle.header_codec.specs.declared.settings.Settings.{Settings}
+use Rattle.header_codec.specs.Header.{HeaderValue}
+use Rattle.header_codec.specs.Session.{ShowsHeader}
+use Rattle.header_codec.specs.Table.{BeginsWith, Head, header, header_iv, opening}
+use Rattle.header_codec.proofs.Followed.{BeginsWith-append}
+use Rattle.header_codec.proofs.Order.{IsSequential-header}
+use Rattle.header_codec.proofs.Steps.{header_is_read}
+use Rattle.header_codec.proofs.Whole.{size_within}
+use Rattle.header_input.specs.Feeding.{Holds as ReaderHolds, session_of}
+use Rattle.header_input.specs.Taking.{HoldsHeader, NoneCame}
+use Rattle.header_input.specs.declared.errors.NoHeader.{NoHeader}
+use Rattle.header_input.specs.declared.errors.NoHeader.TheVariants as headers
+use Rattle.whole_input.specs.declared.pieces.End.TheVariants as ends
+use Rattle.whole_input.specs.Taken.{Came}
+use Rattle.extract_core.specs.Extract.{HasHeader, HasNoHeader, IsHeaderOf, OnFile, UnlessMemory, authentication_size, body_begin, file_reach, header_fault_at_end, most_read, range_of, unheaded_as}
+use Rattle.whole_input.specs.FileSource.{ReadsOn, file_left, left_from}
+
+-- ---- where a header ends
+
+field_end : (n : ℕ) (p : Place) (x : List ℕ) (next : Place) → bytes n p ≡ Read x next → next.at ≡ p.at + n
+field_end n p x next e = let f = field_is_read (λ b. b) n p x next e in ap (λ (q : Place). q.at) (sym f.after)
+
+iv_size : Suite → ℕ
+iv_size Committing = 0
+iv_size Uncommitted = 12
+
+iv_end : (suite : Suite) (p : Place) (x : List ℕ) (next : Place) → header_iv suite p ≡ Read x next → next.at + 16 ≡ p.at + authentication_size suite
+unfolding header_iv
+iv_end Committing p x next e = let same : p ≡ next = cc in omega (arith, ap (λ (q : Place). q.at) same)
+iv_end Uncommitted p x next e = omega (arith, field_end 12 p x next e)
+
+pub header_end : (settings : Settings) (p : Place) (parts : Head) (end : Place) → header settings p ≡ Read parts end → end.at ≡ parts.size + authentication_size parts.opening.suite
+header_end settings p parts end e =
+    let h = header_is_read settings p parts end e in
+    omega (arith, h.size, iv_end parts.opening.suite h.body_end parts.iv h.iv_end h.iv, field_end 16 h.iv_end parts.tag end h.tag)
+
+-- a header's body is as long as its size says
+pub begins_at : (settings : Settings) (b : List ℕ) (h : HeaderValue) (end : Place) → BeginsWith settings b h end → end.at ≡ body_begin h
+begins_at settings b h end begins =
+    let size : length (take begins.parts.size b) ≡ begins.parts.size = length-take begins.parts.size b ∙ omega (arith, size_within settings b begins.parts end begins.read) in
+    header_end settings (start b) begins.parts end begins.read
+    ∙ ap (λ (n : ℕ). n + authentication_size begins.parts.opening.suite) (sym size)
+    ∙ ap body_begin (sym begins.is)
+
+-- no header is whole in no bytes, and none has a fault
+nothing_read : (settings : Settings) → header settings (start []) ≡ Wanting
+unfolding header opening
+nothing_read settings = refl
+
+-- ---- what is told of the file
+
+-- what is left of a file that is told, from its front on
+left_is : (files : Option Files) (name told : List ℕ) → Holds files name told → file_left files name 0 ≡ Some told
+left_is (Some files) name told h = ap (λ (o : Option (List ℕ)). Some (left_from 0 o)) h
+left_is None name told h = absurd cc
+
+missing_left : (files : Option Files) (name : List ℕ) (at : ℕ) → is_missing files name ≡ true → file_left files name at ≡ Some (0 ∷ [])
+missing_left (Some files) name at missing = ap (λ (o : Option (List ℕ)). Some (left_from at o)) (none_of (get files name) missing)
+  where
+    none_of : (o : Option (List ℕ)) → Rattle.std.specs.Prelude.is_none o ≡ true → o ≡ None
+    none_of (Some x) e = absurd cc
+    none_of None e = refl
+missing_left None name at missing = absurd cc
+
+-- the file begins with what came
+front_of : (old new : Option (List ℕ)) (told bytes : List ℕ) → old ≡ Some told → Consumes old new bytes → (rest : List ℕ) × (told ≡ bytes ++ rest)
+front_of (Some l) (Some rest) told bytes is consumed = (rest, sym (inner l told is) ∙ consumed)
+  where
+    inner : (a b : List ℕ) → Some a ≡ Some b → a ≡ b
+    inner a b e = cc
+front_of (Some l) None told bytes is consumed = absurd consumed
+front_of None new told bytes is consumed = absurd cc
+
+-- the whole file came
+all_of : (old new : Option (List ℕ)) (told bytes : List ℕ) → old ≡ Some told → Consumes old new bytes → IsAtEnd new → told ≡ bytes
+all_of (Some l) (Some rest) told bytes is consumed end = sym (inner l told is) ∙ consumed ∙ ap (λ (r : List ℕ). bytes ++ r) end ∙ append-nil bytes
+  where
+    inner : (a b : List ℕ) → Some a ≡ Some b → a ≡ b
+    inner a b e = cc
+all_of (Some l) None told bytes is consumed end = absurd consumed
+all_of None new told bytes is consumed end = absurd cc
+
+-- the end of a file that isn't there is never seen
+never_ends : (now : Option (List ℕ)) → now ≡ Some (0 ∷ []) → IsAtEnd now → ⊥
+never_ends (Some l) is end = let same : l ≡ 0 ∷ [] = cc in cc
+never_ends None is end = cc
+
+-- ---- the file between the first read and the last
+
+-- The state of the source is that of the file, which was read on from its front.
+pub record IsFront (old new : ShelfState) (name : List ℕ) (first now : SourceState) (at : ℕ) : Type 0 where
+  pub first_is : first ≡ record { left = file_left old.files name 0; given = 0; faults = 0 }
+  pub left : now.left ≡ file_left new.files name at
+  pub given : now.given ≡ at
+  pub few : at ≤ 2 ^ 62
+  pub on : ReadsOn old new name 0 at 0 now.faults
+
+first_left : (old new : ShelfState) (name : List ℕ) (first now : SourceState) (at : ℕ) → IsFront old new name first now at → (told : List ℕ) → Holds old.files name told → first.left ≡ Some told
+first_left old new name first now at front told h = ap (λ (s : SourceState). s.left) front.first_is ∙ left_is old.files name told h
+
+cases : (b : Bool) → (b ≡ true) ⊎ (b ≡ false)
+cases true = inl refl
+cases false = inr refl
+
+-- where bytes came, the file is there
+there_came : (old new : ShelfState) (name : List ℕ) (first now : SourceState) (at count : ℕ) → IsFront old new name first now at → 1 ≤ count → Rattle.esdk_fields.specs.Counts.RoseBy count first.given now.given
+    → is_missing old.files name ≡ false
+there_came old new name first now at count front some rose =
+    elim (cases (is_missing old.files name)) [
+      | inl missing ↦ (let stays = (front.on.absent missing).0 in absurd (omega (arith, stays, some, rose, front.given, ap (λ (s : SourceState). s.given) front.first_is)))
+      | inr there ↦ there
+    ]
+
+there_ended : (old new : ShelfState) (name : List ℕ) (first now : SourceState) (at : ℕ) → IsFront old new name first now at → IsAtEnd now.left → is_missing old.files name ≡ false
+there_ended old new name first now at front end =
+    elim (cases (is_missing old.files name)) [
+      | inl missing ↦ absurd (never_ends now.left (front.left ∙ missing_left new.files name at (ap (λ (f : Option Files). is_missing f name) front.on.files ∙ missing)) end)
+      | inr there ↦ there
+    ]
+
+some_bytes : (settings : Settings) (b : List ℕ) → (header settings (start b) ≡ Wanting → ⊥) → 1 ≤ length b
+some_bytes settings [] other = absurd (other (nothing_read settings))
+some_bytes settings (x ∷ xs) other = omega arith
+
+-- a header came
+pub header_came : (settings : Settings) (reader : HeaderReader) (old new : ShelfState) (name : List ℕ) (first now : SourceState) (at : ℕ) (h : HeaderValue) → IsFront old new name first now at
+    → (holds : HoldsHeader settings reader first now) → ShowsHeader (session_of settings holds.holds.taken) (Some h) → HasHeader settings old new name h
+header_came settings reader old new name first now at h front holds shows =
+    let taken : List ℕ = holds.holds.taken in
+    let rest : List ℕ = holds.holds.rest in
+    let begin : length taken ≡ body_begin h = begins_at settings taken h (record { at = length taken; left = [] }) shows in
+    let long = length-append taken rest in
+    record {
+      there = there_came old new name first now at (length holds.bytes) front
+          (omega (arith, ap length holds.holds.front, long, some_bytes settings taken (λ wanting. read_not_wanting (header settings (start taken)) holds.holds.parts holds.holds.end holds.holds.read wanting))) holds.came.given;
+      is = λ told h_told.
+          let more = front_of first.left now.left told holds.bytes (first_left old new name first now at front told h_told) holds.came.consumed in
+          let all : told ≡ taken ++ (rest ++ more.0) = more.1 ∙ ap (λ (l : List ℕ). l ++ more.0) holds.holds.front ∙ append_assoc taken rest more.0 in
+          subst (IsHeaderOf settings h) (sym all) (record {
+            end = followed (record { at = length taken; left = [] }) (rest ++ more.0);
+            begins = BeginsWith-append settings taken (rest ++ more.0) h (record { at = length taken; left = [] }) shows;
+            begin = begin;
+          });
+      faults = front.on.same (holds.faults ∙ ap (λ (s : SourceState). s.faults) front.first_is) (omega (arith, holds.faults, ap (λ (s : SourceState). s.faults) front.first_is));
+      given = omega (arith, front.on.given, front.given, holds.came.most, holds.few, ap length holds.holds.front, long, begin, ap (λ (s : SourceState). s.given) front.first_is);
+    }
+  where
+    read_not_wanting : (r : Reading Head) (parts : Head) (end : Place) → r ≡ Read parts end → r ≡ Wanting → ⊥
+    read_not_wanting r parts end e w = cc
+
+-- ---- none came
+
+refused_not_wanting : (r : Reading Head) (fault : Fault) (at : ℕ) → r ≡ Refused fault at → r ≡ Wanting → ⊥
+refused_not_wanting r fault at e w = cc
+
+failed_cause : (old new : ShelfState) (name : List ℕ) (first now : SourceState) (at : ℕ) → IsFront old new name first now at → Rose first.faults now.faults → FailsToRead old new name
+failed_cause old new name first now at front rose =
+    let some : 0 < now.faults = omega (arith, rose, ap (λ (s : SourceState). s.faults) front.first_is) in
+    elim (cases (is_missing old.files name)) [
+      | inl missing ↦ inr (missing, (front.on.absent missing).1)
+      | inr there ↦ inl (front.on.failed some (omega (arith, front.few)) there)
+    ]
+
+pub none_came : (settings : Settings) (old new : ShelfState) (name : List ℕ) (first now : SourceState) (at : ℕ) (error : NoHeader) → IsFront old new name first now at
+    → NoneCame settings first now error → HasNoHeader settings old new name (unheaded_as error)
+none_came settings old new name first now at (headers.Fault fault) front none = (
+  there_came old new name first now at (length none.bytes) front (some_bytes settings none.bytes (refused_not_wanting (header settings (start none.bytes)) fault none.at none.refused)) none.came.given,
+  λ told h.
+      let more = front_of first.left now.left told none.bytes (first_left old new name first now at front told h) none.came.consumed in
+      ap (λ (b : List ℕ). header_fault_at_end (header settings (start b))) more.1
+      ∙ ap header_fault_at_end (fault_stays (header settings) none.bytes more.0 fault none.at (IsSequential-header settings) none.refused),
+)
+none_came settings old new name first now at (headers.End ends.Seen) front none = (
+  there_ended old new name first now at front none.end.end,
+  λ told h. ap (λ (b : List ℕ). header_fault_at_end (header settings (start b))) (all_of first.left now.left told none.bytes (first_left old new name first now at front told h) none.came.consumed none.end.end)
+      ∙ ap header_fault_at_end none.wanting,
+)
+none_came settings old new name first now at (headers.End ends.Failed) front none = failed_cause old new name first now at front none.rose
+none_came settings old new name first now at (headers.End ends.TooLong) front none = tt
+none_came settings old new name first now at headers.Memory front none = tt
+
+-- ---- how much was read
+
+reach_of : (settings : Settings) (told : List ℕ) (r : Reading Head) → header settings (start told) ≡ r → most_read settings (range_of 0 0) told ≡ file_reach (range_of 0 0) told r
+reach_of settings told r e = ap (file_reach (range_of 0 0) told) e
+
+pub given_came : (settings : Settings) (reader : HeaderReader) (old new : ShelfState) (name : List ℕ) (h : HeaderValue) → HasHeader settings old new name h
+    → OnFile old name (λ told. new.given ≤ old.given + most_read settings (range_of 0 0) told)
+given_came settings reader old new name h has = λ told holds.
+    let is = has.is told holds in
+    omega (arith, has.given, reach_of settings told (Read is.begins.parts is.end) is.begins.read, is.begin)
+
+-- bytes that want more are within what is read at the most
+within_reach : (settings : Settings) (told b rest : List ℕ) (r : Reading Head) → told ≡ b ++ rest → header settings (start b) ≡ Wanting → header settings (start (b ++ rest)) ≡ r
+    → length b ≤ file_reach (range_of 0 0) told r
+within_reach settings told b rest (Read parts end) is wants e =
+    let h = read_after (header settings) b rest parts end (IsSequential-header settings) wants e in omega (arith, h)
+within_reach settings told b rest (Refused fault at) is wants e =
+    let h = fault_after_at (header settings) (start b) rest fault at (IsSequential-header settings) wants e in omega (arith, h)
+within_reach settings told b rest Wanting is wants e = omega (arith, ap length is, length-append b rest)
+
+wanting_given : (settings : Settings) (old new : ShelfState) (name : List ℕ) (first now : SourceState) (at : ℕ) (b : List ℕ) → IsFront old new name first now at
+    → Came first now b → header settings (start b) ≡ Wanting → OnFile old name (λ told. new.given ≤ old.given + most_read settings (range_of 0 0) told)
+wanting_given settings old new name first now at b front came wants = λ told h.
+    let more = front_of first.left now.left told b (first_left old new name first now at front told h) came.consumed in
+    let most = within_reach settings told b more.0 (header settings (start (b ++ more.0))) more.1 wants refl in
+    let same = ap (λ (l : List ℕ). file_reach (range_of 0 0) told (header settings (start l))) more.1 in
+    omega (arith, front.on.given, front.given, came.most, most, same, ap (λ (s : SourceState). s.given) front.first_is)
+
+pub none_given : (settings : Settings) (old new : ShelfState) (name : List ℕ) (first now : SourceState) (at : ℕ) (error : NoHeader) → IsFront old new name first now at
+    → NoneCame settings first now error → UnlessMemory {T = HeaderValue} (Err (unheaded_as error)) (OnFile old name (λ told. new.given ≤ old.given + most_read settings (range_of 0 0) told))
+none_given settings old new name first now at (headers.Fault fault) front none = λ told h.
+    let more = front_of first.left now.left told none.bytes (first_left old new name first now at front told h) none.came.consumed in
+    let refused : header settings (start told) ≡ Refused fault none.at =
+    ap (λ (b : List ℕ). header settings (start b)) more.1 ∙ fault_stays (header settings) none.bytes more.0 fault none.at (IsSequential-header settings) none.refused in
+    omega (arith, front.on.given, front.given, none.came.most, none.few, reach_of settings told (Refused fault none.at) refused, ap (λ (s : SourceState). s.given) front.first_is)
+none_given settings old new name first now at (headers.End ends.Seen) front none = wanting_given settings old new name first now at none.bytes front none.came none.wanting
+none_given settings old new name first now at (headers.End ends.Failed) front none = wanting_given settings old new name first now at none.bytes front none.came none.wanting
+none_given settings old new name first now at (headers.End ends.TooLong) front none = tt
+none_given settings old new name first now at headers.Memory front none = tt
+
+pub shows_none : (settings : Settings) (reader : HeaderReader) (bytes : List ℕ) (holds : ReaderHolds settings reader bytes) → ShowsHeader (session_of settings holds.taken) None → ⊥
+shows_none settings reader bytes holds wanting = read_not_wanting (header settings (start holds.taken)) holds.parts holds.end holds.read wanting
+  where
+    read_not_wanting : (r : Reading Head) (parts : Head) (end : Place) → r ≡ Read parts end → r ≡ Wanting → ⊥
+    read_not_wanting r parts end e w = cc
+
+-- The source was made of the file, and is read on.
+pub front_is : (old new : ShelfState) (name : List ℕ) (first now : SourceState) (at faults : ℕ) → first ≡ record { left = file_left old.files name 0; given = 0; faults = 0 }
+    → now ≡ record { left = file_left new.files name at; given = at; faults = faults } → now.given ≤ first.given + 2 ^ 62 → ReadsOn old new name 0 at 0 faults → IsFront old new name first now at
+front_is old new name first now at faults first_is now_is few on = record {
+  first_is = first_is;
+  left = ap (λ (s : SourceState). s.left) now_is;
+  given = ap (λ (s : SourceState). s.given) now_is;
+  few = omega (arith, few, ap (λ (s : SourceState). s.given) now_is, ap (λ (s : SourceState). s.given) first_is);
+  on = subst (λ (n : ℕ). ReadsOn old new name 0 at 0 n) (sym (ap (λ (s : SourceState). s.faults) now_is)) on;
+}
+
+-- the same by what is known of the source's parts
+pub front_made : (made old read : ShelfState) (made_name name now_name : List ℕ) (made_at made_faults at faults : ℕ) → made ≡ old → made_name ≡ name → made_at ≡ 0 → made_faults ≡ 0 → now_name ≡ made_name
+    → ReadsOn made read made_name made_at at made_faults faults → at ≤ made_at + 2 ^ 62
+    → IsFront old read name (record { left = file_left made.files made_name made_at; given = made_at; faults = made_faults }) (record { left = file_left read.files now_name at; given = at; faults = faults }) at
+front_made made old read made_name name now_name made_at made_faults at faults shelf name_is at_is faults_is same on few =
+    front_is old read name _ _ at faults (rw (shelf, name_is, at_is, faults_is) refl) (rw (same, name_is) refl) few
+    (subst (λ (s : ShelfState). ReadsOn s read name 0 at 0 faults) shelf
+    (subst (λ (n : List ℕ). ReadsOn made read n 0 at 0 faults) name_is
+    (subst (λ (m : ℕ). ReadsOn made read made_name m at 0 faults) at_is
+    (subst (λ (m : ℕ). ReadsOn made read made_name made_at at m faults) faults_is on))))

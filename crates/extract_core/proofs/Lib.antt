@@ -1,0 +1,11 @@
+pub mod Cuts
+pub mod Heads
+pub mod Taking
+pub mod Definition
+pub mod Writing
+pub mod SlotNumbers
+pub mod Front
+pub mod Extracting
+pub mod Allowed
+pub mod Contents
+pub mod Judged

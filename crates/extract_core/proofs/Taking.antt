@@ -1,0 +1,250 @@
+-- What is so while the bytes of one unit are taken from a file.
+use Rattle.std.proofs.Common.{◌≡◌, ℕ, ◌+◌, ◌≤◌, List, [], ◌++◌, length, drop, Bool, Option, Some, None, Result, Ok, Err, IfOk, IfErr, refl, sym, ap, subst, ◌∙◌, arith, inl, inr, append_assoc}
+use Rattle.std.proofs.lemmas.List.{length-append}
+use Rattle.esdk_fields.specs.declared.contents.Content.{Content}
+use Rattle.esdk_fields.specs.declared.contents.Content.TheVariants.{Single, Framed}
+use Rattle.esdk_fields.specs.declared.faults.Fault.{Fault}
+use Rattle.esdk_fields.specs.declared.faults.Fault.TheVariants.{UnitTag}
+use Rattle.esdk_fields.specs.declared.refusals.Outside.TheVariants as outsides
+use Rattle.esdk_fields.specs.Place.{start, past, followed}
+use Rattle.esdk_fields.specs.Reading.{Read, Refused}
+use Rattle.esdk_fields.proofs.Fronts.{fault_stays, value_stays}
+use Rattle.esdk_base.specs.Shelf.{Files, Holds, is_missing}
+use Rattle.esdk_base.specs.Streams.{FailsToRead, ShelfState}
+use Rattle.frame_codec.specs.declared.kinds.UnitKind.{UnitKind}
+use Rattle.frame_codec.specs.declared.kinds.UnitKind.TheVariants as kinds
+use Rattle.frame_codec.specs.declared.unit_heads.Head.TheVariants as heads
+use Rattle.frame_codec.specs.declared.unit_heads.UnitHead.{UnitHead}
+use Rattle.frame_codec.specs.InPlace.{unit_size, whole_reading}
+use Rattle.frame_codec.specs.Unit.{Piece, piece_of, unit}
+use Rattle.frame_codec.specs.UnitBuffer.{opened_of}
+use Rattle.frame_codec.proofs.InPlace.{whole_is}
+use Rattle.frame_codec.proofs.Order.{IsSequential-unit}
+use Rattle.frame_codec.proofs.Units.{unit_refuses_head}
+use Rattle.extract_core.specs.declared.errors.ExtractError.{ExtractError}
+use Rattle.extract_core.specs.declared.errors.ExtractError.TheVariants as errors
+use Rattle.extract_core.specs.declared.slots.Slots.{Slots}
+use Rattle.extract_core.specs.Extracted.{slot_width, unit_fault}
+use Rattle.extract_core.specs.Slots.{IsRead, IsRoom, IsThere, IsWithin, NeedsBytes, ReadsUnit, SameBody, StandsAt, TakesMore, TakesNone, TakesOn, TakesUnit, UnitFails, is_last, known, piece_at, read_count, unit_reach, unit_read}
+use Rattle.extract_core.proofs.Heads.{IsHead, is_head, opened_short}
+
+-- The bytes of the unit that came so far are held, and what is read ahead stands behind them.
+pub record IsTaking (old now : Slots) (before after : ShelfState) (name : List ℕ) (at want : ℕ) : Type 0 where
+  pub same : SameBody old now
+  pub files : after.files ≡ before.files
+  pub faults : after.faults ≡ before.faults
+  pub given : after.given ≤ before.given + read_count now
+  pub room : (frame : ℕ) → old.content ≡ Framed frame → read_count now ≤ frame + 40
+  pub stands : (told : List ℕ) → Holds before.files name told → StandsAt now told at
+  pub within : IsWithin now want now.unit.held
+
+-- nothing is held, and nothing is read ahead
+pub begins : (old now : Slots) (s : ShelfState) (name : List ℕ) (at want : ℕ) → SameBody old now → now.unit.held ≡ [] → now.ahead ≡ [] → IsTaking old now s s name at want
+begins old now s name at want same held ahead =
+    let none : read_count now ≡ 0 = omega (arith, ap length held, ap length ahead) in
+    let here : at + 0 ≡ at = omega arith in
+    record {
+      same = same;
+      files = refl;
+      faults = refl;
+      given = omega arith;
+      room = λ frame is. omega arith;
+      stands = λ told h. record { front = rw (held, ahead) (ap (λ (n : ℕ). drop n told) (sym here)) };
+      within = λ head is. omega (arith, ap length held);
+    }
+
+pub same_same : (a b c : Slots) → SameBody a b → SameBody b c → SameBody a c
+same_same a b c first second = record {
+  key = second.key ∙ first.key;
+  id = second.id ∙ first.id;
+  content = second.content ∙ first.content;
+  max_unit = second.max_unit ∙ first.max_unit;
+  begin = second.begin ∙ first.begin;
+}
+
+-- what is known and read of bytes is the same of the same body
+same_known : (a b : Slots) (want : ℕ) (bytes : List ℕ) → SameBody a b → known b want bytes ≡ known a want bytes
+same_known a b want bytes same = rw (same.content, same.max_unit) refl
+
+pub same_read : (a b : Slots) (want : ℕ) (bytes : List ℕ) → SameBody a b → unit_read b want bytes ≡ unit_read a want bytes
+same_read a b want bytes same = rw (same.content, same.max_unit, same.key, same.id) refl
+
+within_same : (a b : Slots) (want : ℕ) (held grown : List ℕ) → SameBody a b → grown ≡ held → IsWithin a want held → IsWithin b want grown
+within_same a b want held grown same is within = λ head e.
+    let inside = within head (sym (same_known a b want held same) ∙ ap (λ (l : List ℕ). known b want l) (sym is) ∙ e) in omega (arith, inside, ap length is)
+
+-- so many bytes may be read of a frame
+room_frame : (content : Content) (end frame : ℕ) → IsRoom content end → content ≡ Framed frame → (end ≤ frame + 40) × (slot_width content ≤ frame + 40)
+room_frame Single end frame room is = absurd cc
+room_frame (Framed n) end frame room is = let same : n ≡ frame = inner n frame is in (omega arith, omega arith)
+  where
+    inner : (m n : ℕ) → Framed m ≡ Framed n → m ≡ n
+    inner m n e = cc
+
+-- files that are as they were hold what they held
+pub holds_same : (before mid : ShelfState) (name told : List ℕ) → mid.files ≡ before.files → Holds before.files name told → Holds mid.files name told
+holds_same before mid name told same h = subst (λ (f : Option Files). Holds f name told) (sym same) h
+
+-- a read that failed later failed from the first moment on
+pub fails_from : (before mid after : ShelfState) (name : List ℕ) → mid.files ≡ before.files → mid.faults ≡ before.faults → FailsToRead mid after name → FailsToRead before after name
+fails_from before mid after name files faults (inl rose) = inl (omega (arith, rose, faults))
+fails_from before mid after name files faults (inr missing) = inr (ap (λ (f : Option Files). is_missing f name) (sym files) ∙ missing.0, missing.1 ∙ faults)
+
+-- how much is read of the unit, more of the file being read
+read_room : (old l new : Slots) (before mid after : ShelfState) (name : List ℕ) (at want end : ℕ) → IsTaking old l before mid name at want → TakesOn l new mid after name at end → IsRoom l.content end
+    → (frame : ℕ) → old.content ≡ Framed frame → read_count new ≤ frame + 40
+read_room old l new before mid after name at want end taking on room frame is =
+    let most = room_frame l.content end frame room (taking.same.content ∙ is) in
+    omega (arith, taking.room frame is, on.reach, most.0, most.1)
+
+read_stands : (old l new : Slots) (before mid after : ShelfState) (name : List ℕ) (at want end : ℕ) → IsTaking old l before mid name at want → TakesOn l new mid after name at end
+    → (told : List ℕ) → Holds before.files name told → StandsAt new told at
+read_stands old l new before mid after name at want end taking on told h = on.stands told (holds_same before mid name told taking.files h) (taking.stands told h)
+
+-- more bytes of the unit are held
+pub goes_on : (old l new : Slots) (before mid after : ShelfState) (name : List ℕ) (at want end : ℕ) → IsTaking old l before mid name at want → TakesOn l new mid after name at end
+    → TakesMore l new mid after end → NeedsBytes l want end → IsTaking old new before after name at want
+goes_on old l new before mid after name at want end taking on more needs = record {
+  same = same_same old l new taking.same on.same;
+  files = on.files ∙ taking.files;
+  faults = more.faults ∙ taking.faults;
+  given = omega (arith, taking.given, on.given, on.on);
+  room = read_room old l new before mid after name at want end taking on needs.room;
+  stands = read_stands old l new before mid after name at want end taking on;
+  within = within_same l new want (l.unit.held ++ more.bytes) new.unit.held on.same more.grown (needs.within more.bytes (omega (arith, ap length more.grown, more.most)));
+}
+
+-- ---- what is read
+
+-- the file has what is held, and more
+held_front : (s : Slots) (told : List ℕ) (at : ℕ) → StandsAt s told at → drop at told ≡ s.unit.held ++ (s.ahead ++ drop (at + read_count s) told)
+held_front s told at stands = stands.front ∙ append_assoc s.unit.held s.ahead (drop (at + read_count s) told)
+
+fault_of_reading : (s : Slots) (want : ℕ) (held more bytes : List ℕ) (fault : Fault) (at : ℕ) → unit_read s want held ≡ Refused fault at → bytes ≡ held ++ more → unit_fault (unit_read s want bytes) ≡ Some fault
+fault_of_reading s want held more bytes fault at e is =
+    ap (λ (b : List ℕ). unit_fault (unit_read s want b)) is
+    ∙ ap unit_fault (fault_stays (unit s.content s.max_unit s.key s.message_id want) held more fault at (IsSequential-unit s.content s.max_unit s.key s.message_id want) e)
+
+-- a fault of what is held is the fault of what stands in the file
+pub refused_there : (old now : Slots) (before after : ShelfState) (name : List ℕ) (at want : ℕ) (fault : Fault) (end : ℕ) → IsTaking old now before after name at want
+    → unit_read now want now.unit.held ≡ Refused fault end → UnitFails (λ told. unit_read old want (drop at told)) before after name (errors.Fault fault)
+refused_there old now before after name at want fault end taking e = (
+  taking.faults,
+  λ told h.
+      ap unit_fault (sym (same_read old now want (drop at told) taking.same))
+      ∙ fault_of_reading now want now.unit.held _ (drop at told) fault end e (held_front now told at (taking.stands told h)),
+)
+
+pub refused_head : (old now : Slots) (before after : ShelfState) (name : List ℕ) (at want : ℕ) (fault : Fault) → IsTaking old now before after name at want
+    → known now want now.unit.held ≡ heads.Refused fault → UnitFails (λ told. unit_read old want (drop at told)) before after name (errors.Fault fault)
+refused_head old now before after name at want fault taking e =
+    let r = unit_refuses_head now.content now.max_unit now.key now.message_id want now.unit.held fault e in
+    refused_there old now before after name at want fault (0 + r.0) taking (r.2 0)
+
+-- the file ends, or a read fails
+pub none_taken : (old l new : Slots) (before mid after : ShelfState) (name : List ℕ) (at want end : ℕ) (error : ExtractError) → IsTaking old l before mid name at want → NeedsBytes l want end
+    → TakesNone l mid after name at error → UnitFails (λ told. unit_read old want (drop at told)) before after name error
+none_taken old l new before mid after name at want end (errors.Fault fault) taking needs none = (
+  none.1 ∙ taking.faults,
+  λ told h.
+      ap unit_fault (sym (same_read old l want (drop at told) taking.same))
+      ∙ ap (λ (b : List ℕ). unit_fault (unit_read l want b)) (none.2 told (holds_same before mid name told taking.files h) (taking.stands told h))
+      ∙ ap unit_fault needs.wanting ∙ ap Some (sym none.0),
+)
+none_taken old l new before mid after name at want end (errors.Outside outsides.SourceFault) taking needs none = none
+none_taken old l new before mid after name at want end (errors.Outside outsides.SinkFault) taking needs none = none
+none_taken old l new before mid after name at want end (errors.Outside outsides.ShelfFault) taking needs none = fails_from before mid after name taking.files taking.faults none
+none_taken old l new before mid after name at want end (errors.Outside outsides.EntropyFault) taking needs none = none
+none_taken old l new before mid after name at want end (errors.Outside outsides.KeyringFault) taking needs none = none
+none_taken old l new before mid after name at want end (errors.Outside outsides.InputTooLong) taking needs none = none
+none_taken old l new before mid after name at want end errors.Memory taking needs none = tt
+
+-- the unit is whole
+unit_is : (s : Slots) (want : ℕ) (head : UnitHead) (o : Option (List ℕ)) → IsThere s want head → opened_of s.key s.message_id head s.unit.held ≡ o → unit_read s want s.unit.held ≡ whole_reading head s.unit.held o
+unit_is s want head o there opens = whole_is s.content s.max_unit s.key s.message_id want s.unit.held head o there.known (omega (arith, there.whole)) opens
+
+piece_is : (kind : UnitKind) (content : List ℕ) (last : Bool) → last ≡ is_last kind → piece_of kind content ≡ piece_at last content
+piece_is kinds.Regular content last e = rw e refl
+piece_is kinds.Final content last e = rw e refl
+piece_is kinds.Single content last e = rw e refl
+
+pub closed_there : (old now : Slots) (before after : ShelfState) (name : List ℕ) (at want : ℕ) (head : UnitHead) → IsTaking old now before after name at want → IsThere now want head
+    → opened_of now.key now.message_id head now.unit.held ≡ None → UnitFails (λ told. unit_read old want (drop at told)) before after name (errors.Fault (UnitTag head.number))
+closed_there old now before after name at want head taking there closed =
+    refused_there old now before after name at want (UnitTag head.number) _ taking (unit_is now want head None there closed)
+
+opened_read : (s : Slots) (want : ℕ) (held more bytes text : List ℕ) (head : UnitHead) (last : Bool) → unit_read s want held ≡ whole_reading head held (Some text) → last ≡ is_last head.kind
+    → bytes ≡ held ++ more → IsRead (unit_read s want bytes) last text
+opened_read s want held more bytes text head last e last_is is = record {
+  next = followed (past (unit_size head) (start held)) more;
+  is = ap (λ (b : List ℕ). unit_read s want b) is
+      ∙ value_stays (unit s.content s.max_unit s.key s.message_id want) held more (piece_of head.kind text) (past (unit_size head) (start held)) (IsSequential-unit s.content s.max_unit s.key s.message_id want) e
+      ∙ ap (λ (p : Piece). Read p (followed (past (unit_size head) (start held)) more)) (piece_is head.kind text last last_is);
+}
+
+read_of_same : (old now : Slots) (want : ℕ) (bytes text : List ℕ) (last : Bool) → SameBody old now → IsRead (unit_read now want bytes) last text → IsRead (unit_read old want bytes) last text
+read_of_same old now want bytes text last same read = record { next = read.next; is = sym (same_read old now want bytes same) ∙ read.is }
+
+pub opened_there : (old now new : Slots) (before after : ShelfState) (name : List ℕ) (at want : ℕ) (head : UnitHead) (last : Bool) → IsTaking old now before after name at want → IsThere now want head
+    → opened_of now.key now.message_id head now.unit.held ≡ Some new.unit.out → last ≡ is_last head.kind → new.unit.held ≡ [] → TakesUnit old new before after name at want last
+opened_there old now new before after name at want head last taking there opens last_is empty =
+    let h : IsHead now.content head = is_head now.content want now.max_unit now.unit.held head there.known in
+    let short = opened_short now.key now.message_id head now.unit.held new.unit.out opens in
+    record {
+      read = λ told holds. read_of_same old now want (drop at told) new.unit.out last taking.same
+          (opened_read now want now.unit.held _ (drop at told) new.unit.out head last (unit_is now want head (Some new.unit.out) there opens) last_is (held_front now told at (taking.stands told holds)));
+      empty = empty;
+      faults = taking.faults;
+      sized = record {
+        few = omega (arith, short, there.short);
+        frame = λ frame is. let most = h.frame frame (taking.same.content ∙ is) in omega (arith, short, most);
+        single = λ is. last_is ∙ h.single (taking.same.content ∙ is);
+      };
+    }
+
+-- ---- how much is read
+
+reach_is : (content : Content) (s : Slots) (told : List ℕ) (at : ℕ) → ((frame : ℕ) → content ≡ Framed frame → read_count s ≤ frame + 40) → StandsAt s told at → read_count s ≤ unit_reach content (drop at told)
+reach_is Single s told at room stands =
+    omega (arith, ap length stands.front, length-append (s.unit.held ++ s.ahead) (drop (at + read_count s) told), length-append s.unit.held s.ahead)
+reach_is (Framed frame) s told at room stands = room frame refl
+
+-- where nothing more was read than what is taken
+pub reads_so_far : (old now new : Slots) (before after : ShelfState) (name : List ℕ) (at want : ℕ) → IsTaking old now before after name at want → SameBody now new → ReadsUnit old new before after name at
+reads_so_far old now new before after name at want taking same = record {
+  same = same_same old now new taking.same same;
+  files = taking.files;
+  later = omega (arith, taking.faults);
+  given = λ told h. let most = reach_is old.content now told at taking.room (taking.stands told h) in omega (arith, taking.given, most);
+}
+
+-- where more was read
+pub reads_on : (old l new : Slots) (before mid after : ShelfState) (name : List ℕ) (at want end : ℕ) → IsTaking old l before mid name at want → TakesOn l new mid after name at end
+    → NeedsBytes l want end → ReadsUnit old new before after name at
+reads_on old l new before mid after name at want end taking on needs = record {
+  same = same_same old l new taking.same on.same;
+  files = on.files ∙ taking.files;
+  later = omega (arith, taking.faults, on.later);
+  given = λ told h.
+      let most = reach_is old.content new told at (read_room old l new before mid after name at want end taking on needs.room) (read_stands old l new before mid after name at want end taking on told h) in
+      omega (arith, taking.given, on.given, on.on, most);
+}
+
+pub same_as_is : (s : Slots) → SameBody s s
+same_as_is s = record { key = refl; id = refl; content = refl; max_unit = refl; begin = refl }
+
+-- ---- what opening answers
+
+pub opened_answer : (old now new : Slots) (before after : ShelfState) (name : List ℕ) (at want : ℕ) (head : UnitHead) (r : Result Bool ExtractError) → IsTaking old now before after name at want
+    → IsThere now want head → IfOk r (λ last. opened_of now.key now.message_id head now.unit.held ≡ Some new.unit.out) → IfOk r (λ last. last ≡ is_last head.kind)
+    → IfOk r (λ last. new.unit.held ≡ []) → IfOk r (TakesUnit old new before after name at want)
+opened_answer old now new before after name at want head (Ok last) taking there opens last_is empty =
+    opened_there old now new before after name at want head last taking there opens last_is empty
+opened_answer old now new before after name at want head (Err error) taking there opens last_is empty = tt
+
+pub closed_answer : (old now : Slots) (before after : ShelfState) (name : List ℕ) (at want : ℕ) (head : UnitHead) (r : Result Bool ExtractError) → IsTaking old now before after name at want
+    → IsThere now want head → IfErr r (λ e. (e ≡ errors.Fault (UnitTag head.number)) × (opened_of now.key now.message_id head now.unit.held ≡ None))
+    → IfErr r (UnitFails (λ told. unit_read old want (drop at told)) before after name)
+closed_answer old now before after name at want head (Ok last) taking there closed = tt
+closed_answer old now before after name at want head (Err error) taking there closed =
+    subst (UnitFails (λ told. unit_read old want (drop at told)) before after name) (sym closed.0) (closed_there old now before after name at want head taking there closed.1)

@@ -1,0 +1,337 @@
+-- What is so while the parts of a range are written.
+use Rattle.std.proofs.Common.{◌≡◌, ℕ, ◌+◌, ◌-◌, ◌*◌, ◌/◌, ◌<◌, ◌≤◌, min, Bool, true, false, List, [], ◌++◌, length, take, drop, Option, Some, None, Result, Ok, Err, IfErr, refl, sym, ap, subst, ◌∙◌, arith, inl, inr, append-nil, mul-le-mul_right}
+use Rattle.std.proofs.lemmas.List.{length-append, length-take, length-drop, take_all}
+use Rattle.std.proofs.lemmas.Bool.{cases_lt}
+use Rattle.std.proofs.KnownBytes.{Appends-nil, Appends-trans}
+use Rattle.std.specs.Io.KnownBytes.{Appends}
+use Rattle.std.specs.Result.{IsErrAnd}
+use Rattle.esdk_fields.specs.Counts.{Rose}
+use Rattle.esdk_fields.specs.declared.contents.Content.{Content}
+use Rattle.esdk_fields.specs.declared.contents.Content.TheVariants.{Single, Framed}
+use Rattle.esdk_fields.specs.declared.faults.Fault.{Fault}
+use Rattle.esdk_fields.specs.declared.refusals.Outside.TheVariants as outsides
+use Rattle.esdk_fields.specs.Reading.{Reading}
+use Rattle.esdk_base.specs.ReceiverLaws.{front_after, front_longer}
+use Rattle.esdk_base.specs.Shelf.{Holds}
+use Rattle.esdk_base.specs.Sink.{AppendsFront}
+use Rattle.esdk_base.specs.Streams.{ShelfState, SinkState}
+use Rattle.frame_codec.specs.Unit.{Piece}
+use Rattle.header_codec.specs.Header.{frame_length}
+use Rattle.body_format.specs.Rows.{is_more}
+use Rattle.extract_core.specs.declared.errors.ExtractError.{ExtractError}
+use Rattle.extract_core.specs.declared.errors.ExtractError.TheVariants as errors
+use Rattle.extract_core.specs.declared.slots.Slots.{Slots}
+use Rattle.extract_core.specs.Extracted.{ByteRange, Extraction, OpenBody, extracted_body, first_slot, in_range, slot_count, slot_part, slot_read, unit_content, unit_fault}
+use Rattle.extract_core.specs.Slots.{FindsFault, IsRead, IsSized, OnBody, RangeFails, ReadsSlot, SameBody, TakesSlot, UnitFails, WritesRange, body_in, body_reach, first_byte, unit_reach}
+use Rattle.extract_core.proofs.Definition.{AreGood, begins_part, ends_at, ends_behind, fault_ends, nothing_in_range, of_nothing, parts_before, parts_next}
+use Rattle.extract_core.proofs.Taking.{fails_from, holds_same, same_same}
+
+-- all of what was gained is a front of it
+pub whole_front : (a b : Option (List ℕ)) (xs : List ℕ) → Appends a b xs → AppendsFront a b xs
+whole_front a b xs gained = (length xs, subst (Appends a b) (sym (take_all (length xs) xs (omega arith))) gained)
+
+-- how many bytes are read for so many slots at the most
+abbrev pub slots_reach : Content → ℕ → ℕ
+slots_reach Single count = 0
+slots_reach (Framed frame) count = count * (frame + 40)
+
+-- The slots before this one are good ones that others follow, their parts were written, and so many bytes are in them.
+pub record IsWriting (old now : Slots) (range : ByteRange) (before after : ShelfState) (name : List ℕ) (output put : SinkState) (slot written : ℕ) : Type 0 where
+  pub same : SameBody old now
+  pub empty : now.unit.held ≡ []
+  pub files : after.files ≡ before.files
+  pub faults : after.faults ≡ before.faults
+  pub single : old.content ≡ Single → slot ≡ first_slot old.content range
+  pub few : written ≤ first_byte old.content slot - range.at
+  pub good : OnBody old before name (λ b. AreGood b range slot)
+  pub gained : OnBody old before name (λ b. Appends output.written put.written (parts_before b range slot))
+  pub count : OnBody old before name (λ b. written ≡ length (parts_before b range slot))
+  pub given : OnBody old before name (λ b. after.given ≤ before.given + slots_reach old.content (slot - first_slot old.content range))
+  pub later : output.faults ≤ put.faults
+
+no_parts : (b : OpenBody) (range : ByteRange) → parts_before b range (first_slot b.content range) ≡ []
+no_parts b range = let e : first_slot b.content range - first_slot b.content range ≡ 0 = omega arith in rw e refl
+
+pub begins : (s : Slots) (range : ByteRange) (shelf : ShelfState) (name : List ℕ) (output : SinkState) (slot : ℕ) → s.unit.held ≡ [] → slot ≡ first_slot s.content range
+    → IsWriting s s range shelf shelf name output output slot 0
+begins s range shelf name output slot empty is = record {
+  same = record { key = refl; id = refl; content = refl; max_unit = refl; begin = refl };
+  empty = empty;
+  files = refl;
+  faults = refl;
+  single = λ single. is;
+  few = omega arith;
+  good = λ told h. record { order = omega (arith, is); each = λ k low high. absurd (omega (arith, low, high, is)) };
+  gained = λ told h. rw is (subst (Appends output.written output.written) (sym (no_parts (body_in s told) range)) (Appends-nil output.written));
+  count = λ told h. rw is (sym (ap length (no_parts (body_in s told) range)));
+  given = λ told h. omega arith;
+  later = omega arith;
+}
+
+-- ---- one slot
+
+body_same : (a b : Slots) (told : List ℕ) → SameBody a b → body_in b told ≡ body_in a told
+body_same a b told same = rw (same.content, same.max_unit, same.key, same.id, same.begin) refl
+
+-- what is read at the slot, of the body as it was
+read_same : (old l : Slots) (told out : List ℕ) (slot : ℕ) (last : Bool) → SameBody old l → IsRead (slot_read (body_in l told) slot) last out → IsRead (slot_read (body_in old told) slot) last out
+read_same old l told out slot last same read = subst (λ (b : OpenBody). IsRead (slot_read b slot) last out) (body_same old l told same) read
+
+content_is : (r : Reading Piece) (last : Bool) (out : List ℕ) → IsRead r last out → unit_content r ≡ out
+content_is r true out read = ap unit_content read.is
+content_is r false out read = ap unit_content read.is
+
+none_wrong : (r : Reading Piece) (last : Bool) (out : List ℕ) → IsRead r last out → unit_fault r ≡ None
+none_wrong r last out read = ap unit_fault read.is
+
+more_is : (r : Reading Piece) (out : List ℕ) → IsRead r false out → is_more r ≡ true
+more_is r out read = ap is_more read.is
+
+last_is : (r : Reading Piece) (out : List ℕ) → IsRead r true out → is_more r ≡ false
+last_is r out read = ap is_more read.is
+
+part_is : (b : OpenBody) (range : ByteRange) (slot : ℕ) (last : Bool) (out : List ℕ) → IsRead (slot_read b slot) last out → slot_part b range slot ≡ in_range range (first_byte b.content slot) out
+part_is b range slot last out read = ap (in_range range (first_byte b.content slot)) (content_is (slot_read b slot) last out read)
+
+-- how many bytes of a content are in the range
+pub part_length : (range : ByteRange) (first : ℕ) (out : List ℕ) → length (in_range range first out) ≡ min (range.at + range.count - first) (length out) - (range.at - first)
+part_length range first out = length-drop (range.at - first) (take (range.at + range.count - first) out) ∙ ap (λ (n : ℕ). n - (range.at - first)) (length-take (range.at + range.count - first) out)
+
+-- the bytes written are no more than those before the next slot
+few_next : (content : Content) (range : ByteRange) (out : List ℕ) (slot written n : ℕ) → IsSized content false out → written ≤ first_byte content slot - range.at
+    → n ≡ length (in_range range (first_byte content slot) out) → written + n ≤ first_byte content (slot + 1) - range.at
+few_next Single range out slot written n sized few is = absurd (let no : false ≡ true = sized.single refl in cc)
+few_next (Framed frame) range out slot written n sized few is =
+    let most : length out ≤ frame = sized.frame frame refl in
+    let len = part_length range (slot * frame) out in
+    let on : (slot + 1) * frame ≡ slot * frame + frame = omega arith in
+    omega (arith, most, len, on, few, is)
+
+-- the part of the slot is written behind those before it
+gained_next : (old l new : Slots) (range : ByteRange) (before mid after : ShelfState) (name : List ℕ) (output put put2 : SinkState) (slot written : ℕ) (last : Bool)
+    → IsWriting old l range before mid name output put slot written → TakesSlot l new mid after name slot last
+    → Appends put.written put2.written (in_range range (first_byte l.content slot) new.unit.out)
+    → OnBody old before name (λ b. Appends output.written put2.written (parts_before b range slot ++ slot_part b range slot))
+gained_next old l new range before mid after name output put put2 slot written last w takes put_is = λ told h.
+    let b : OpenBody = body_in old told in
+    let read = read_same old l told new.unit.out slot last w.same (takes.read told (holds_same before mid name told w.files h)) in
+    let here : in_range range (first_byte l.content slot) new.unit.out ≡ slot_part b range slot =
+    ap (λ (c : Content). in_range range (first_byte c slot) new.unit.out) w.same.content ∙ sym (part_is b range slot last new.unit.out read) in
+    Appends-trans output.written put.written put2.written (parts_before b range slot) (slot_part b range slot) (w.gained told h) (subst (Appends put.written put2.written) here put_is)
+
+count_next : (old l new : Slots) (range : ByteRange) (before mid after : ShelfState) (name : List ℕ) (output put : SinkState) (slot written n : ℕ) (last : Bool)
+    → IsWriting old l range before mid name output put slot written → TakesSlot l new mid after name slot last
+    → n ≡ length (in_range range (first_byte l.content slot) new.unit.out)
+    → OnBody old before name (λ b. written + n ≡ length (parts_before b range slot ++ slot_part b range slot))
+count_next old l new range before mid after name output put slot written n last w takes is = λ told h.
+    let b : OpenBody = body_in old told in
+    let read = read_same old l told new.unit.out slot last w.same (takes.read told (holds_same before mid name told w.files h)) in
+    let here : in_range range (first_byte l.content slot) new.unit.out ≡ slot_part b range slot =
+    ap (λ (c : Content). in_range range (first_byte c slot) new.unit.out) w.same.content ∙ sym (part_is b range slot last new.unit.out read) in
+    omega (arith, w.count told h, is, ap length here, length-append (parts_before b range slot) (slot_part b range slot))
+
+-- how much was read of the slots up to this one
+given_next : (old l new : Slots) (range : ByteRange) (before mid after : ShelfState) (name : List ℕ) (output put : SinkState) (slot written : ℕ)
+    → IsWriting old l range before mid name output put slot written → ReadsSlot l new mid after name
+    → OnBody old before name (λ b. after.given ≤ before.given + slots_reach old.content (slot - first_slot old.content range) + unit_reach old.content b.bytes)
+given_next old l new range before mid after name output put slot written w reads = λ told h.
+    let more = reads.given told (holds_same before mid name told w.files h) in
+    let same : unit_reach l.content (drop l.begin told) ≡ unit_reach old.content (drop old.begin told) = rw (w.same.content, w.same.begin) refl in
+    omega (arith, w.given told h, more, same)
+
+more_slots : (content : Content) (range : ByteRange) (bytes : List ℕ) (slot : ℕ) → (content ≡ Single → ⊥) → first_slot content range ≤ slot
+    → slots_reach content (slot - first_slot content range) + unit_reach content bytes ≤ slots_reach content (slot + 1 - first_slot content range)
+more_slots Single range bytes slot framed order = absurd (framed refl)
+more_slots (Framed frame) range bytes slot framed order =
+    let e : slot + 1 - range.at / frame ≡ (slot - range.at / frame) + 1 = omega (arith, order) in
+    let on : ((slot - range.at / frame) + 1) * (frame + 40) ≡ (slot - range.at / frame) * (frame + 40) + (frame + 40) = omega arith in
+    omega (arith, on, ap (λ (n : ℕ). n * (frame + 40)) e)
+
+sized_same : (old l : Slots) (last : Bool) (out : List ℕ) → SameBody old l → IsSized l.content last out → IsSized old.content last out
+sized_same old l last out same sized = subst (λ (c : Content). IsSized c last out) same.content sized
+
+no_single : (content : Content) (out : List ℕ) → IsSized content false out → content ≡ Single → ⊥
+no_single content out sized is = let no : false ≡ true = sized.single is in cc
+
+-- a slot more that another one follows
+pub writes_on : (old l new : Slots) (range : ByteRange) (before mid after : ShelfState) (name : List ℕ) (output put put2 : SinkState) (slot written n : ℕ)
+    → IsWriting old l range before mid name output put slot written → TakesSlot l new mid after name slot false → ReadsSlot l new mid after name
+    → Appends put.written put2.written (in_range range (first_byte l.content slot) new.unit.out) → n ≡ length (in_range range (first_byte l.content slot) new.unit.out)
+    → put.faults ≤ put2.faults → first_slot old.content range ≤ slot
+    → IsWriting old new range before after name output put2 (slot + 1) (written + n)
+writes_on old l new range before mid after name output put put2 slot written n w takes reads put_is n_is later order =
+    let sized = sized_same old l false new.unit.out w.same takes.sized in
+    let size : n ≡ length (in_range range (first_byte old.content slot) new.unit.out) = n_is ∙ ap (λ (c : Content). length (in_range range (first_byte c slot) new.unit.out)) w.same.content in
+    record {
+      same = same_same old l new w.same reads.same;
+      empty = takes.empty;
+      files = reads.files ∙ w.files;
+      faults = takes.faults ∙ w.faults;
+      single = λ single. absurd (no_single old.content new.unit.out sized single);
+      few = few_next old.content range new.unit.out slot written n sized w.few size;
+      good = λ told h.
+          let read = read_same old l told new.unit.out slot false w.same (takes.read told (holds_same before mid name told w.files h)) in
+          record {
+            order = omega (arith, order);
+            each = λ k low high. elim (cases_lt k slot) [
+              | inl before_it ↦ (w.good told h).each k low before_it
+              | inr here ↦ (let e : slot ≡ k = omega (arith, here, high) in subst (λ (j : ℕ). is_more (slot_read (body_in old told) j) ≡ true) e (more_is (slot_read (body_in old told) slot) new.unit.out read))
+            ];
+          };
+      gained = λ told h. subst (Appends output.written put2.written) (sym (parts_next (body_in old told) range slot order))
+          (gained_next old l new range before mid after name output put put2 slot written false w takes put_is told h);
+      count = λ told h. count_next old l new range before mid after name output put slot written n false w takes n_is told h ∙ sym (ap length (parts_next (body_in old told) range slot order));
+      given = λ told h.
+          let most = given_next old l new range before mid after name output put slot written w reads told h in
+          let more = more_slots old.content range (drop old.begin told) slot (no_single old.content new.unit.out sized) order in
+          omega (arith, most, more);
+      later = omega (arith, w.later, later);
+    }
+
+-- ---- the ends
+
+-- how much is read of a body at the most
+ends_reach : (content : Content) (range : ByteRange) (bytes : List ℕ) (slot : ℕ) → first_slot content range ≤ slot → slot < first_slot content range + slot_count content range
+    → slots_reach content (slot - first_slot content range) + unit_reach content bytes ≤ body_reach content range bytes
+ends_reach Single range bytes slot order within = omega arith
+ends_reach (Framed frame) range bytes slot order within =
+    let m : ℕ = slot - range.at / frame in
+    let few : m + 1 ≤ slot_count (Framed frame) range = omega (arith, order, within) in
+    let on : (m + 1) * (frame + 40) ≡ m * (frame + 40) + (frame + 40) = omega arith in
+    omega (arith, on, mul-le-mul_right (frame + 40) few)
+
+pub reach_at : (old l new : Slots) (range : ByteRange) (before mid after : ShelfState) (name : List ℕ) (output put : SinkState) (slot written : ℕ)
+    → IsWriting old l range before mid name output put slot written → ReadsSlot l new mid after name → first_slot old.content range ≤ slot → slot < first_slot old.content range + slot_count old.content range
+    → OnBody old before name (λ b. after.given ≤ before.given + body_reach old.content range b.bytes)
+reach_at old l new range before mid after name output put slot written w reads order within = λ told h.
+    let most = given_next old l new range before mid after name output put slot written w reads told h in
+    omega (arith, most, ends_reach old.content range (drop old.begin told) slot order within)
+
+-- the last unit's part is written
+pub writes_last : (old l new : Slots) (range : ByteRange) (before mid after : ShelfState) (name : List ℕ) (output put put2 : SinkState) (slot written n : ℕ)
+    → IsWriting old l range before mid name output put slot written → TakesSlot l new mid after name slot true
+    → Appends put.written put2.written (in_range range (first_byte l.content slot) new.unit.out) → n ≡ length (in_range range (first_byte l.content slot) new.unit.out)
+    → 1 ≤ range.count → slot < first_slot old.content range + slot_count old.content range
+    → OnBody old before name (λ b. WritesRange b range output put2 (written + n))
+writes_last old l new range before mid after name output put put2 slot written n w takes put_is n_is some within = λ told h.
+    let b : OpenBody = body_in old told in
+    let read = read_same old l told new.unit.out slot true w.same (takes.read told (holds_same before mid name told w.files h)) in
+    let is = ends_at b range slot some (w.good told h) within (last_is (slot_read b slot) new.unit.out read) in
+    record {
+      fault = ap (λ (x : Extraction). x.fault) is ∙ none_wrong (slot_read b slot) true new.unit.out read;
+      gained = subst (Appends output.written put2.written) (sym (ap (λ (x : Extraction). x.part) is)) (gained_next old l new range before mid after name output put put2 slot written true w takes put_is told h);
+      count = count_next old l new range before mid after name output put slot written n true w takes n_is told h ∙ sym (ap (λ (x : Extraction). length x.part) is);
+    }
+
+-- all slots of the range are written
+pub writes_all : (old l : Slots) (range : ByteRange) (before mid : ShelfState) (name : List ℕ) (output put : SinkState) (behind written : ℕ)
+    → IsWriting old l range before mid name output put behind written → 1 ≤ range.count → 1 ≤ slot_count old.content range → behind ≡ first_slot old.content range + slot_count old.content range
+    → OnBody old before name (λ b. WritesRange b range output put written)
+writes_all old l range before mid name output put behind written w some slots is_behind = λ told h.
+    let b : OpenBody = body_in old told in
+    let is = ends_behind b range behind some slots is_behind (w.good told h) in
+    record {
+      fault = ap (λ (x : Extraction). x.fault) is;
+      gained = subst (Appends output.written put.written) (sym (ap (λ (x : Extraction). x.part) is)) (w.gained told h);
+      count = w.count told h ∙ sym (ap (λ (x : Extraction). length x.part) is);
+    }
+
+all_reach : (content : Content) (range : ByteRange) (bytes : List ℕ) (behind : ℕ) → (content ≡ Single → behind ≡ first_slot content range) → behind ≡ first_slot content range + slot_count content range
+    → slots_reach content (behind - first_slot content range) ≤ body_reach content range bytes
+all_reach Single range bytes behind single is = omega arith
+all_reach (Framed frame) range bytes behind single is =
+    let e : behind - range.at / frame ≡ slot_count (Framed frame) range = omega (arith, is) in
+    omega (arith, ap (λ (n : ℕ). n * (frame + 40)) e)
+
+pub reach_all : (old l : Slots) (range : ByteRange) (before mid : ShelfState) (name : List ℕ) (output put : SinkState) (behind written : ℕ)
+    → IsWriting old l range before mid name output put behind written → behind ≡ first_slot old.content range + slot_count old.content range
+    → OnBody old before name (λ b. mid.given ≤ before.given + body_reach old.content range b.bytes)
+reach_all old l range before mid name output put behind written w is = λ told h.
+    omega (arith, w.given told h, all_reach old.content range (drop old.begin told) behind w.single is)
+
+-- what was written before this slot is a front of the part
+front_before : (old l : Slots) (range : ByteRange) (before mid : ShelfState) (name : List ℕ) (output put : SinkState) (slot written : ℕ)
+    → IsWriting old l range before mid name output put slot written → 1 ≤ range.count → first_slot old.content range ≤ slot → slot < first_slot old.content range + slot_count old.content range
+    → OnBody old before name (λ b. AppendsFront output.written put.written (extracted_body b range).part)
+front_before old l range before mid name output put slot written w some order within = λ told h.
+    let b : OpenBody = body_in old told in
+    let more = begins_part b range slot some (w.good told h) within in
+    let all : (extracted_body b range).part ≡ (parts_before b range slot ++ slot_part b range slot) ++ more.0 = more.1 ∙ ap (λ (l : List ℕ). l ++ more.0) (parts_next b range slot order) in
+    let gained : AppendsFront output.written put.written (parts_before b range slot) = whole_front output.written put.written (parts_before b range slot) (w.gained told h) in
+    subst (AppendsFront output.written put.written) (sym all)
+    (front_longer output.written put.written (parts_before b range slot ++ slot_part b range slot) more.0 (front_longer output.written put.written (parts_before b range slot) (slot_part b range slot) gained))
+
+fault_at : (old l : Slots) (range : ByteRange) (before mid : ShelfState) (name : List ℕ) (output put : SinkState) (slot written : ℕ) (fault : Fault)
+    → IsWriting old l range before mid name output put slot written → ((told : List ℕ) → Holds mid.files name told → unit_fault (slot_read (body_in l told) slot) ≡ Some fault)
+    → 1 ≤ range.count → slot < first_slot old.content range + slot_count old.content range
+    → OnBody old before name (λ b. FindsFault b range output put fault)
+fault_at old l range before mid name output put slot written fault w faulty some within = λ told h.
+    let b : OpenBody = body_in old told in
+    let wrong : unit_fault (slot_read b slot) ≡ Some fault = ap (λ (c : OpenBody). unit_fault (slot_read c slot)) (sym (body_same old l told w.same)) ∙ faulty told (holds_same before mid name told w.files h) in
+    let ends = fault_ends (slot_read b slot) fault wrong in
+    let is = ends_at b range slot some (w.good told h) within ends.0 in
+    let none : slot_part b range slot ≡ [] = nothing_in_range range (first_byte b.content slot) (unit_content (slot_read b slot)) ends.1 in
+    let part : parts_before b range slot ≡ (extracted_body b range).part =
+    sym (append-nil (parts_before b range slot)) ∙ ap (λ (l : List ℕ). parts_before b range slot ++ l) (sym none) ∙ sym (ap (λ (x : Extraction). x.part) is) in
+    record {
+      fault_is = ap (λ (x : Extraction). x.fault) is ∙ wrong;
+      gained = subst (Appends output.written put.written) part (w.gained told h);
+    }
+
+-- why the slot isn't taken is why the range isn't written
+pub range_fails : (old l : Slots) (range : ByteRange) (before mid after : ShelfState) (name : List ℕ) (output put : SinkState) (slot written : ℕ) (error : ExtractError)
+    → IsWriting old l range before mid name output put slot written → UnitFails (λ told. slot_read (body_in l told) slot) mid after name error
+    → 1 ≤ range.count → first_slot old.content range ≤ slot → slot < first_slot old.content range + slot_count old.content range
+    → RangeFails old range before after name output put error
+range_fails old l range before mid after name output put slot written (errors.Fault fault) w fails some order within = fault_at old l range before mid name output put slot written fault w fails.1 some within
+range_fails old l range before mid after name output put slot written (errors.Outside outsides.SourceFault) w fails some order within = absurd fails
+range_fails old l range before mid after name output put slot written (errors.Outside outsides.SinkFault) w fails some order within = absurd fails
+range_fails old l range before mid after name output put slot written (errors.Outside outsides.ShelfFault) w fails some order within =
+    (fails_from before mid after name w.files w.faults fails, front_before old l range before mid name output put slot written w some order within)
+range_fails old l range before mid after name output put slot written (errors.Outside outsides.EntropyFault) w fails some order within = absurd fails
+range_fails old l range before mid after name output put slot written (errors.Outside outsides.KeyringFault) w fails some order within = absurd fails
+range_fails old l range before mid after name output put slot written (errors.Outside outsides.InputTooLong) w fails some order within = absurd fails
+range_fails old l range before mid after name output put slot written errors.Memory w fails some order within = front_before old l range before mid name output put slot written w some order within
+
+-- the output fails at the slot's part
+pub put_fails : (old l new : Slots) (range : ByteRange) (before mid after : ShelfState) (name : List ℕ) (output put put2 : SinkState) (slot written : ℕ) (last : Bool) (error : ExtractError)
+    → IsWriting old l range before mid name output put slot written → TakesSlot l new mid after name slot last
+    → (error ≡ errors.Outside outsides.SinkFault) × Rose put.faults put2.faults × AppendsFront put.written put2.written (in_range range (first_byte l.content slot) new.unit.out)
+    → 1 ≤ range.count → first_slot old.content range ≤ slot → slot < first_slot old.content range + slot_count old.content range
+    → RangeFails old range before after name output put2 error
+put_fails old l new range before mid after name output put put2 slot written last error w takes fails some order within =
+    subst (RangeFails old range before after name output put2) (sym fails.0) (
+      omega (arith, fails.1, w.later),
+      λ told h.
+          let b : OpenBody = body_in old told in
+          let read = read_same old l told new.unit.out slot last w.same (takes.read told (holds_same before mid name told w.files h)) in
+          let here : in_range range (first_byte l.content slot) new.unit.out ≡ slot_part b range slot =
+          ap (λ (c : Content). in_range range (first_byte c slot) new.unit.out) w.same.content ∙ sym (part_is b range slot last new.unit.out read) in
+          let more = begins_part b range slot some (w.good told h) within in
+          let all : (extracted_body b range).part ≡ (parts_before b range slot ++ slot_part b range slot) ++ more.0 = more.1 ∙ ap (λ (l : List ℕ). l ++ more.0) (parts_next b range slot order) in
+          subst (AppendsFront output.written put2.written) (sym all)
+          (front_longer output.written put2.written (parts_before b range slot ++ slot_part b range slot) more.0
+          (front_after output.written put.written put2.written (parts_before b range slot) (slot_part b range slot) (w.gained told h) (subst (AppendsFront put.written put2.written) here fails.2))),
+    )
+
+-- what was put is the range's part of the slot, by where the slot's content begins
+pub step_of : (l new : Slots) (range : ByteRange) (put put2 : SinkState) (slot frame n : ℕ) → frame ≡ frame_length l.content → Appends put.written put2.written (in_range range (slot * frame) new.unit.out)
+    → n ≡ length (in_range range (slot * frame) new.unit.out)
+    → Appends put.written put2.written (in_range range (first_byte l.content slot) new.unit.out) × (n ≡ length (in_range range (first_byte l.content slot) new.unit.out))
+step_of l new range put put2 slot frame n is appends size = (
+  subst (λ (f : ℕ). Appends put.written put2.written (in_range range (slot * f) new.unit.out)) is appends,
+  size ∙ ap (λ (f : ℕ). length (in_range range (slot * f) new.unit.out)) is,
+)
+
+-- an error that was passed on
+pub passed_on : {T E : Type 0} (P : E → Type 0) (r : Result T E) (error : E) → IsErrAnd r (λ other. other ≡ error) → P error → IfErr r P
+passed_on P (Ok x) error is so = tt
+passed_on P (Err other) error is so = subst P (sym is) so
+
+-- an empty range is written by writing nothing
+pub writes_nothing : (b : OpenBody) (range : ByteRange) (output : SinkState) → range.count ≡ 0 → WritesRange b range output output 0
+writes_nothing b range output e = record {
+  fault = ap (λ (x : Extraction). x.fault) (of_nothing b range e);
+  gained = subst (Appends output.written output.written) (sym (ap (λ (x : Extraction). x.part) (of_nothing b range e))) (Appends-nil output.written);
+  count = sym (ap (λ (x : Extraction). length x.part) (of_nothing b range e));
+}

@@ -1,0 +1,95 @@
+use Rattle.std.proofs.Common.{◌≡◌, ℕ, Err, None, Some, refl, subst, sym}
+use Rattle.header_codec.specs.Header.{HeaderValue}
+use Rattle.extract_core.specs.Extract.{ExtractEnds, range_of}
+use Rattle.esdk_decrypt.specs.Decrypt.{asked_from}
+use Rattle.extract_core.proofs.Extracting.{bears_locked, extract_ends, extract_given, extracts_all, header_given, passed_given, stays_locked, unless, without_header}
+use Rattle.extract_core.proofs.Writing.{passed_on}
+use Rattle.extract_core.proofs.extraction.extract.Goals as goal
+
+pub returns-in_err-header-clause-ends : goal.returns-in_err-header-clause-ends
+returns-in_err-header-clause-ends g c =
+    let m = g.M.Manager.state c.args.manager.now in
+    passed_on _ c.from_residual.result c.in_err-header.field-0.0 c.from_residual.ensures.1
+    (without_header (asked_from m m c.args.now c.args.settings c.args.given.now) (range_of c.args.at c.args.count) (g.F.Shelf.state c.args.shelf.now) (g.F.Shelf.state c.header_in.new.shelf) c.args.name.now
+    (g.O.Sink.state c.args.output.now) _ c.in_err-header.field-0.0 refl c.in_err-header.ensures.none)
+
+pub returns-in_err-header-clause-given : goal.returns-in_err-header-clause-given
+returns-in_err-header-clause-given g c =
+    passed_given HeaderValue ℕ c.args.settings (range_of c.args.at c.args.count) (g.F.Shelf.state c.args.shelf.now) (g.F.Shelf.state c.header_in.new.shelf) c.args.name.now c.in_err-header.field-0.0 c.from_residual.result
+    c.from_residual.ensures.1 c.in_err-header.ensures.given
+
+pub returns-in_err-header-clause-bears : goal.returns-in_err-header-clause-bears
+returns-in_err-header-clause-bears g c = (None, λ lines bore. bore)
+
+pub returns-in-Err-clause-ends : goal.returns-in-Err-clause-ends
+returns-in-Err-clause-ends g c =
+    let old = g.M.Manager.state c.args.manager.now in
+    let new = g.M.Manager.state c.unlock.new.manager in
+    subst (λ e. ExtractEnds (asked_from old new c.args.now c.args.settings c.args.given.now) (range_of c.args.at c.args.count) (g.F.Shelf.state c.args.shelf.now) (g.F.Shelf.state c.header_in.new.shelf) c.args.name.now
+    (g.O.Sink.state c.args.output.now) (g.O.Sink.state c.args.output.now) (c.args.output.now ≡ c.args.output.now) e) (sym c.locked_as.ensures)
+    (stays_locked old new c.args.now c.args.settings c.args.given.now (range_of c.args.at c.args.count) (g.F.Shelf.state c.args.shelf.now) (g.F.Shelf.state c.header_in.new.shelf) c.args.name.now
+    (g.O.Sink.state c.args.output.now) _ c.in_ok-header.header c.in-Err.error refl c.in_ok-header.ensures.header c.in-Err.ensures.cause)
+
+pub returns-in-Err-clause-bears : goal.returns-in-Err-clause-bears
+returns-in-Err-clause-bears g c =
+    bears_locked (g.M.Manager.state c.args.manager.now) (g.M.Manager.state c.unlock.new.manager) c.args.now c.args.given.now c.in_ok-header.header c.in-Err.error c.in-Err.ensures.cause
+
+pub returns-in-Err-clause-given : goal.returns-in-Err-clause-given
+returns-in-Err-clause-given g c =
+    unless {T = ℕ} (Err c.locked_as.result) _ (header_given c.args.settings (range_of c.args.at c.args.count) (g.F.Shelf.state c.args.shelf.now) (g.F.Shelf.state c.header_in.new.shelf) c.args.name.now c.in_ok-header.header c.in_ok-header.ensures.header)
+
+pub returns-in_err-slots-clause-bears : goal.returns-in_err-slots-clause-bears
+returns-in_err-slots-clause-bears g c = (Some c.in-Ok.ensures.unlocked.materials.served, c.in-Ok.ensures.unlocked.answered.bears)
+
+-- the slots are read
+
+pub returns-clause-done : goal.returns-clause-done
+returns-clause-done g c =
+    extracts_all (g.M.Manager.state c.args.manager.now) (g.M.Manager.state c.unlock.new.manager) c.args.now c.args.settings c.args.given.now (g.F.Shelf.state c.args.shelf.now) (g.F.Shelf.state c.header_in.new.shelf) c.args.name.now c.in_ok-slots.slots
+    (range_of c.args.at c.args.count) (g.O.Sink.state c.args.output.now) (g.O.Sink.state c.write_range.new.output) c.write_range.result
+    (record {
+      h = c.in_ok-header.header;
+      opened = c.in-Ok.opened;
+      begin = c.body_begin-begin.result;
+      has = c.in_ok-header.ensures.header;
+      files = c.in_ok-header.ensures.files;
+      unlocked = c.in-Ok.ensures.unlocked;
+      slots = c.in_ok-slots.ensures;
+      at = c.body_begin-begin.ensures.value;
+    })
+    c.write_range.ensures.done
+
+pub returns-clause-ends : goal.returns-clause-ends
+returns-clause-ends g c =
+    extract_ends (g.M.Manager.state c.args.manager.now) (g.M.Manager.state c.unlock.new.manager) c.args.now c.args.settings c.args.given.now (g.F.Shelf.state c.args.shelf.now) (g.F.Shelf.state c.header_in.new.shelf) (g.F.Shelf.state c.write_range.new.shelf)
+    c.args.name.now c.in_ok-slots.slots (range_of c.args.at c.args.count) (g.O.Sink.state c.args.output.now) (g.O.Sink.state c.write_range.new.output) _ c.write_range.result
+    (record {
+      h = c.in_ok-header.header;
+      opened = c.in-Ok.opened;
+      begin = c.body_begin-begin.result;
+      has = c.in_ok-header.ensures.header;
+      files = c.in_ok-header.ensures.files;
+      unlocked = c.in-Ok.ensures.unlocked;
+      slots = c.in_ok-slots.ensures;
+      at = c.body_begin-begin.ensures.value;
+    })
+    c.write_range.ensures.fails
+
+pub returns-clause-given : goal.returns-clause-given
+returns-clause-given g c =
+    extract_given (g.M.Manager.state c.args.manager.now) (g.M.Manager.state c.unlock.new.manager) c.args.now c.args.settings c.args.given.now (g.F.Shelf.state c.args.shelf.now) (g.F.Shelf.state c.header_in.new.shelf) (g.F.Shelf.state c.write_range.new.shelf)
+    c.args.name.now c.in_ok-slots.slots (range_of c.args.at c.args.count) c.write_range.result
+    (record {
+      h = c.in_ok-header.header;
+      opened = c.in-Ok.opened;
+      begin = c.body_begin-begin.result;
+      has = c.in_ok-header.ensures.header;
+      files = c.in_ok-header.ensures.files;
+      unlocked = c.in-Ok.ensures.unlocked;
+      slots = c.in_ok-slots.ensures;
+      at = c.body_begin-begin.ensures.value;
+    })
+    c.write_range.ensures.given
+
+pub returns-clause-bears : goal.returns-clause-bears
+returns-clause-bears g c = (Some c.in-Ok.ensures.unlocked.materials.served, c.in-Ok.ensures.unlocked.answered.bears)

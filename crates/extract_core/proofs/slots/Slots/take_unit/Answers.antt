@@ -1,0 +1,20 @@
+use Rattle.extract_core.proofs.Taking.{closed_answer, opened_answer, reads_on, refused_head}
+use Rattle.extract_core.proofs.slots.Slots.take_unit.Goals as goal
+
+pub returns-in-Refused-clause-fails : goal.returns-in-Refused-clause-fails
+returns-in-Refused-clause-fails g c =
+    refused_head c.args.self.now c.bytes.self _ _ c.args.name.now c.args.at c.args.want c.in-Refused.fault c.bytes.invariant c.in-Refused.ensures
+
+pub returns-in_err-take_bytes-in-Bytes-clause-reads :
+    goal.returns-in_err-take_bytes-in-Bytes-clause-reads
+returns-in_err-take_bytes-in-Bytes-clause-reads g c =
+    reads_on c.args.self.now c.bytes.self c.take_bytes.new.self _ _ _ c.args.name.now c.args.at c.args.want c.in-Bytes.end c.bytes.invariant c.take_bytes.ensures.on c.in-Bytes.ensures
+
+pub returns-in-Nothing-clause-unit : goal.returns-in-Nothing-clause-unit
+returns-in-Nothing-clause-unit g c =
+    opened_answer c.args.self.now c.bytes.self c.open.new.self _ _ c.args.name.now c.args.at c.args.want c.in-Nothing.head c.open.result c.bytes.invariant c.in-Nothing.ensures
+    c.open.ensures.opens c.open.ensures.last c.open.ensures.empty
+
+pub returns-in-Nothing-clause-fails : goal.returns-in-Nothing-clause-fails
+returns-in-Nothing-clause-fails g c =
+    closed_answer c.args.self.now c.bytes.self _ _ c.args.name.now c.args.at c.args.want c.in-Nothing.head c.open.result c.bytes.invariant c.in-Nothing.ensures c.open.ensures.fault

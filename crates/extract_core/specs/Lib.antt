@@ -1,0 +1,5 @@
+pub mod Extracted
+pub mod ReadAhead
+pub mod Slots
+pub mod Extract
+pub mod Laws

@@ -1,0 +1,274 @@
+-- What is so while slots are read and opened one after another. Standard: AWS Encryption SDK
+-- Specification, message body.
+use Rattle.std.specs.Prelude.{◌≡◌, ℕ, ◌+◌, ◌-◌, ◌*◌, ◌^◌, ◌<◌, ◌≤◌, max, List, [], ◌++◌, length, drop, Bool, true, false, ◌==◌, if◌then◌else◌, Option, Some, None, ⊤}
+use Rattle.std.specs.Io.KnownBytes.{Appends}
+use Rattle.esdk_fields.specs.Counts.{Rose}
+use Rattle.esdk_fields.specs.declared.contents.Content.{Content}
+use Rattle.esdk_fields.specs.declared.contents.Content.TheVariants.{Single, Framed}
+use Rattle.esdk_fields.specs.declared.faults.Fault.{Fault}
+use Rattle.esdk_fields.specs.declared.faults.Fault.TheVariants.{Truncated}
+use Rattle.esdk_fields.specs.declared.refusals.Outside.TheVariants as outsides
+use Rattle.esdk_fields.specs.Place.{Place, start}
+use Rattle.esdk_fields.specs.Reading.{Reading, Read, Wanting}
+use Rattle.esdk_base.specs.Shelf.{Holds}
+use Rattle.esdk_base.specs.Sink.{AppendsFront}
+use Rattle.esdk_base.specs.Streams.{FailsToRead, ShelfState, SinkState}
+use Rattle.frame_codec.specs.declared.kinds.UnitKind.{UnitKind}
+use Rattle.frame_codec.specs.declared.kinds.UnitKind.TheVariants.{Regular, Final}
+use Rattle.frame_codec.specs.declared.kinds.UnitKind.TheVariants as kinds
+use Rattle.frame_codec.specs.declared.unit_heads.Head.TheVariants as heads
+use Rattle.frame_codec.specs.declared.unit_heads.UnitHead.{UnitHead}
+use Rattle.frame_codec.specs.InPlace.{unit_size}
+use Rattle.frame_codec.specs.Unit.{Piece, More, Last, unit}
+use Rattle.frame_codec.specs.UnitHead.{head_of, longest_block}
+use Rattle.extract_core.specs.declared.errors.ExtractError.{ExtractError}
+use Rattle.extract_core.specs.declared.errors.ExtractError.TheVariants as errors
+use Rattle.extract_core.specs.declared.slots.Needs.{Needs}
+use Rattle.extract_core.specs.declared.slots.Needs.TheVariants as needs
+use Rattle.extract_core.specs.declared.slots.Slots.{Slots}
+use Rattle.header_codec.specs.Header.{IsContent, frame_length}
+use Rattle.message_format.specs.declared.unlocking.Unlocked.{Unlocked}
+use Rattle.extract_core.specs.Extracted.{ByteRange, OpenBody, extracted_body, last_slot, slot_count, slot_read, slot_width, unit_fault}
+
+-- ---- the body
+
+-- the body of these bytes, which the slots are opened of
+abbrev pub body_of : Slots → List ℕ → OpenBody
+body_of s bytes = record {
+  content = s.content;
+  max_unit = s.max_unit;
+  key = s.key;
+  id = s.message_id;
+  bytes = bytes;
+}
+
+-- the body in a file of these bytes
+abbrev pub body_in : Slots → List ℕ → OpenBody
+body_in s told = body_of s (drop s.begin told)
+
+-- It is the same body of the same message.
+pub record SameBody (old new : Slots) : Type 0 where
+  pub key : new.key ≡ old.key
+  pub id : new.message_id ≡ old.message_id
+  pub content : new.content ≡ old.content
+  pub max_unit : new.max_unit ≡ old.max_unit
+  pub begin : new.begin ≡ old.begin
+
+-- ---- one unit
+
+-- what is known of the unit of this number that begins with these bytes
+abbrev pub known : Slots → ℕ → List ℕ → Rattle.frame_codec.specs.declared.unit_heads.Head.Head
+known s want bytes = head_of s.content want s.max_unit bytes
+
+-- what is read of it
+abbrev pub unit_read : Slots → ℕ → List ℕ → Reading Piece
+unit_read s want bytes = unit s.content s.max_unit s.key s.message_id want (start bytes)
+
+-- No byte behind the unit is held.
+abbrev pub IsWithin : Slots → ℕ → List ℕ → Type 0
+IsWithin s want held = (head : UnitHead) → known s want held ≡ heads.Unit head
+    → length held ≤ unit_size head
+
+-- so many bytes of a unit may be asked for
+abbrev pub IsRoom : Content → ℕ → Type 0
+IsRoom Single end = end ≤ 2 ^ 37
+IsRoom (Framed frame) end = end ≤ frame + 40
+
+-- More bytes are needed, up to this end: the unit isn't whole, and with no more than these bytes
+-- none behind it is held.
+pub record NeedsBytes (s : Slots) (want end : ℕ) : Type 0 where
+  pub more : length s.unit.held < end
+  pub few : end ≤ 2 ^ 37
+  pub room : IsRoom s.content end
+  pub wanting : unit_read s want s.unit.held ≡ Wanting
+  pub within : (bytes : List ℕ) → length (s.unit.held ++ bytes) ≤ end
+      → IsWithin s want (s.unit.held ++ bytes)
+
+-- The unit behind this head is there, and nothing behind it.
+pub record IsThere (s : Slots) (want : ℕ) (head : UnitHead) : Type 0 where
+  pub known : known s want s.unit.held ≡ heads.Unit head
+  pub whole : length s.unit.held ≡ unit_size head
+  pub short : head.length ≤ longest_block
+
+-- what the open unit needs
+abbrev pub NeedsAre : Slots → ℕ → Needs → Type 0
+NeedsAre s want (needs.Refused fault) = known s want s.unit.held ≡ heads.Refused fault
+NeedsAre s want (needs.Bytes end) = NeedsBytes s want end
+NeedsAre s want (needs.Nothing head) = IsThere s want head
+
+-- ---- its bytes
+
+-- how many bytes of the file were read, of those that are held or read ahead
+abbrev pub read_count : Slots → ℕ
+read_count s = length s.unit.held + length s.ahead
+
+-- The bytes held, and those read ahead behind them, stand in the file from that offset on.
+pub record StandsAt (s : Slots) (told : List ℕ) (at : ℕ) : Type 0 where
+  pub front : drop at told ≡ (s.unit.held ++ s.ahead) ++ drop (at + read_count s) told
+
+-- More of the file may have been read, up to a slot's width or to this end of the unit, and what is
+-- held and read ahead still stands there.
+pub record TakesOn (old new : Slots) (before after : ShelfState) (name : List ℕ) (at end : ℕ)
+    : Type 0 where
+  pub same : SameBody old new
+  pub files : after.files ≡ before.files
+  pub later : before.faults ≤ after.faults
+  pub on : read_count old ≤ read_count new
+  pub given : after.given ≤ before.given + (read_count new - read_count old)
+  pub reach : read_count new ≤ max (read_count old) (max end (slot_width old.content))
+  pub stands : (told : List ℕ) → Holds before.files name told → StandsAt old told at
+      → StandsAt new told at
+
+-- More bytes are held, up to this end at the most, and no read failed.
+pub record TakesMore (old new : Slots) (before after : ShelfState) (end : ℕ) : Type 0 where
+  pub bytes : List ℕ
+  pub grown : new.unit.held ≡ old.unit.held ++ bytes
+  pub some : 1 ≤ length bytes
+  pub most : length new.unit.held ≤ end
+  pub faults : after.faults ≡ before.faults
+
+-- Why no more bytes are held: the file ends behind those, or a read failed. Want of memory is free.
+abbrev pub TakesNone : Slots → ShelfState → ShelfState → List ℕ → ℕ → ExtractError → Type 0
+TakesNone old before after name at (errors.Fault fault) = (fault ≡ Truncated)
+    × (after.faults ≡ before.faults)
+    × ((told : List ℕ) → Holds before.files name told → StandsAt old told at
+    → drop at told ≡ old.unit.held)
+TakesNone old before after name at (errors.Outside outsides.ShelfFault) =
+    FailsToRead before after name
+TakesNone old before after name at (errors.Outside outside) = ⊥
+TakesNone old before after name at errors.Memory = ⊤
+
+-- ---- its content
+
+abbrev pub is_last : UnitKind → Bool
+is_last Regular = false
+is_last Final = true
+is_last kinds.Single = true
+
+-- a content that others follow, or the last
+abbrev pub piece_at : Bool → List ℕ → Piece
+piece_at false content = More content
+piece_at true content = Last content
+
+-- What is read is this content.
+pub record IsRead (r : Reading Piece) (last : Bool) (content : List ℕ) : Type 0 where
+  pub next : Place
+  pub is : r ≡ Read (piece_at last content) next
+
+-- A content has at most the frame length, and a single block is the last unit.
+pub record IsSized (content : Content) (last : Bool) (out : List ℕ) : Type 0 where
+  pub few : length out ≤ 2 ^ 37
+  pub frame : (frame : ℕ) → content ≡ Framed frame → length out ≤ frame
+  pub single : content ≡ Single → last ≡ true
+
+-- how many bytes are read for one unit at the most
+abbrev pub unit_reach : Content → List ℕ → ℕ
+unit_reach Single bytes = length bytes
+unit_reach (Framed frame) bytes = frame + 40
+
+-- The unit of this number stands at that offset of the file, and its content was opened.
+pub record TakesUnit (old new : Slots) (before after : ShelfState) (name : List ℕ) (at want : ℕ)
+    (last : Bool) : Type 0 where
+  pub read : (told : List ℕ) → Holds before.files name told
+      → IsRead (unit_read old want (drop at told)) last new.unit.out
+  pub empty : new.unit.held ≡ []
+  pub faults : after.faults ≡ before.faults
+  pub sized : IsSized old.content last new.unit.out
+
+-- Why no unit is opened: what is read there isn't a good unit, and has this fault; or a read failed.
+-- Want of memory is free.
+abbrev pub UnitFails : (List ℕ → Reading Piece) → ShelfState → ShelfState → List ℕ → ExtractError
+    → Type 0
+UnitFails read before after name (errors.Fault fault) = (after.faults ≡ before.faults)
+    × ((told : List ℕ) → Holds before.files name told → unit_fault (read told) ≡ Some fault)
+UnitFails read before after name (errors.Outside outsides.ShelfFault) =
+    FailsToRead before after name
+UnitFails read before after name (errors.Outside outside) = ⊥
+UnitFails read before after name errors.Memory = ⊤
+
+-- What reading one unit at that offset leaves, however it ends.
+pub record ReadsUnit (old new : Slots) (before after : ShelfState) (name : List ℕ) (at : ℕ)
+    : Type 0 where
+  pub same : SameBody old new
+  pub files : after.files ≡ before.files
+  pub later : before.faults ≤ after.faults
+  pub given : (told : List ℕ) → Holds before.files name told
+      → after.given ≤ before.given + unit_reach old.content (drop at told)
+
+-- ---- the slots of a range
+
+-- the number of the first byte of a slot's content
+abbrev pub first_byte : Content → ℕ → ℕ
+first_byte content slot = slot * frame_length content
+
+-- The slot stands in the file behind the body's begin, and its content was opened.
+pub record TakesSlot (old new : Slots) (before after : ShelfState) (name : List ℕ) (slot : ℕ)
+    (last : Bool) : Type 0 where
+  pub numbered : slot ≤ last_slot
+  pub read : (told : List ℕ) → Holds before.files name told
+      → IsRead (slot_read (body_of old (drop old.begin told)) slot) last new.unit.out
+  pub empty : new.unit.held ≡ []
+  pub faults : after.faults ≡ before.faults
+  pub sized : IsSized old.content last new.unit.out
+
+-- what reading one slot leaves, however it ends
+pub record ReadsSlot (old new : Slots) (before after : ShelfState) (name : List ℕ) : Type 0 where
+  pub same : SameBody old new
+  pub files : after.files ≡ before.files
+  pub later : before.faults ≤ after.faults
+  pub given : (told : List ℕ) → Holds before.files name told
+      → after.given ≤ before.given + unit_reach old.content (drop old.begin told)
+
+-- how many bytes are read of a body for a range at the most
+abbrev pub body_reach : Content → ByteRange → List ℕ → ℕ
+body_reach Single range bytes = length bytes
+body_reach (Framed frame) range bytes = slot_count (Framed frame) range * (frame + 40)
+
+-- The part of the range was written, and so many bytes are in it.
+pub record WritesRange (b : OpenBody) (range : ByteRange) (output put : SinkState) (written : ℕ)
+    : Type 0 where
+  pub fault : (extracted_body b range).fault ≡ None
+  pub gained : Appends output.written put.written (extracted_body b range).part
+  pub count : written ≡ length (extracted_body b range).part
+
+-- The part of the range that stands before a fault was written.
+pub record FindsFault (b : OpenBody) (range : ByteRange) (output put : SinkState) (fault : Fault)
+    : Type 0 where
+  pub fault_is : (extracted_body b range).fault ≡ Some fault
+  pub gained : Appends output.written put.written (extracted_body b range).part
+
+-- where the shelf tells the file, this is so of the body in it
+abbrev pub OnBody : Slots → ShelfState → List ℕ → (OpenBody → Type 0) → Type 0
+OnBody s before name so = (told : List ℕ) → Holds before.files name told → so (body_in s told)
+
+-- how many bytes are read of it for a range at the most; none where that is empty
+abbrev pub range_reach : Content → ByteRange → List ℕ → ℕ
+range_reach content range bytes =
+    if range.count == 0 then 0 else body_reach content range bytes
+
+-- The slots are those of the body that begins there behind a header that is unlocked; none is read.
+pub record AreSlotsOf (opened : Unlocked) (begin : ℕ) (max_unit : Option ℕ) (s : Slots)
+    : Type 0 where
+  pub key : s.key ≡ opened.key
+  pub id : s.message_id ≡ opened.lock.message_id
+  pub content : s.content ≡ opened.lock.content
+  pub limit : s.max_unit ≡ max_unit
+  pub first : s.begin ≡ begin
+  pub none : s.unit.held ≡ []
+  pub is_content : IsContent s.content
+
+-- Why the range isn't written to its end, and what was: its part before the slot that has a fault,
+-- or a front of its part. Want of memory is free.
+abbrev pub RangeFails : Slots → ByteRange → ShelfState → ShelfState → List ℕ → SinkState
+    → SinkState → ExtractError → Type 0
+RangeFails s range before after name output put (errors.Fault fault) =
+    OnBody s before name (λ b. FindsFault b range output put fault)
+RangeFails s range before after name output put (errors.Outside outsides.ShelfFault) =
+    FailsToRead before after name
+    × OnBody s before name (λ b. AppendsFront output.written put.written (extracted_body b range).part)
+RangeFails s range before after name output put (errors.Outside outsides.SinkFault) =
+    Rose output.faults put.faults
+    × OnBody s before name (λ b. AppendsFront output.written put.written (extracted_body b range).part)
+RangeFails s range before after name output put (errors.Outside outside) = ⊥
+RangeFails s range before after name output put errors.Memory =
+    OnBody s before name (λ b. AppendsFront output.written put.written (extracted_body b range).part)
