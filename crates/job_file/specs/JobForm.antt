@@ -61,13 +61,14 @@ abbrev pub length_of_items : Items → ℕ
 length_of_items no_items = 0
 length_of_items (item d ds) = length_of_items ds + 1
 
--- the jobs, of which there are 1 to 1,000
-abbrev pub some_jobs : Items → Option Items
-some_jobs ds =
+-- items, of which there are 1 to 1,000
+abbrev pub some_items : Items → Option Items
+some_items ds =
     if nat_le 1 (length_of_items ds) && nat_le (length_of_items ds) 1000 then Some ds else None
 
-unfoldable pub jobs_at : Data → Option Items
-jobs_at d = get (codes "jobs") d >>= as_array >>= some_jobs
+-- the list of 1 to 1,000 that the member of this name is
+unfoldable pub items_at : List ℕ → Data → Option Items
+items_at name d = get name d >>= as_array >>= some_items
 
 -- What a file says of itself, and its jobs, of which nothing is read yet.
 pub record Head : Type 0 where
@@ -89,7 +90,7 @@ head_of d = do
   width ← number_or 1 64 4 (codes "width") d
   piece ← number_or 1 65536 65536 (codes "piece") d
   cache ← cache_at d
-  jobs ← jobs_at d
+  jobs ← items_at (codes "jobs") d
   Some (record { keyring = keyring; width = width; piece = piece; cache = cache; jobs = jobs })
 
 -- ---- a job's members

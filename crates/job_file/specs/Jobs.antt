@@ -4,7 +4,7 @@ use Rattle.std.specs.Prelude.{Ok, Err, if◌then◌else◌}
 use Rattle.esdk_fields.specs.declared.refusals.FileRefusal.{FileRefusal}
 use Rattle.esdk_fields.specs.declared.refusals.FileRefusal.TheVariants.{NotJson, BadShape}
 use Rattle.esdk_fields.specs.declared.refusals.FileRefusal.TheVariants.{NamesClash}
-use Rattle.serde_json.specs.Data.{Items, no_items, item}
+use Rattle.serde_json.specs.Data.{Data, Items, no_items, item}
 use Rattle.context_codec.specs.KeySet.{has}
 use Rattle.keyring_file.specs.JsonValues.{value_of}
 use Rattle.job_file.specs.declared.job.Job.{Job}
@@ -27,13 +27,19 @@ abbrev pub or_refuse : {A : Type 0} → FileRefusal → Option A → Result A Fi
 or_refuse refusal (Some x) = Ok x
 or_refuse refusal None = Err refusal
 
--- K2 at the first job that has none of the two forms, where the first of these has this number
-unfoldable pub jobs_from : (number : ℕ) → Items → Result (List Job) FileRefusal
-jobs_from number no_items = Ok []
-jobs_from number (item d ds) = do
-  job ← or_refuse (BadShape number) (job_of d)
-  jobs ← jobs_from (number + 1) ds
-  Ok (job ∷ jobs)
+-- What each of these items is read as; K2 at the first that has no form that is read, where the
+-- first of all has this number.
+unfoldable pub each_from : {A : Type 0} → (Data → Option A) → (number : ℕ) → Items
+    → Result (List A) FileRefusal
+each_from read number no_items = Ok []
+each_from read number (item d ds) = do
+  one ← or_refuse (BadShape number) (read d)
+  others ← each_from read (number + 1) ds
+  Ok (one ∷ others)
+
+-- the jobs, of the two forms
+abbrev pub jobs_from : (number : ℕ) → Items → Result (List Job) FileRefusal
+jobs_from number items = each_from job_of number items
 
 -- The first name, in the order of the jobs, that a job is to write although it is one of these
 -- names, or an earlier job is to write it.

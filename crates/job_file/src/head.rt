@@ -3,7 +3,7 @@
 ghost use Rattle.std.specs.Prelude.{◌≡◌, ◌≤◌, ◌<◌, option_map, IfSome, length};
 ghost use Rattle.serde_json.specs.View.{view, items_view};
 ghost use Rattle.cmm_caching.specs.Limits.{AreLimits};
-ghost use Rattle.job_file.specs.JobForm.{limits_of, cache_at, some_jobs, jobs_at, head_of};
+ghost use Rattle.job_file.specs.JobForm.{limits_of, cache_at, some_items, items_at, head_of};
 ghost use Rattle.job_file.specs.Found.{IsHead, head_value};
 
 use crate::numbers::{number_from, number_or};
@@ -11,8 +11,8 @@ use cmm_caching::CacheLimits;
 use keyring_file::json_values::{member_count, present, text_at};
 use serde_json::Value;
 
-/// The most jobs that a file may have.
-const MOST_JOBS: usize = 1000;
+/// The most items that a file may list.
+const MOST_ITEMS: usize = 1000;
 
 /// What a file says of itself, and its jobs, of which nothing is read yet.
 #[derive(Drop)]
@@ -40,7 +40,7 @@ pub(crate) fn head_of(file: &Value) -> Option<Head<'_>>
     let width = number_or(file, "width", 1, 64, 4)?;
     let piece = number_or(file, "piece", 1, 65_536, 65_536)?;
     let cache = cache_at(file)?;
-    let jobs = jobs_at(file)?;
+    let jobs = items_at(file, "jobs")?;
     Some(Head {
         keyring,
         width,
@@ -78,26 +78,27 @@ fn limits_of(cache: &Value) -> Option<CacheLimits>
     CacheLimits::new(capacity as u32, age, messages, bytes)
 }
 
-/// The jobs, where the member is a list of 1 to 1,000.
-#[tactic(auto, unfolding(crate::specs::JobForm::jobs_at))]
-fn jobs_at(file: &Value) -> Option<&[Value]>
-    ensures value { option_map (λ jobs. items_view jobs.now) result ≡ jobs_at (view file.now) }
-    ensures some { IfSome result (λ jobs. 1 ≤ length jobs.now) }
-    ensures few { IfSome result (λ jobs. length jobs.now ≤ 1000) }
+/// The items of the member of this name, where it is a list of 1 to 1,000.
+#[tactic(auto, unfolding(crate::specs::JobForm::items_at))]
+pub(crate) fn items_at<'a>(file: &'a Value, name: &str) -> Option<&'a [Value]>
+    ensures value { option_map (λ items. items_view items.now) result
+        ≡ items_at name.now (view file.now) }
+    ensures some { IfSome result (λ items. 1 ≤ length items.now) }
+    ensures few { IfSome result (λ items. length items.now ≤ 1000) }
 {
-    some_jobs(file.get("jobs")?.as_array()?.as_slice())
+    some_items(file.get(name)?.as_array()?.as_slice())
 }
 
-/// The jobs, where there are 1 to 1,000.
+/// The items, where there are 1 to 1,000.
 #[tactic(auto, using(crate::proofs::Counted::items_counted))]
-fn some_jobs(jobs: &[Value]) -> Option<&[Value]>
-    ensures value { option_map (λ jobs. items_view jobs.now) result ≡ some_jobs
-        (items_view jobs.now) }
-    ensures some { IfSome result (λ jobs. 1 ≤ length jobs.now) }
-    ensures few { IfSome result (λ jobs. length jobs.now ≤ 1000) }
+fn some_items(items: &[Value]) -> Option<&[Value]>
+    ensures value { option_map (λ items. items_view items.now) result ≡ some_items
+        (items_view items.now) }
+    ensures some { IfSome result (λ items. 1 ≤ length items.now) }
+    ensures few { IfSome result (λ items. length items.now ≤ 1000) }
 {
-    if 1 <= jobs.len() && jobs.len() <= MOST_JOBS {
-        Some(jobs)
+    if 1 <= items.len() && items.len() <= MOST_ITEMS {
+        Some(items)
     } else {
         None
     }

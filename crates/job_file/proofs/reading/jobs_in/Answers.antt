@@ -4,13 +4,14 @@ use Rattle.std.proofs.lemmas.Grind.{common_steps}
 use Rattle.std.proofs.lemmas.List.Elements.{All-push}
 use Rattle.serde_json.specs.View.{items_view}
 use Rattle.job_file.specs.JobFile.{IsWork}
+use Rattle.job_file.specs.JobForm.{job_of}
 use Rattle.job_file.specs.Jobs.{jobs_from}
-use Rattle.job_file.proofs.Rows.{behind, job_fails, job_more, jobs_done}
+use Rattle.job_file.proofs.Rows.{behind, all_done, one_fails, one_more}
 use Rattle.job_file.proofs.reading.jobs_in.Goals as goal
 
 pub returns-in_default-clause-value : goal.returns-in_default-clause-value
 returns-in_default-clause-value c =
-    c.loop-value.invariant.whole ∙ job_fails c.args.values.now c.loop-value.value-index c.value-item.result (omega (arith, c.loop-value-test.true)) c.value-item.is c.loop-value.jobs.items
+    c.loop-value.invariant.whole ∙ one_fails c.args.values.now c.loop-value.value-index c.value-item.result (omega (arith, c.loop-value-test.true)) c.value-item.is job_of c.loop-value.jobs.items
     (c.loop-value.number + 1) (search rules)
 
 pub loop-value-preserved : goal.loop-value-preserved
@@ -18,10 +19,10 @@ loop-value-preserved c = record {
   number = ap (λ n. n + 1) c.loop-value.invariant.number;
   count = grind (arith, common_steps);
   fit = subst (All (λ job. IsWork job.work)) (sym c.in_ok-push.ensures.items) (All-push (λ job. IsWork job.work) c.loop-value.jobs.items c.in-Some.job c.loop-value.invariant.fit (search rules));
-  whole = c.loop-value.invariant.whole ∙ job_more c.args.values.now c.loop-value.value-index c.value-item.result (omega (arith, c.loop-value-test.true)) c.value-item.is c.loop-value.jobs.items
+  whole = c.loop-value.invariant.whole ∙ one_more c.args.values.now c.loop-value.value-index c.value-item.result (omega (arith, c.loop-value-test.true)) c.value-item.is job_of c.loop-value.jobs.items
       c.in-Some.job (c.loop-value.number + 1) (search rules) ∙ ap (λ front. behind front (jobs_from (c.loop-value.number + 1 + 1) (items_view (drop (c.loop-value.value-index + 1) c.args.values.now)))) (sym c.in_ok-push.ensures.items);
 }
 
 pub returns-clause-value : goal.returns-clause-value
 returns-clause-value c =
-    c.loop-value.invariant.whole ∙ jobs_done c.args.values.now c.loop-value.value-index c.loop-value.jobs.items (c.loop-value.number + 1) (omega (arith, c.loop-value-test.false))
+    c.loop-value.invariant.whole ∙ all_done job_of c.args.values.now c.loop-value.value-index c.loop-value.jobs.items (c.loop-value.number + 1) (omega (arith, c.loop-value-test.false))

@@ -1,0 +1,11 @@
+pub mod Numbered
+pub mod Trying
+pub mod Told
+pub mod Unlocked
+pub mod Needed
+pub mod Deleting
+pub mod Rows
+pub mod Taking
+pub mod MessageFiles
+pub mod Each
+pub mod Held
