@@ -1,0 +1,11 @@
+pub mod AnyCut
+pub mod Groups
+pub mod Outlooks
+pub mod Outputs
+pub mod Reachable
+pub mod ReadBack
+pub mod Readers
+pub mod Reading
+pub mod Sources
+pub mod Stepping
+pub mod Taking

@@ -1,0 +1,16 @@
+use Rattle.std.proofs.Common.{◌≡◌}
+use Rattle.armour_core.specs.ReaderOutlook.{KeepsOutlook, Outlasts, turns_left}
+use Rattle.armour_core.proofs.source.UnarmouredSource.await_some.Given as goal
+
+abbrev pub invariant-loop-self : goal.invariant-loop-self
+invariant-loop-self g l = record {
+  same : l.self.text.ghost_name ≡ l.fn.self.text.ghost_name;
+  outlook : KeepsOutlook (g.S.Source.state l.fn.self.text.now) (g.S.Source.state l.self.text.now) l.fn.self.reader l.self.reader;
+  outlasts : Outlasts (g.S.Source.state l.fn.self.text.now) (g.S.Source.state l.self.text.now) l.fn.self.reader l.self.reader l.fn.self.faults l.self.faults;
+  lasts : g.S.Source.lasts l.fn.self.text.now l.self.text.now;
+  given : l.self.given ≡ l.fn.self.given;
+  faults : l.self.faults ≡ l.fn.self.faults;
+}
+
+abbrev pub decreases-loop-self : goal.decreases-loop-self
+decreases-loop-self g l = turns_left l.self.reader

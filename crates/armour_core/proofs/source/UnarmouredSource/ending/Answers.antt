@@ -1,0 +1,8 @@
+use Rattle.std.proofs.Common.{◌≡◌, sym, subst}
+use Rattle.std.specs.Prelude.{IfSome}
+use Rattle.armour_core.proofs.Sources.{seen_told}
+use Rattle.armour_core.proofs.source.UnarmouredSource.ending.Goals as goal
+
+pub returns-clause-told : goal.returns-clause-told
+returns-clause-told g c = λ told is.
+    subst (λ end. IfSome end (λ e. e ≡ told)) (sym c.ending.ensures) (seen_told (g.S.Source.state c.args.self.now.text.now) c.args.self.now.reader told is)

@@ -1,0 +1,13 @@
+pub mod ArmourText
+pub mod ArmouredLaws
+pub mod ArmouredOutput
+pub mod GroupState
+pub mod Armouring
+pub mod Laws
+pub mod LineLaws
+pub mod Outlook
+pub mod ReaderLaws
+pub mod ReaderOutlook
+pub mod Stands
+pub mod Unarmoured
+pub mod Unarmouring

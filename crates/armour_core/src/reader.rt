@@ -1,0 +1,217 @@
+//! Armour text that is taken from a source in pieces, and read into a buffer.
+
+ghost use Rattle.std.specs.Prelude.{◌≡◌, ◌≢◌, ◌<◌, ◌≤◌, ℕ, List, [], None, true, false, length, take, IfOk, OnErr, OnOk};
+ghost use Rattle.esdk_fields.specs.Counts.{Rose};
+ghost use Rattle.whole_input.specs.Pieces.{most_input};
+ghost use Rattle.armour_core.specs.Unarmouring.{IsBadGroup};
+
+use crate::errors::ArmourError;
+use crate::text_end::TextEnd;
+use crate::unarmour::Unarmour;
+use esdk_base::{Failed, Source};
+use esdk_fields::Fault;
+use std::alloc::{AllocError, Global};
+use whole_input::{End, Pieces};
+
+/// Reads armour text that it takes from a source in pieces, until a group is bad, the text ends or
+/// 2^62 bytes of it were taken.
+#[derive(Drop)]
+pub(crate) struct ArmourReader {
+    pieces: Pieces,
+    at: usize,
+    unarmour: Unarmour,
+    handed: usize,
+    ending: Option<TextEnd>,
+    ghost within: { at ≤ length pieces.piece },
+    ghost few: { handed ≤ length (take unarmour.given unarmour.bytes) },
+    ghost goes: { ending ≡ None → unarmour.stopped ≡ false },
+    ghost most: { pieces.taken ≤ most_input },
+}
+
+impl ArmourReader {
+    ghost use Rattle.armour_core.specs.Outlook.{open_of, read_out, text_outlook, with_front};
+    ghost use Rattle.armour_core.specs.ReaderOutlook.{IsSpent, KeepsOutlook, ReadsOn, pending, reader_outlook};
+
+    /// Nothing is taken yet. Fails only where memory runs out.
+    pub(crate) fn new(alloc: Global) -> Result<ArmourReader, AllocError>
+        ensures outlook { IfOk result (λ r. (text : List ℕ)
+            → reader_outlook r text ≡ text_outlook text) }
+        ensures none { IfOk result (λ r. r.pieces.taken ≡ 0) }
+    {
+        let pieces = Pieces::new(alloc)?;
+        Ok(ArmourReader {
+            pieces,
+            at: 0,
+            unarmour: Unarmour::new(),
+            handed: 0,
+            ending: None,
+        })
+    }
+
+    /// How the text ends, once that was seen.
+    pub(crate) fn ending(&self) -> Option<TextEnd>
+        ensures { result ≡ self.now.ending }
+    {
+        self.ending
+    }
+
+    /// Whether a group may be read next: all bytes were handed on, and some text of the last piece
+    /// wasn't read.
+    fn may_read(&self) -> bool
+        ensures read { result ≡ true → (pending self.now ≡ []) × (self.now.ending ≡ None)
+            × (self.now.at < length self.now.pieces.piece) }
+        ensures spent { result ≡ false → pending self.now ≡ [] → IsSpent self.now }
+    {
+        if self.handed < self.unarmour.out().len() {
+            return false;
+        }
+        if self.ending.is_some() {
+            return false;
+        }
+        self.at < self.pieces.piece().len()
+    }
+
+    /// Reads text of the last piece up to the end of a group.
+    fn read_group(&mut self)
+        requires handed { pending self.old ≡ [] }
+        requires goes { self.old.ending ≡ None }
+        requires some { self.old.at < length self.old.pieces.piece }
+        ensures outlook { (text : List ℕ) → reader_outlook self.new text
+            ≡ reader_outlook self.old text }
+        ensures pieces { self.new.pieces ≡ self.old.pieces }
+        ensures falls { self.old.at < self.new.at }
+    {
+        match self.unarmour.step(&self.pieces.piece()[self.at..]) {
+            Ok(used) => {
+                self.handed = 0;
+                self.at += used;
+            }
+            Err(error) => {
+                self.handed = 0;
+                self.at = self.pieces.piece().len();
+                self.ending = Some(TextEnd::Bad(bad_group(error)));
+            }
+        }
+    }
+
+    /// Reads text of the last piece until a group gives bytes, and answers whether some are to be
+    /// handed on.
+    fn has_some(&mut self) -> bool
+        ensures outlook { (text : List ℕ) → reader_outlook self.new text
+            ≡ reader_outlook self.old text }
+        ensures pieces { self.new.pieces ≡ self.old.pieces }
+        ensures some { result ≡ true → 1 ≤ length (pending self.new) }
+        ensures spent { result ≡ false → IsSpent self.new }
+        ensures keeps { 1 ≤ length (pending self.old) → 1 ≤ length (pending self.new) }
+        ensures goes { self.new.ending ≡ None → self.old.ending ≡ None }
+    {
+        while self.may_read() {
+            self.read_group();
+        }
+        self.handed < self.unarmour.out().len()
+    }
+
+    /// Hands bytes on, as many as there are and have room, and answers how many.
+    fn hand_on(&mut self, out: &mut [u8]) -> usize
+        ensures outlook { (text : List ℕ) → reader_outlook self.old text
+            ≡ with_front (take result out.new) (reader_outlook self.new text) }
+        ensures pieces { self.new.pieces ≡ self.old.pieces }
+        ensures room { result ≤ length out.old }
+        ensures some { 1 ≤ length (pending self.old) → 1 ≤ length out.old → 1 ≤ result }
+    {
+        let (_handed, rest) = self.unarmour.out().split_at(self.handed);
+        let count = rest.len().min(out.len());
+        out[..count].copy_from_slice(&rest[..count]);
+        self.handed += count;
+        count
+    }
+
+    /// Hands bytes of the last piece on, as many as have room, and answers how many.
+    pub(crate) fn fill(&mut self, out: &mut [u8]) -> usize
+        ensures outlook { (text : List ℕ) → reader_outlook self.old text
+            ≡ with_front (take result out.new) (reader_outlook self.new text) }
+        ensures pieces { self.new.pieces ≡ self.old.pieces }
+        ensures room { result ≤ length out.old }
+        ensures some { 1 ≤ length (pending self.old) → 1 ≤ length out.old → 1 ≤ result }
+    {
+        let mut filled = 0;
+        while filled < out.len() {
+            if !self.has_some() {
+                return filled;
+            }
+            filled += self.hand_on(&mut out[filled..]);
+        }
+        filled
+    }
+
+    /// Whether a piece of the text has to be taken before more is handed on.
+    pub(crate) fn wants_text(&mut self) -> bool
+        ensures outlook { (text : List ℕ) → reader_outlook self.new text
+            ≡ reader_outlook self.old text }
+        ensures pieces { self.new.pieces ≡ self.old.pieces }
+        ensures wants { result ≡ true → IsSpent self.new × (self.new.ending ≡ None) }
+        ensures has { result ≡ false → self.new.ending ≡ None → 1 ≤ length (pending self.new) }
+        ensures goes { self.new.ending ≡ None → self.old.ending ≡ None }
+    {
+        if self.has_some() {
+            return false;
+        }
+        self.ending.is_none()
+    }
+
+    /// Takes the next piece of the text from the source, by one read, or sees how the text ends.
+    pub(crate) fn take_text<S: Source>(&mut self, input: &mut S) -> Result<(), Failed>
+        requires spent { IsSpent self.old }
+        requires goes { self.old.ending ≡ None }
+        ensures outlook { KeepsOutlook (S.state input.old) (S.state input.new) self.old self.new }
+        ensures reads { ReadsOn (S.state input.old) (S.state input.new) self.old self.new }
+        ensures same { OnOk result ((S.state input.new).faults ≡ (S.state input.old).faults) }
+        ensures failed { OnErr result (Rose (S.state input.old).faults (S.state input.new).faults) }
+        ensures falls { OnOk result (self.new.ending ≡ None
+            → self.old.pieces.taken < self.new.pieces.taken) }
+        ensures still { OnErr result (self.new.ending ≡ None) }
+        ensures lasts { S.lasts input.old input.new }
+    {
+        self.at = 0;
+        match self.pieces.next(input) {
+            Ok(()) => Ok(()),
+            Err(End::Failed) => Err(Failed),
+            Err(End::TooLong) => {
+                self.ending = Some(TextEnd::TooLong);
+                Ok(())
+            }
+            Err(End::Seen) => {
+                self.end_text();
+                Ok(())
+            }
+        }
+    }
+
+    /// Says how the text ends, whose end was seen.
+    fn end_text(&mut self)
+        requires goes { self.old.ending ≡ None }
+        requires handed { pending self.old ≡ [] }
+        requires read { self.old.pieces.piece ≡ [] }
+        ensures outlook { (text : List ℕ) → reader_outlook self.new text
+            ≡ read_out (open_of self.old.unarmour) [] false }
+        ensures pieces { self.new.pieces ≡ self.old.pieces }
+        ensures ended { self.new.ending ≢ None }
+    {
+        self.handed = 0;
+        match self.unarmour.finish() {
+            Ok(()) => self.ending = Some(TextEnd::Whole),
+            Err(error) => self.ending = Some(TextEnd::Bad(bad_group(error))),
+        }
+    }
+}
+
+/// The number of the group that is bad.
+fn bad_group(error: ArmourError) -> u64
+    requires { (number : ℕ) × IsBadGroup error number }
+    ensures { IsBadGroup error result }
+{
+    match error {
+        ArmourError::Fault(Fault::BadArmour(number)) => number,
+        _ => unreachable!(),
+    }
+}

@@ -1,0 +1,128 @@
+//! A source of armour text as a source of the bytes that it gives.
+
+ghost use Rattle.std.specs.Prelude.{◌≡◌, ◌-◌, ◌^◌, ◌≤◌, List, ℕ, None, Some, IfOk, IfSome, OnOk, length};
+ghost use Rattle.std.specs.Option.{option_map};
+ghost use Rattle.armour_core.specs.declared.text_end.TextEnd.{TextEnd};
+ghost use Rattle.esdk_fields.specs.Counts.{HasCause};
+ghost use Rattle.std.proofs.Common.{◌∙◌, refl};
+
+use crate::reader::ArmourReader;
+use crate::text_end::TextEnd;
+use esdk_base::{Failed, Source};
+use std::alloc::{AllocError, Global};
+
+/// A source of armour text as a source of the bytes that it gives. The text is borrowed meanwhile,
+/// and is taken in pieces of at most 65,536 bytes, at most 2^62 of it. The bytes end where a group
+/// is bad, where the text ends, and behind 2^62 bytes of text; `ending` says which of these it was.
+///
+/// The source tells its bytes where the text's source tells. A read fails where one of the text
+/// does, and each failure is counted here.
+#[derive(Drop)]
+pub struct UnarmouredSource<'a, S> {
+    text: &'a mut S,
+    reader: ArmourReader,
+    given: u64,
+    faults: u64,
+    ghost few: { given ≤ 2 ^ 64 - 1 },
+    ghost counted: { faults ≤ 2 ^ 64 - 1 },
+}
+
+impl<'a, S: Source> UnarmouredSource<'a, S> {
+    ghost use Rattle.armour_core.specs.Outlook.{text_outlook};
+    ghost use Rattle.armour_core.specs.ReaderOutlook.{KeepsOutlook, Outlasts, pending, reader_outlook, told_end};
+
+    /// The bytes that this text gives. Its buffer of 65,536 bytes is taken now, and nothing is read
+    /// yet. Fails only where memory runs out.
+    pub fn new(alloc: Global, text: &'a mut S) -> Result<UnarmouredSource<'a, S>, AllocError>
+        ensures text { IfOk result (λ s. s.text ≡ text.entry) }
+        ensures outlook { IfOk result (λ s. (bytes : List ℕ)
+            → reader_outlook s.reader bytes ≡ text_outlook bytes) }
+        ensures none { IfOk result (λ s. s.reader.pieces.taken ≡ 0) }
+        ensures faults { IfOk result (λ s. s.faults ≡ 0) }
+    {
+        let reader = ArmourReader::new(alloc)?;
+        Ok(UnarmouredSource {
+            text,
+            reader,
+            given: 0,
+            faults: 0,
+        })
+    }
+
+    /// How the text ends, once that was seen.
+    pub fn ending(&self) -> Option<TextEnd>
+        ensures ending { result ≡ self.now.reader.ending }
+        ensures told { (told : TextEnd) → told_end (S.state self.now.text.now) self.now.reader
+            ≡ Some told → IfSome result (λ end. end ≡ told) }
+    {
+        self.reader.ending()
+    }
+
+    /// Takes text until some bytes come or it is seen how the text ends.
+    pub fn await_some(&mut self) -> Result<(), Failed>
+        ensures same { self.new.text.ghost_name ≡ self.old.text.ghost_name }
+        ensures outlook { KeepsOutlook (S.state self.old.text.now) (S.state self.new.text.now)
+            self.old.reader self.new.reader }
+        ensures outlasts { Outlasts (S.state self.old.text.now) (S.state self.new.text.now)
+            self.old.reader self.new.reader self.old.faults self.new.faults }
+        ensures lasts { S.lasts self.old.text.now self.new.text.now }
+        ensures some { OnOk result (self.new.reader.ending ≡ None
+            → 1 ≤ length (pending self.new.reader)) }
+        ensures given { self.new.given ≡ self.old.given }
+        ensures cause { HasCause self.old.faults self.new.faults result }
+    {
+        while self.reader.wants_text() {
+            match self.reader.take_text(self.text) {
+                Ok(()) => {}
+                Err(failed) => {
+                    self.faults = self.faults.saturating_add(1);
+                    return Err(failed);
+                }
+            }
+        }
+        Ok(())
+    }
+}
+
+/// Between two moments it is the same text, of which more was taken.
+impl<'a, S: Source> Source for UnarmouredSource<'a, S> {
+    ghost use Rattle.armour_core.specs.ReaderOutlook.{Outlasts, reader_outlook};
+    ghost use Rattle.armour_core.specs.ReaderLaws.{outlasts_more, outlasts_none};
+
+    ghost state = { λ s. record {
+      left = option_map (λ text. (reader_outlook s.reader text).bytes) (S.state s.text.now).left;
+      given = s.given;
+      faults = s.faults;
+    } };
+
+    ghost lasts = { λ old new. (new.text.ghost_name ≡ old.text.ghost_name)
+        × S.lasts old.text.now new.text.now
+        × Outlasts (S.state old.text.now) (S.state new.text.now) old.reader new.reader
+        old.faults new.faults };
+
+    fn read(&mut self, out: &mut [u8]) -> Result<usize, Failed> {
+        if out.is_empty() {
+            return Ok(0);
+        }
+        match self.await_some() {
+            Ok(()) => {}
+            Err(failed) => return Err(failed),
+        }
+        let count = self.reader.fill(out);
+        self.given = self.given.saturating_add(count as u64);
+        Ok(count)
+    }
+
+    ghost lasts_none = { λ s. (
+      refl,
+      S.lasts_none s.text.now,
+      outlasts_none (S.state s.text.now) s.reader s.faults,
+    ) };
+
+    ghost lasts_more = { λ r s t first second. (
+      second.0 ∙ first.0,
+      S.lasts_more r.text.now s.text.now t.text.now first.1 second.1,
+      outlasts_more (S.state r.text.now) (S.state s.text.now) (S.state t.text.now)
+          r.reader s.reader t.reader r.faults s.faults t.faults first.2 second.2,
+    ) };
+}
