@@ -5,7 +5,7 @@ use Rattle.clap.specs.Words.{Kinds, fault_of, matches_of}
 use Rattle.esdk_args.specs.declared.commands.CommandName.{CommandName}
 use Rattle.esdk_args.specs.declared.commands.CommandName.TheVariants as commands
 use Rattle.esdk_args.specs.declared.options.OptionName.{OptionName}
-use Rattle.esdk_args.specs.declared.options.OptionName.TheVariants.{Frame, Size}
+use Rattle.esdk_args.specs.declared.options.OptionName.TheVariants.{Frame, Size, At, Count}
 use Rattle.esdk_args.specs.declared.options.ValueOption.TheVariants.{Number}
 use Rattle.esdk_args.specs.declared.request.Request.{Request}
 use Rattle.esdk_args.specs.declared.request.WordsFault.{WordsFault}
@@ -15,7 +15,7 @@ use Rattle.esdk_args.specs.Numbers.{number_of}
 use Rattle.esdk_args.specs.Options.{greatest, least}
 use Rattle.esdk_args.specs.Building.{request_from}
 use Rattle.esdk_args.specs.Values.{Values, first_fault, given_of, values_in}
-use Rattle.esdk_args.specs.Words.{HasFrame, HasSize, read_behind, unless_faulty, unless_refused}
+use Rattle.esdk_args.specs.Words.{HasFrame, HasRange, HasSize, read_behind, unless_faulty, unless_refused}
 use Rattle.esdk_args.proofs.Numerals.{number_writes}
 
 -- the number of an option is one that it takes
@@ -32,11 +32,17 @@ in_range option (Some word) other from upto = by_number (number_of option word) 
 
 frame_from : (name : CommandName) (values : Values) → HasFrame (request_from name (given_of values))
 frame_from commands.Encrypt values = (in_range Frame (values.words (Number Frame)) 4096 (omega arith) (omega arith)).0
+frame_from commands.Reseal values = (in_range Frame (values.words (Number Frame)) 4096 (omega arith) (omega arith)).0
 frame_from name values = tt
 
 size_from : (name : CommandName) (values : Values) → HasSize (request_from name (given_of values))
 size_from commands.Gen values = (in_range Size (values.words (Number Size)) 0 (omega arith) (omega arith)).1
 size_from name values = tt
+
+range_from : (name : CommandName) (values : Values) → HasRange (request_from name (given_of values))
+range_from commands.Extract values =
+    ((in_range At (values.words (Number At)) 0 (omega arith) (omega arith)).1, (in_range Count (values.words (Number Count)) 0 (omega arith) (omega arith)).1)
+range_from name values = tt
 
 -- a request that is read is the command's
 read_is : (kinds : Kinds) (found : Option WordsFault) (request asked : Request)
@@ -59,3 +65,6 @@ read_frame name words read answers = holds HasFrame name words read (frame_from 
 
 pub read_size : (name : CommandName) (words : List (List ℕ)) (read : Result Request WordsFault) → AnswersWords read (read_behind (Some name) words) → IfOk read HasSize
 read_size name words read answers = holds HasSize name words read (size_from name) answers
+
+pub read_range : (name : CommandName) (words : List (List ℕ)) (read : Result Request WordsFault) → AnswersWords read (read_behind (Some name) words) → IfOk read HasRange
+read_range name words read answers = holds HasRange name words read (range_from name) answers

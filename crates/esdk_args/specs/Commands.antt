@@ -4,7 +4,11 @@
 --     decrypt --keyring NAME [--max-keys N] [--max-unit N] [--allow-uncommitted] PAIR..
 --     batch --jobs NAME
 --     gen --seed N --size N
+--     extract --keyring NAME --from NAME --at N --count N PAIR..
+--     audit --jobs NAME
 --     migrate --keyring NAME [--retire N]
+--     reseal --keyring NAME --to-keyring NAME [--frame N] [--max-unit N] [--allow-uncommitted]
+--         PAIR..
 use Rattle.std.specs.Prelude.{ℕ, Bool, true, false, List, [], ◌∷◌, map, filter, find, fold}
 use Rattle.std.specs.Prelude.{Option, Some, codes}
 use Rattle.std.specs.Str.{bytes_eq}
@@ -16,9 +20,9 @@ use Rattle.esdk_args.specs.declared.commands.Argument.TheVariants.{Required, Opt
 use Rattle.esdk_args.specs.declared.commands.CommandName.{CommandName}
 use Rattle.esdk_args.specs.declared.commands.CommandName.TheVariants as commands
 use Rattle.esdk_args.specs.declared.options.FlagOption.TheVariants.{AllowUncommitted}
-use Rattle.esdk_args.specs.declared.options.NameOption.TheVariants.{Keyring, Jobs}
+use Rattle.esdk_args.specs.declared.options.NameOption.TheVariants.{Keyring, Jobs, From, ToKeyring}
 use Rattle.esdk_args.specs.declared.options.OptionName.TheVariants.{Frame, MaxKeys, MaxUnit}
-use Rattle.esdk_args.specs.declared.options.OptionName.TheVariants.{Retire, Seed, Size}
+use Rattle.esdk_args.specs.declared.options.OptionName.TheVariants.{Retire, Seed, Size, At, Count}
 use Rattle.esdk_args.specs.declared.options.ValueOption.TheVariants.{Name, Number}
 use Rattle.esdk_args.specs.Options.{flag_name, value_name}
 
@@ -31,7 +35,10 @@ command_text commands.Encrypt = codes "encrypt"
 command_text commands.Decrypt = codes "decrypt"
 command_text commands.Batch = codes "batch"
 command_text commands.Gen = codes "gen"
+command_text commands.Extract = codes "extract"
+command_text commands.Audit = codes "audit"
 command_text commands.Migrate = codes "migrate"
+command_text commands.Reseal = codes "reseal"
 
 -- what may stand behind it, in the order in which it is judged; pair words come last
 abbrev pub arguments : CommandName → List Argument
@@ -43,13 +50,20 @@ arguments commands.Decrypt =
     ∷ Flag AllowUncommitted ∷ Pairs ∷ []
 arguments commands.Batch = Required (Name Jobs) ∷ []
 arguments commands.Gen = Required (Number Seed) ∷ Required (Number Size) ∷ []
+arguments commands.Extract =
+    Required (Name Keyring) ∷ Required (Name From) ∷ Required (Number At)
+    ∷ Required (Number Count) ∷ Pairs ∷ []
+arguments commands.Audit = Required (Name Jobs) ∷ []
 arguments commands.Migrate = Required (Name Keyring) ∷ Optional (Number Retire) ∷ []
+arguments commands.Reseal =
+    Required (Name Keyring) ∷ Required (Name ToKeyring) ∷ Optional (Number Frame)
+    ∷ Optional (Number MaxUnit) ∷ Flag AllowUncommitted ∷ Pairs ∷ []
 
 -- all of them
 abbrev pub every_command : List CommandName
 every_command =
     commands.List ∷ commands.Encrypt ∷ commands.Decrypt ∷ commands.Batch ∷ commands.Gen
-    ∷ commands.Migrate ∷ []
+    ∷ commands.Extract ∷ commands.Audit ∷ commands.Migrate ∷ commands.Reseal ∷ []
 
 -- the command that the word names
 abbrev pub command_named : List ℕ → Option CommandName

@@ -2,10 +2,10 @@
 use Rattle.std.specs.Prelude.{ℕ, List, ◌++◌, codes}
 use Rattle.esdk_args.specs.declared.options.FlagOption.{FlagOption}
 use Rattle.esdk_args.specs.declared.options.FlagOption.TheVariants.{AllowUncommitted}
-use Rattle.esdk_args.specs.declared.options.NameOption.TheVariants.{Keyring, Jobs}
+use Rattle.esdk_args.specs.declared.options.NameOption.TheVariants.{Keyring, Jobs, From, ToKeyring}
 use Rattle.esdk_args.specs.declared.options.OptionName.{OptionName}
 use Rattle.esdk_args.specs.declared.options.OptionName.TheVariants.{Frame, MaxKeys, MaxUnit}
-use Rattle.esdk_args.specs.declared.options.OptionName.TheVariants.{Retire, Seed, Size}
+use Rattle.esdk_args.specs.declared.options.OptionName.TheVariants.{Retire, Seed, Size, At, Count}
 use Rattle.esdk_args.specs.declared.options.ValueOption.{ValueOption}
 use Rattle.esdk_args.specs.declared.options.ValueOption.TheVariants.{Name, Number}
 
@@ -19,11 +19,15 @@ option_name MaxUnit = codes "max-unit"
 option_name Retire = codes "retire"
 option_name Seed = codes "seed"
 option_name Size = codes "size"
+option_name At = codes "at"
+option_name Count = codes "count"
 
 -- the least number that it takes
 abbrev pub least : OptionName → ℕ
 least Seed = 0
 least Size = 0
+least At = 0
+least Count = 0
 least name = 1
 
 -- the greatest
@@ -34,6 +38,8 @@ greatest MaxUnit = 68719476704
 greatest Retire = 1048576
 greatest Seed = 18446744073709551615
 greatest Size = 67108864
+greatest At = 4611686018427387904
+greatest Count = 4611686018427387904
 
 -- ---- the others
 
@@ -41,6 +47,8 @@ greatest Size = 67108864
 abbrev pub value_name : ValueOption → List ℕ
 value_name (Name Keyring) = codes "keyring"
 value_name (Name Jobs) = codes "jobs"
+value_name (Name From) = codes "from"
+value_name (Name ToKeyring) = codes "to-keyring"
 value_name (Number option) = option_name option
 
 -- the name of a flag

@@ -4,7 +4,7 @@
 use Rattle.std.specs.Prelude.{◌≤◌, ℕ, List, [], ◌∷◌, Option, Some, None, Result, Ok, Err}
 use Rattle.clap.specs.Words.{Kinds, fault_of, matches_of}
 use Rattle.esdk_args.specs.declared.commands.CommandName.{CommandName}
-use Rattle.esdk_args.specs.declared.options.OptionName.TheVariants.{Size}
+use Rattle.esdk_args.specs.declared.options.OptionName.TheVariants.{Size, At, Count}
 use Rattle.esdk_args.specs.declared.request.Request.{Request}
 use Rattle.esdk_args.specs.declared.request.Request.TheVariants as requests
 use Rattle.esdk_args.specs.declared.request.WordsFault.{WordsFault}
@@ -49,9 +49,15 @@ words_of (word ∷ behind) = read_behind (command_named word) behind
 -- A frame length is at least 1.
 abbrev pub HasFrame : Request → Type 0
 HasFrame (requests.Encrypt asked) = 1 ≤ asked.frame
+HasFrame (requests.Reseal asked) = 1 ≤ asked.frame
 HasFrame request = Unit {0}
 
 -- The size of a generated text is one that its option takes.
 abbrev pub HasSize : Request → Type 0
 HasSize (requests.Gen seed size) = size ≤ greatest Size
 HasSize request = Unit {0}
+
+-- The range of an extraction is one that its options take.
+abbrev pub HasRange : Request → Type 0
+HasRange (requests.Extract asked) = (asked.at ≤ greatest At) × (asked.count ≤ greatest Count)
+HasRange request = Unit {0}

@@ -1,13 +1,15 @@
 //! The request of each command, of what its words say.
 
 ghost use Rattle.std.specs.Prelude.{◌≡◌, IfOk};
-ghost use Rattle.esdk_args.specs.declared.commands.CommandName.TheVariants.{List, Encrypt, Decrypt, Batch, Gen, Migrate};
+ghost use Rattle.esdk_args.specs.declared.commands.CommandName.TheVariants.{List, Encrypt, Decrypt, Batch, Gen, Extract, Audit, Migrate, Reseal};
 ghost use Rattle.esdk_args.specs.Building.{request_from};
 ghost use Rattle.esdk_args.specs.Values.{given_of, values_of};
 
 use crate::commands::CommandName;
 use crate::options::{FlagOption, NameOption, OptionName};
-use crate::request::{DecryptWords, EncryptWords, ListWords, MigrateWords, Request};
+use crate::request::{
+    DecryptWords, EncryptWords, ExtractWords, ListWords, MigrateWords, Request, ResealWords,
+};
 use crate::values::{
     is_given, number, number_u16, number_u32, pairs, required_name, required_number,
 };
@@ -31,7 +33,10 @@ pub(crate) fn request_from(
         CommandName::Decrypt => decrypt_from(alloc, matches),
         CommandName::Batch => batch_from(alloc, matches),
         CommandName::Gen => Ok(gen_from(matches)),
+        CommandName::Extract => extract_from(alloc, matches),
+        CommandName::Audit => audit_from(alloc, matches),
         CommandName::Migrate => migrate_from(alloc, matches),
+        CommandName::Reseal => reseal_from(alloc, matches),
     }
 }
 
@@ -86,6 +91,26 @@ fn gen_from(matches: &ArgMatches<'_>) -> Request
     }
 }
 
+/// The extraction that the words behind `extract` ask for.
+fn extract_from(alloc: Global, matches: &ArgMatches<'_>) -> Result<Request, AllocError>
+    ensures { IfOk result (λ made. made ≡ request_from Extract (given_of (values_of matches.now))) }
+{
+    Ok(Request::Extract(ExtractWords {
+        keyring: required_name(alloc, matches, NameOption::Keyring)?,
+        from: required_name(alloc, matches, NameOption::From)?,
+        at: required_number(matches, OptionName::At),
+        count: required_number(matches, OptionName::Count),
+        pairs: pairs(alloc, matches)?,
+    }))
+}
+
+/// The audit that the words behind `audit` ask for.
+fn audit_from(alloc: Global, matches: &ArgMatches<'_>) -> Result<Request, AllocError>
+    ensures { IfOk result (λ made. made ≡ request_from Audit (given_of (values_of matches.now))) }
+{
+    Ok(Request::Audit(required_name(alloc, matches, NameOption::Jobs)?))
+}
+
 /// The migration that the words behind `migrate` ask for.
 fn migrate_from(alloc: Global, matches: &ArgMatches<'_>) -> Result<Request, AllocError>
     ensures { IfOk result (λ made. made ≡ request_from Migrate (given_of (values_of matches.now))) }
@@ -93,5 +118,19 @@ fn migrate_from(alloc: Global, matches: &ArgMatches<'_>) -> Result<Request, Allo
     Ok(Request::Migrate(MigrateWords {
         keyring: required_name(alloc, matches, NameOption::Keyring)?,
         retire: number_u32(matches, OptionName::Retire),
+    }))
+}
+
+/// The resealing that the words behind `reseal` ask for.
+fn reseal_from(alloc: Global, matches: &ArgMatches<'_>) -> Result<Request, AllocError>
+    ensures { IfOk result (λ made. made ≡ request_from Reseal (given_of (values_of matches.now))) }
+{
+    Ok(Request::Reseal(ResealWords {
+        keyring: required_name(alloc, matches, NameOption::Keyring)?,
+        to_keyring: required_name(alloc, matches, NameOption::ToKeyring)?,
+        frame: number_u32(matches, OptionName::Frame).unwrap_or(DEFAULT_FRAME),
+        max_unit: number(matches, OptionName::MaxUnit),
+        uncommitted: is_given(matches, FlagOption::AllowUncommitted),
+        pairs: pairs(alloc, matches)?,
     }))
 }

@@ -20,7 +20,10 @@ pub(crate) enum CommandName {
     Decrypt,
     Batch,
     Gen,
+    Extract,
+    Audit,
     Migrate,
+    Reseal,
 }
 
 /// What may stand behind a command.
@@ -60,9 +63,28 @@ static GEN: [Argument; 2] = [
     Argument::Required(ValueOption::Number(OptionName::Size)),
 ];
 
+static EXTRACT: [Argument; 5] = [
+    Argument::Required(ValueOption::Name(NameOption::Keyring)),
+    Argument::Required(ValueOption::Name(NameOption::From)),
+    Argument::Required(ValueOption::Number(OptionName::At)),
+    Argument::Required(ValueOption::Number(OptionName::Count)),
+    Argument::Pairs,
+];
+
+static AUDIT: [Argument; 1] = [Argument::Required(ValueOption::Name(NameOption::Jobs))];
+
 static MIGRATE: [Argument; 2] = [
     Argument::Required(ValueOption::Name(NameOption::Keyring)),
     Argument::Optional(ValueOption::Number(OptionName::Retire)),
+];
+
+static RESEAL: [Argument; 6] = [
+    Argument::Required(ValueOption::Name(NameOption::Keyring)),
+    Argument::Required(ValueOption::Name(NameOption::ToKeyring)),
+    Argument::Optional(ValueOption::Number(OptionName::Frame)),
+    Argument::Optional(ValueOption::Number(OptionName::MaxUnit)),
+    Argument::Flag(FlagOption::AllowUncommitted),
+    Argument::Pairs,
 ];
 
 /// What may stand behind the command, in the order in which it is judged.
@@ -75,7 +97,10 @@ pub(crate) fn arguments(name: CommandName) -> &'static [Argument]
         CommandName::Decrypt => DECRYPT.as_slice(),
         CommandName::Batch => BATCH.as_slice(),
         CommandName::Gen => GEN.as_slice(),
+        CommandName::Extract => EXTRACT.as_slice(),
+        CommandName::Audit => AUDIT.as_slice(),
         CommandName::Migrate => MIGRATE.as_slice(),
+        CommandName::Reseal => RESEAL.as_slice(),
     }
 }
 
@@ -89,7 +114,10 @@ fn command_text<'a>(name: CommandName) -> &'a str
         CommandName::Decrypt => "decrypt",
         CommandName::Batch => "batch",
         CommandName::Gen => "gen",
+        CommandName::Extract => "extract",
+        CommandName::Audit => "audit",
         CommandName::Migrate => "migrate",
+        CommandName::Reseal => "reseal",
     }
 }
 
@@ -103,7 +131,10 @@ pub(crate) fn command_named(word: &str) -> Option<CommandName>
         "decrypt" => Some(CommandName::Decrypt),
         "batch" => Some(CommandName::Batch),
         "gen" => Some(CommandName::Gen),
+        "extract" => Some(CommandName::Extract),
+        "audit" => Some(CommandName::Audit),
         "migrate" => Some(CommandName::Migrate),
+        "reseal" => Some(CommandName::Reseal),
         _ => None,
     }
 }

@@ -7,6 +7,8 @@
 //! decrypt --keyring NAME [--max-keys N] [--max-unit N] [--allow-uncommitted] PAIR..
 //! batch --jobs NAME
 //! gen --seed N --size N
+//! extract --keyring NAME --from NAME --at N --count N PAIR..
+//! audit --jobs NAME
 //! migrate --keyring NAME [--retire N]
 //! ```
 //!
@@ -36,5 +38,8 @@ pub use laws::{
 };
 pub use options::{OptionName, option_text};
 pub use pair_words::{PairWord, PairWords};
-pub use request::{DecryptWords, EncryptWords, ListWords, MigrateWords, Request, WordsFault};
+pub use request::{
+    DecryptWords, EncryptWords, ExtractWords, ListWords, MigrateWords, Request, ResealWords,
+    WordsFault,
+};
 pub use words::read_words;

@@ -8,19 +8,23 @@ ghost use Rattle.esdk_args.specs.Options.{flag_name, option_name, option_text, v
 pub(crate) enum NameOption {
     /// `--keyring`: the keyring file.
     Keyring,
-    /// `--jobs`: the job file.
+    /// `--jobs`: the job file of a batch, or the file of an audit.
     Jobs,
+    /// `--from`: the file of a message.
+    From,
+    /// `--to-keyring`: the keyring file whose tree wraps the new message's keys.
+    ToKeyring,
 }
 
 /// An option that takes a number.
 #[derive(Debug, Clone, Copy, PartialEq, Eq)]
 pub enum OptionName {
-    /// `--frame` of `encrypt`: the frame length in bytes, 1 to 4,294,967,295.
+    /// `--frame` of `encrypt` and `reseal`: the frame length in bytes, 1 to 4,294,967,295.
     Frame,
     /// `--max-keys` of `encrypt` and `decrypt`: the greatest number of encrypted data keys, 1 to
     /// 65,535.
     MaxKeys,
-    /// `--max-unit` of `decrypt`: the greatest length in bytes of a frame or a single block, 1 to
+    /// `--max-unit` of `decrypt` and `reseal`: the greatest length in bytes of a frame or a single block, 1 to
     /// 68,719,476,704.
     MaxUnit,
     /// `--retire` of `migrate`: the number of a node of the keyring file, 1 to 1,048,576.
@@ -29,6 +33,10 @@ pub enum OptionName {
     Seed,
     /// `--size` of `gen`: how many bytes the text has, 0 to 67,108,864.
     Size,
+    /// `--at` of `extract`: the first byte of the range, 0 to 4,611,686,018,427,387,904.
+    At,
+    /// `--count` of `extract`: how many bytes the range has, 0 to 4,611,686,018,427,387,904.
+    Count,
 }
 
 /// An option that takes a value.
@@ -43,7 +51,8 @@ pub(crate) enum ValueOption {
 /// A flag.
 #[derive(Clone, Copy)]
 pub(crate) enum FlagOption {
-    /// `--allow-uncommitted` of `list` and `decrypt`: messages without a commitment may be read.
+    /// `--allow-uncommitted` of `list`, `decrypt` and `reseal`: messages without a commitment may be
+    /// read.
     AllowUncommitted,
 }
 
@@ -58,6 +67,8 @@ pub fn option_text(name: OptionName) -> &'static str
         OptionName::Retire => "--retire",
         OptionName::Seed => "--seed",
         OptionName::Size => "--size",
+        OptionName::At => "--at",
+        OptionName::Count => "--count",
     }
 }
 
@@ -72,6 +83,8 @@ pub(crate) fn option_name<'a>(name: OptionName) -> &'a str
         OptionName::Retire => "retire",
         OptionName::Seed => "seed",
         OptionName::Size => "size",
+        OptionName::At => "at",
+        OptionName::Count => "count",
     }
 }
 
@@ -82,6 +95,8 @@ pub(crate) fn value_name<'a>(option: ValueOption) -> &'a str
     match option {
         ValueOption::Name(NameOption::Keyring) => "keyring",
         ValueOption::Name(NameOption::Jobs) => "jobs",
+        ValueOption::Name(NameOption::From) => "from",
+        ValueOption::Name(NameOption::ToKeyring) => "to-keyring",
         ValueOption::Number(name) => option_name(name),
     }
 }
@@ -100,7 +115,7 @@ pub(crate) fn least(name: OptionName) -> u64
     ensures { result ≡ least name }
 {
     match name {
-        OptionName::Seed | OptionName::Size => 0,
+        OptionName::Seed | OptionName::Size | OptionName::At | OptionName::Count => 0,
         _ => 1,
     }
 }
@@ -116,5 +131,6 @@ pub(crate) fn greatest(name: OptionName) -> u64
         OptionName::Retire => 1_048_576,
         OptionName::Seed => 18_446_744_073_709_551_615,
         OptionName::Size => 67_108_864,
+        OptionName::At | OptionName::Count => 4_611_686_018_427_387_904,
     }
 }

@@ -25,8 +25,14 @@ pub enum Request {
         /// How many bytes the text has, at most 67,108,864.
         size: u64,
     },
+    /// An extraction of a range.
+    Extract(ExtractWords),
+    /// An audit: the name of its file.
+    Audit(Text),
     /// A migration of a keyring file to version 2.
     Migrate(MigrateWords),
+    /// A resealing: a message is opened and sealed anew.
+    Reseal(ResealWords),
 }
 
 /// What the words say of a listing.
@@ -65,6 +71,21 @@ pub struct DecryptWords {
     pub pairs: PairWords,
 }
 
+/// What the words say of an extraction.
+#[derive(Drop)]
+pub struct ExtractWords {
+    /// The name of the keyring file.
+    pub keyring: Text,
+    /// The name of the message's file.
+    pub from: Text,
+    /// The first byte of the range, at most 2^62.
+    pub at: u64,
+    /// How many bytes the range has, at most 2^62.
+    pub count: u64,
+    /// The given pairs of the context, and the keys that are required.
+    pub pairs: PairWords,
+}
+
 /// What the words say of a migration.
 #[derive(Drop)]
 pub struct MigrateWords {
@@ -73,6 +94,24 @@ pub struct MigrateWords {
     /// The number of the node that is to be retired, 1 to 1,048,576; None where the words give
     /// none.
     pub retire: Option<u32>,
+}
+
+/// What the words say of a resealing.
+#[derive(Drop)]
+pub struct ResealWords {
+    /// The name of the keyring file whose tree unwraps the old message's key.
+    pub keyring: Text,
+    /// The name of the keyring file whose tree wraps the new message's key.
+    pub to_keyring: Text,
+    /// The new message's frame length in bytes, at least 1; 4,096 where the words give none.
+    pub frame: u32,
+    /// The greatest length in bytes of a frame or a single block, 1 to 68,719,476,704; None where
+    /// the words give none.
+    pub max_unit: Option<u64>,
+    /// Whether a message without a commitment may be read.
+    pub uncommitted: bool,
+    /// The given pairs of the context, and the keys that are required.
+    pub pairs: PairWords,
 }
 
 /// Why the words ask for nothing.

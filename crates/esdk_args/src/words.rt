@@ -3,7 +3,7 @@
 ghost use Rattle.std.specs.Prelude.{◌≡◌, IfOk, Some, map};
 ghost use Rattle.esdk_args.specs.Faults.{AnswersWords};
 ghost use Rattle.esdk_args.specs.Values.{values_of};
-ghost use Rattle.esdk_args.specs.Words.{words_of, read_behind, request_of, HasFrame, HasSize};
+ghost use Rattle.esdk_args.specs.Words.{words_of, read_behind, request_of, HasFrame, HasRange, HasSize};
 
 use crate::building::request_from;
 use crate::commands::{CommandName, arguments, command_named};
@@ -32,6 +32,7 @@ pub fn read_words(alloc: Global, words: &[Text]) -> Result<Request, WordsFault>
     ensures read { AnswersWords result (words_of words.now) }
     ensures frame { IfOk result HasFrame }
     ensures size { IfOk result HasSize }
+    ensures range { IfOk result HasRange }
 {
     let Some((word, behind)) = words.split_first() else {
         return Err(WordsFault::NotRead);

@@ -151,6 +151,8 @@ fn line_of_number(name: OptionName) -> &'static [u8]
         OptionName::Retire => b"esdk: words BadNumber --retire\n",
         OptionName::Seed => b"esdk: words BadNumber --seed\n",
         OptionName::Size => b"esdk: words BadNumber --size\n",
+        OptionName::At => b"esdk: words BadNumber --at\n",
+        OptionName::Count => b"esdk: words BadNumber --count\n",
     }
 }
 

@@ -22,6 +22,7 @@ impl Status {
     pub const MEMORY: Status = Status { code: 5 };
     /// What was asked for is refused.
     pub const REFUSAL: Status = Status { code: 6 };
-    /// The batch was run, and some job of it isn't done.
+    /// The batch was run, and some job of it isn't done; or the audit, and some message of it has no
+    /// opener.
     pub const JOBS: Status = Status { code: 7 };
 }
