@@ -1,6 +1,8 @@
 //! Why a caller here gives up.
 
+use audit_core::AuditError;
 use esdk_base::{Failed, FeedError};
+use extract_core::ExtractError;
 use keyring_file::TreeError;
 use keyring_trait::ManagerError;
 use raw_aes_keyring::RawError;
@@ -21,6 +23,10 @@ pub(crate) enum CallError {
     Key(RawError),
     /// A keyring file isn't read.
     File(TreeError),
+    /// A range isn't extracted.
+    Extract(ExtractError),
+    /// The leaves of a tree can't say which of them open a message.
+    Audit(AuditError),
     /// The output failed.
     Output,
     /// Memory ran out.

@@ -5,13 +5,16 @@
 //! implementation of the format made.
 #![tactic(auto)]
 
+mod auditing;
 mod cached_manager;
 mod errors;
+mod extracting;
 mod file_manager;
 mod opening;
 mod own_keyring;
 mod sealing;
 mod shown;
+mod shown_files;
 
 use std::io;
 
@@ -23,5 +26,7 @@ fn main(rt: HostRuntime) -> io::Result<()> {
     println!(rt; "CountedRing: {}", shown::counts(alloc))?;
     println!(rt; "cached_manager: {}", shown::caches(alloc))?;
     println!(rt; "file_manager: {}", shown::reads_a_file(alloc))?;
+    println!(rt; "extract_range: {}", shown_files::extracts(alloc))?;
+    println!(rt; "openers_of: {}", shown_files::audits(alloc))?;
     Ok(())
 }

@@ -22,7 +22,7 @@ type Cached = CachingCmm<DefaultCmm<CountedRing<RawAes>>>;
 /// Nine bytes, `123456789`, in three frames of 4. The header ends at 169. The key has the namespace
 /// `ns`, the name `k` and the bytes 00 to 1f; the message id, the data key and its initialization
 /// vector are all bytes 22.
-const NINE_BYTES: &[u8] =
+pub(crate) const NINE_BYTES: &[u8] =
     b"\x02\x04\x78\x22\x22\x22\x22\x22\x22\x22\x22\x22\x22\x22\x22\x22\x22\x22\x22\x22\x22\x22\x22\x22\
     \x22\x22\x22\x22\x22\x22\x22\x22\x22\x22\x22\x00\x00\x00\x01\x00\x02\x6e\x73\x00\x15\x6b\x00\x00\
     \x00\x80\x00\x00\x00\x0c\x22\x22\x22\x22\x22\x22\x22\x22\x22\x22\x22\x22\x00\x30\x5f\x36\x1c\xe4\
@@ -41,7 +41,7 @@ const KEY: [u8; 32] =
     *b"\x00\x01\x02\x03\x04\x05\x06\x07\x08\x09\x0a\x0b\x0c\x0d\x0e\x0f\x10\x11\x12\x13\x14\x15\x16\x17\x18\x19\x1a\x1b\x1c\x1d\x1e\x1f";
 
 /// The keyring of the key. None where memory runs out.
-fn known_ring(alloc: Global) -> Option<RawAes> {
+pub(crate) fn known_ring(alloc: Global) -> Option<RawAes> {
     match RawAes::new(alloc, "ns", "k", KEY) {
         Ok(ring) => Some(ring),
         Err(_) => None,
@@ -57,7 +57,7 @@ fn counted_ring(alloc: Global) -> Option<CountedRing<RawAes>> {
 }
 
 /// An empty sink with room for the message. None where memory runs out.
-fn sink(alloc: Global) -> Option<MemSink> {
+pub(crate) fn sink(alloc: Global) -> Option<MemSink> {
     match MemSink::new(alloc, 512, Vec::new(alloc)) {
         Ok(sink) => Some(sink),
         Err(_) => None,

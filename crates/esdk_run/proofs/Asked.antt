@@ -4,16 +4,20 @@ use Rattle.std.specs.Prelude.{IfSome}
 use Rattle.std.specs.declared.result.Result.{Result}
 use Rattle.esdk_args.specs.declared.request.DecryptWords.{DecryptWords}
 use Rattle.esdk_args.specs.declared.request.EncryptWords.{EncryptWords}
+use Rattle.esdk_args.specs.declared.request.ExtractWords.{ExtractWords}
 use Rattle.esdk_args.specs.declared.request.MigrateWords.{MigrateWords}
 use Rattle.esdk_args.specs.declared.request.Request.{Request}
 use Rattle.esdk_args.specs.declared.request.Request.TheVariants as requests
 use Rattle.esdk_args.specs.declared.request.WordsFault.{WordsFault}
+use Rattle.esdk_run.specs.AuditTold.{AuditsWhatIsHeld, SaysTheOpeners}
 use Rattle.esdk_run.specs.EachJob.{DoesWhatItMust, SaysEachJudgement}
 use Rattle.esdk_run.specs.Objects.{Objects, Unchanged, without_entropy}
-use Rattle.esdk_run.specs.Run.{BatchRuns, DecryptRuns, EncryptRuns, GenRuns, MigrateRuns, RunsAs}
+use Rattle.esdk_run.specs.Run.{AuditRuns, BatchRuns, DecryptRuns, EncryptRuns, ExtractRuns, GenRuns, MigrateRuns, RunsAs}
 use Rattle.esdk_run.specs.Served.{Generates, KeepsLimits, KeepsOtherFiles, RunsWhatIsHeld}
 use Rattle.esdk_run.specs.Told.{ComesBack, DecryptsWholeMessages, MigratesWhatIsHeld, ReadsBack, SaysTheJudgement, SaysWhatItReads, keyring_asked}
 use Rattle.esdk_run.specs.Trees.{Trees}
+use Rattle.esdk_run.proofs.AuditDone.{audits_what_is_held}
+use Rattle.esdk_run.proofs.Auditing.{says_the_openers}
 use Rattle.esdk_run.proofs.Batches.{generates, keeps_limits, keeps_other_files, runs_what_is_held}
 use Rattle.esdk_run.proofs.DoneJobs.{does_what_it_must}
 use Rattle.esdk_run.proofs.EachJob.{says_each_judgement}
@@ -50,6 +54,16 @@ gen_asked : (trees : Trees) (words : Result Request WordsFault) (seed size : ℕ
 gen_asked trees words seed size before after unchanged code is runs =
     (subst (λ (w : Result Request WordsFault). RunsAs trees w before after unchanged code) is runs).1
 
+pub extract_asked : (trees : Trees) (words : Result Request WordsFault) (asked : ExtractWords) (before after : Objects) (unchanged : Unchanged) (code : ℕ)
+    → words ≡ Ok (requests.Extract asked) → RunsAs trees words before after unchanged code → ExtractRuns trees asked before after unchanged code
+extract_asked trees words asked before after unchanged code is runs =
+    subst (λ (w : Result Request WordsFault). RunsAs trees w before after unchanged code) is runs
+
+audit_asked : (trees : Trees) (words : Result Request WordsFault) (name : List ℕ) (before after : Objects) (unchanged : Unchanged) (code : ℕ)
+    → words ≡ Ok (requests.Audit name) → RunsAs trees words before after unchanged code → AuditRuns trees name before after unchanged code
+audit_asked trees words name before after unchanged code is runs =
+    subst (λ (w : Result Request WordsFault). RunsAs trees w before after unchanged code) is runs
+
 -- the tree of a run whose words name a keyring file
 pub comes_back : (trees : Trees) (words : Result Request WordsFault) (before after : Objects) (unchanged : Unchanged) (code : ℕ)
     → RunsAs trees words before after unchanged code
@@ -62,6 +76,9 @@ comes_back trees (Ok (requests.Decrypt asked)) before after unchanged code runs 
 comes_back trees (Ok (requests.Migrate asked)) before after unchanged code runs = tt
 comes_back trees (Ok (requests.Batch name)) before after unchanged code runs = tt
 comes_back trees (Ok (requests.Gen seed size)) before after unchanged code runs = tt
+comes_back trees (Ok (requests.Extract asked)) before after unchanged code runs = tt
+comes_back trees (Ok (requests.Audit name)) before after unchanged code runs = tt
+comes_back trees (Ok (requests.Reseal asked)) before after unchanged code runs = tt
 comes_back trees (Err fault) before after unchanged code runs = tt
 
 -- ---- what is so of such a run
@@ -131,3 +148,15 @@ pub line_asked : (trees : Trees) (words : Result Request WordsFault) (seed size 
     → Generates seed size before.output after.output unchanged.output code
 line_asked trees words seed size before after unchanged code is runs =
     generates seed size before after unchanged code (gen_asked trees words seed size before after unchanged code is runs)
+
+pub openers_asked : (trees : Trees) (words : Result Request WordsFault) (name : List ℕ) (before after : Objects) (unchanged : Unchanged) (code : ℕ)
+    → words ≡ Ok (requests.Audit name) → RunsAs trees words before after unchanged code
+    → SaysTheOpeners trees name before after code
+openers_asked trees words name before after unchanged code is runs =
+    says_the_openers trees name before after unchanged code (audit_asked trees words name before after unchanged code is runs)
+
+pub audited_asked : (trees : Trees) (words : Result Request WordsFault) (name : List ℕ) (before after : Objects) (unchanged : Unchanged) (code : ℕ)
+    → words ≡ Ok (requests.Audit name) → RunsAs trees words before after unchanged code
+    → AuditsWhatIsHeld trees name before after code
+audited_asked trees words name before after unchanged code is runs =
+    audits_what_is_held trees name before after unchanged code (audit_asked trees words name before after unchanged code is runs)

@@ -109,7 +109,7 @@ keeps_other_files trees name before after unchanged code (inr fails) =
 -- ---- files that the shelf tells
 
 -- a file that is read as this isn't refused
-not_refused : {A : Type 0} (read : List ℕ → Result A FileRefusal) (old new : ShelfState) (name bytes : List ℕ) (value : A) (refusal : FileRefusal) → Holds old.files name bytes
+pub not_refused : {A : Type 0} (read : List ℕ → Result A FileRefusal) (old new : ShelfState) (name bytes : List ℕ) (value : A) (refusal : FileRefusal) → Holds old.files name bytes
     → length bytes ≤ most_file → read bytes ≡ Ok value → FileIsRefused read old new name refusal → ⊥
 not_refused read old new name bytes value refusal holds few is (inl long) = absurd (omega (arith, few, long.1.many bytes holds))
 not_refused read old new name bytes value refusal holds few is (inr refused) =

@@ -82,7 +82,7 @@ module _ (cache : Option LimitsValue) (tree left : KeyringMeaning) (asked : Seal
 
 -- ---- a decrypt job
 
-module _ (tree : KeyringMeaning) (given : List KeyValue) (required : List (List ℕ)) (seen : Seen) (must : MustOpen tree seen.from given required) where
+module _ (cache : Option LimitsValue) (tree : KeyringMeaning) (given : List KeyValue) (required : List (List ℕ)) (seen : Seen) (must : MustOpen cache tree seen.from given required) where
   has_no_fault : (bytes : List ℕ) (fault : Fault) → seen.from ≡ Some bytes → fault_at_end (judged_by (reader_for must.keys given required) bytes).verdict ≡ Some fault → ⊥
   has_no_fault bytes fault from cause =
       let both : Some bytes ≡ Some must.bytes = sym from ∙ must.holds in
@@ -104,13 +104,13 @@ module _ (tree : KeyringMeaning) (given : List KeyValue) (required : List (List 
 
 work_done : (cache : Option LimitsValue) (tree left : KeyringMeaning) (work : Work) (from before to : Option (List ℕ)) (drawn : List ℕ) (line : JobLine) → Stayed tree.faults left.faults
     → RequiresGiven work → entropy_fails line.end ≡ 0 → keyring_fails line.end ≡ 0 → ((bytes : List ℕ) → from ≡ Some bytes → shelf_fails line.end ≡ 0)
-    → ((bytes : List ℕ) → from ≡ Some bytes → WorksSo (managing_over cache tree left) work (seen_with from before to line.served drawn) line.end) → WorksIfItMust tree work from line
+    → ((bytes : List ℕ) → from ≡ Some bytes → WorksSo (managing_over cache tree left) work (seen_with from before to line.served drawn) line.end) → WorksIfItMust cache tree work from line
 work_done cache tree left (Encrypt length frame context required) from before to drawn line stayed are_given drawing opening reading works = λ must.
     sealing_done cache tree left (record { declared = length; frame = frame; context = context; required = required }) (seen_with from before to line.served drawn) must line.end
     drawing opening (reading must.text must.holds) (works must.text must.holds)
 work_done cache tree left (Decrypt given required) from before to drawn line stayed are_given drawing opening reading works = λ must.
     let so = works must.bytes must.holds in
-    opening_done tree given required (seen_with from before to line.served drawn) must line.end (reading must.bytes must.holds)
+    opening_done cache tree given required (seen_with from before to line.served drawn) must line.end (reading must.bytes must.holds)
     (reads_so cache tree left must.keys given required must.steady must.told stayed are_given (seen_with from before to line.served drawn) line.end so.1)
 
 -- what is said of a job holds where the shelf tells the file that it reads: no job writes that, so that the shelf tells still
@@ -129,7 +129,7 @@ module _ (cache : Option LimitsValue) (tree left : KeyringMeaning) (stayed : Sta
   each_done : (jobs : List Job) (drawn : List (List ℕ)) (lines : List JobLine) → All (λ job. RequiresGiven job.work) jobs → All (λ job. is_written all_jobs job.from ≡ false) jobs
       → sum_by (λ line. entropy_fails line.end) lines ≡ 0 → sum_by (λ line. keyring_fails line.end) lines ≡ 0
       → sum_by (λ pair. shelf_fails_of before pair.0 pair.1.end) (zip jobs lines) ≡ 0
-      → AllCome (managing_over cache tree left) before after jobs drawn lines → AllZip (DoesJob tree before) jobs lines
+      → AllCome (managing_over cache tree left) before after jobs drawn lines → AllZip (DoesJob cache tree before) jobs lines
   each_done [] [] [] are_given unread drawing opening reading all = tt
   each_done (job ∷ jobs) (drawn ∷ draws) (line ∷ lines) are_given unread drawing opening reading all =
       let entropy = first_zero (λ (l : JobLine). entropy_fails l.end) line lines drawing in
@@ -158,7 +158,7 @@ read_faults : (trees : Trees) (name : List ℕ) (old new : ShelfState) (read : J
 read_faults trees name old new read tree has = has.keyring.file.faults ∙ has.jobs.read.faults
 
 jobs_done : (trees : Trees) (name : List ℕ) (before after : Objects) (code : ℕ) (runs : RunsAllJobs trees name before after code) → NoJobFails trees runs.runs.tree before after
-    → DoesJobs runs.runs.tree before.shelf.files runs.runs.file.jobs before.output after.output
+    → DoesJobs runs.runs.file.cache runs.runs.tree before.shelf.files runs.runs.file.jobs before.output after.output
 jobs_done trees name before after code runs nothing =
     let all = runs.runs in
     let ran = all.runs.runs in
@@ -169,7 +169,7 @@ jobs_done trees name before after code runs nothing =
     record {
       lines = runs.lines;
       gained = runs.writes.gained;
-      done = subst (λ (files : Option Files). AllZip (DoesJob all.tree files) all.file.jobs runs.lines) all.has.stay
+      done = subst (λ (files : Option Files). AllZip (DoesJob all.file.cache all.tree files) all.file.jobs runs.lines) all.has.stay
           (each_done all.file.cache all.tree all.left stayed all.file.jobs all.read.files after.shelf.files ran.others all.file.jobs ran.draws runs.lines kept.given kept.unread
           (none_rose _ _ _ all.failures.entropy nothing.drawing) (none_rose _ _ _ all.failures.keyring stayed) (none_rose _ _ _ all.failures.shelf reading) ran.jobs);
     }
@@ -182,8 +182,8 @@ does_what_it_must trees name before after unchanged code (inl runs) file tree ho
     let same_tree : runs.runs.tree ≡ tree =
     read_tree_is_held trees name before.shelf runs.runs.read runs.runs.file file runs.runs.tree tree same holds.keyring has in
     let nothing_read : NoJobFails trees runs.runs.tree before after = subst (λ (t : KeyringMeaning). NoJobFails trees t before after) (sym same_tree) nothing in
-    inr (subst (λ (f : JobFile). DoesJobs tree before.shelf.files f.jobs before.output after.output) same
-    (subst (λ (t : KeyringMeaning). DoesJobs t before.shelf.files runs.runs.file.jobs before.output after.output) same_tree
+    inr (subst (λ (f : JobFile). DoesJobs f.cache tree before.shelf.files f.jobs before.output after.output) same
+    (subst (λ (t : KeyringMeaning). DoesJobs runs.runs.file.cache t before.shelf.files runs.runs.file.jobs before.output after.output) same_tree
     (jobs_done trees name before after code runs nothing_read)))
 does_what_it_must trees name before after unchanged code (inr fails) file tree holds nothing =
     elim (runs_what_is_held trees name before after unchanged code (inr fails) file tree holds nothing.reading nothing.writing) [

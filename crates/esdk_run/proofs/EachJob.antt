@@ -44,7 +44,7 @@ use Rattle.esdk_run.specs.Decrypt.{TreeFinds, TreeFindsNone}
 use Rattle.esdk_run.specs.EachJob.{IsReadBy, ReadsSo, Releases, ReleasesFront, SaysEachJudgement, ShowsJudgements, WorkReadsSo, reader_for}
 use Rattle.esdk_run.specs.Objects.{Objects, Unchanged}
 use Rattle.esdk_run.specs.Run.{BatchRuns, RunsAllJobs}
-use Rattle.esdk_run.specs.Serving.{TreeServesHeader, TreeServesNone, managing_over}
+use Rattle.esdk_run.specs.Serving.{IsSteadyIfCached, TreeServesHeader, TreeServesNone, managing_over}
 use Rattle.esdk_run.specs.Trees.{Trees}
 use Rattle.esdk_run.proofs.Keys.{keys_allow}
 use Rattle.esdk_run.proofs.ReadJobs.{RequiresGiven, read_jobs_keep}
@@ -72,7 +72,7 @@ given_offence stored given required all =
 -- ---- what the manager of a batch answers to the header of a decrypt job
 
 module _ (cache : Option LimitsValue) (tree left : KeyringMeaning) (keys : List WrapKeyValue) (given : List KeyValue) (required : List (List ℕ))
-    (steady : tree.steady ≡ true) (told : tree.keys ≡ Some keys) (stayed : Stayed tree.faults left.faults) (are_given : list_all (holds given) required ≡ true) where
+    (steady : IsSteadyIfCached cache tree) (told : tree.keys ≡ Some keys) (stayed : Stayed tree.faults left.faults) (are_given : list_all (holds given) required ≡ true) where
   abbrev over : Saying
   over = managing_over cache tree left
 
@@ -88,7 +88,7 @@ module _ (cache : Option LimitsValue) (tree left : KeyringMeaning) (keys : List 
   }
 
   not_found : (request : DecRequestValue) (error : ManagerError) → pair_offence request.stored request.given required ≡ pair_offence request.stored request.given []
-      → TreeServesNone tree left request error → TreeFindsNone required tree left request error
+      → TreeServesNone cache tree left request error → TreeFindsNone required tree left request error
   not_found request (managers.Fault faults.NoKeyOpens) same none = record { sound = same ∙ none.sound; none = (none.none steady).none }
   not_found request (managers.Fault fault) same none = same ∙ none
   not_found request (managers.Refusal refusal) same none = none
@@ -169,7 +169,7 @@ abbrev pub seen_with : Option (List ℕ) → Option (List ℕ) → Option (List 
 seen_with from before to served drawn = record { from = from; before = before; to = to; drawn = drawn; served = served }
 
 work_read : (cache : Option LimitsValue) (tree left : KeyringMeaning) (keys : List WrapKeyValue) (work : Work) (from before to : Option (List ℕ)) (served : Option Served) (drawn : List ℕ) (end : JobEnd)
-    → tree.steady ≡ true → tree.keys ≡ Some keys → Stayed tree.faults left.faults → RequiresGiven work
+    → IsSteadyIfCached cache tree → tree.keys ≡ Some keys → Stayed tree.faults left.faults → RequiresGiven work
     → WorksSo (managing_over cache tree left) work (seen_with from before to served drawn) end → WorkReadsSo keys work (seen_with from before to served []) end
 work_read cache tree left keys (Encrypt length frame context required) from before to served drawn end steady told stayed are_given works = tt
 work_read cache tree left keys (Decrypt given required) from before to served drawn end steady told stayed are_given works =
@@ -177,7 +177,7 @@ work_read cache tree left keys (Decrypt given required) from before to served dr
     (subst (λ (d : List ℕ). OpensSo (managing_over cache tree left) given (seen_with from before to served d) end) works.0 works.1)
 
 each_read : (cache : Option LimitsValue) (tree left : KeyringMeaning) (keys : List WrapKeyValue) (before after : Option Files) (jobs : List Job) (drawn : List (List ℕ)) (lines : List JobLine)
-    → tree.steady ≡ true → tree.keys ≡ Some keys → Stayed tree.faults left.faults → All (λ job. RequiresGiven job.work) jobs
+    → IsSteadyIfCached cache tree → tree.keys ≡ Some keys → Stayed tree.faults left.faults → All (λ job. RequiresGiven job.work) jobs
     → AllCome (managing_over cache tree left) before after jobs drawn lines → AllZip (IsReadBy keys before after) jobs lines
 each_read cache tree left keys before after [] [] [] steady told stayed are_given all = tt
 each_read cache tree left keys before after (job ∷ jobs) (drawn ∷ draws) (line ∷ lines) steady told stayed are_given all = (
@@ -196,14 +196,17 @@ all_judged trees name before after code runs =
     record {
       file = runs.runs.file;
       tree = runs.runs.tree;
+      left = runs.runs.left;
       read = runs.runs.read;
       lines = runs.lines;
       has = has;
+      kept = runs.runs.kept;
+      still = runs.runs.goes.still;
       gained = runs.writes.gained;
       each = each_has_a_line _ _ _ runs.runs.file.jobs ran.draws runs.lines ran.jobs;
-      judged = λ keys steady told.
+      judged = λ keys told stayed steady.
           subst (λ (files : Option Files). AllZip (IsReadBy keys files after.shelf.files) runs.runs.file.jobs runs.lines) has.stay
-          (each_read runs.runs.file.cache runs.runs.tree runs.runs.left keys runs.runs.read.files after.shelf.files runs.runs.file.jobs ran.draws runs.lines steady told (runs.runs.goes.still steady)
+          (each_read runs.runs.file.cache runs.runs.tree runs.runs.left keys runs.runs.read.files after.shelf.files runs.runs.file.jobs ran.draws runs.lines steady told stayed
           (read_jobs_keep name has.jobs.bytes runs.runs.file has.jobs.is).given ran.jobs);
     }
 

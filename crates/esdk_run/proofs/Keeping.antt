@@ -3,9 +3,11 @@ use Rattle.std.proofs.Common.{◌≡◌, ℕ, List, Bool, ◌+◌, ◌≤◌, �
 use Rattle.std.specs.declared.option.Option.{Option}
 use Rattle.esdk_args.specs.declared.request.DecryptWords.{DecryptWords}
 use Rattle.esdk_args.specs.declared.request.EncryptWords.{EncryptWords}
+use Rattle.esdk_args.specs.declared.request.ExtractWords.{ExtractWords}
 use Rattle.esdk_args.specs.declared.request.ListWords.{ListWords}
 use Rattle.esdk_args.specs.declared.request.MigrateWords.{MigrateWords}
 use Rattle.esdk_args.specs.declared.request.Request.TheVariants as requests
+use Rattle.esdk_args.specs.declared.request.ResealWords.{ResealWords}
 use Rattle.esdk_args.specs.declared.request.WordsFault.{WordsFault}
 use Rattle.esdk_args.specs.declared.request.WordsFault.TheVariants as unread
 use Rattle.esdk_args.specs.Faults.{AnswersWords}
@@ -122,6 +124,21 @@ batch_keeps words name before after unchanged time code is input taken ages =
           subst (λ (n : List ℕ). KeepsAges n before.shelf before.output after.output time.before time.after code) one ages;
     })
 
+pub extract_keeps : (words : Words) (asked : ExtractWords) (before after : Objects) (unchanged : Unchanged) (time : Ticks) (code : ℕ)
+    → words ≡ Ok (requests.Extract asked) → after.shelf.files ≡ before.shelf.files → unchanged.input → unchanged.entropy → time.same
+    → after.input.given ≡ before.input.given → Keeps words before after unchanged time code
+extract_keeps words asked before after unchanged time code is files input entropy clock taken =
+    subst (λ (w : Words). Keeps w before after unchanged time code) (sym is) (record {
+      files = λ _. files;
+      shelf = λ no. absurd (never no);
+      input = λ _. input;
+      entropy = λ _. entropy;
+      clock = λ _. clock;
+      taken = none_taken _ _ taken;
+      judged = λ other no. absurd cc;
+      ages = λ name no. absurd cc;
+    })
+
 pub gen_keeps : (words : Words) (seed size : ℕ) (before after : Objects) (unchanged : Unchanged) (time : Ticks) (code : ℕ)
     → words ≡ Ok (requests.Gen seed size) → after.shelf.files ≡ before.shelf.files → unchanged.shelf → unchanged.input → unchanged.entropy → time.same
     → after.input.given ≡ before.input.given → Keeps words before after unchanged time code
@@ -133,6 +150,36 @@ gen_keeps words seed size before after unchanged time code is files shelf input 
       entropy = λ _. entropy;
       clock = λ _. clock;
       taken = none_taken _ _ taken;
+      judged = λ other no. absurd cc;
+      ages = λ name no. absurd cc;
+    })
+
+pub audit_keeps : (words : Words) (name : List ℕ) (before after : Objects) (unchanged : Unchanged) (time : Ticks) (code : ℕ)
+    → words ≡ Ok (requests.Audit name) → after.shelf.files ≡ before.shelf.files → unchanged.input → unchanged.entropy → time.same
+    → after.input.given ≡ before.input.given → Keeps words before after unchanged time code
+audit_keeps words name before after unchanged time code is files input entropy clock taken =
+    subst (λ (w : Words). Keeps w before after unchanged time code) (sym is) (record {
+      files = λ _. files;
+      shelf = λ no. absurd (never no);
+      input = λ _. input;
+      entropy = λ _. entropy;
+      clock = λ _. clock;
+      taken = none_taken _ _ taken;
+      judged = λ other no. absurd cc;
+      ages = λ other no. absurd cc;
+    })
+
+pub reseal_keeps : (words : Words) (asked : ResealWords) (before after : Objects) (unchanged : Unchanged) (time : Ticks) (code : ℕ)
+    → words ≡ Ok (requests.Reseal asked) → after.shelf.files ≡ before.shelf.files → time.same
+    → after.input.given ≤ before.input.given + 2 ^ 62 → Keeps words before after unchanged time code
+reseal_keeps words asked before after unchanged time code is files clock taken =
+    subst (λ (w : Words). Keeps w before after unchanged time code) (sym is) (record {
+      files = λ _. files;
+      shelf = λ no. absurd (never no);
+      input = λ no. absurd (never no);
+      entropy = λ no. absurd (never no);
+      clock = λ _. clock;
+      taken = taken;
       judged = λ other no. absurd cc;
       ages = λ name no. absurd cc;
     })

@@ -1,5 +1,7 @@
 pub mod Asked
 pub mod Given
+pub mod Auditing
+pub mod AuditDone
 pub mod Chain
 pub mod Keys
 pub mod Endings
@@ -11,6 +13,7 @@ pub mod TreesBack
 pub mod Encryption
 pub mod Migration
 pub mod Decryption
+pub mod Extraction
 pub mod BatchMore
 pub mod Serving
 pub mod Showing
@@ -21,3 +24,4 @@ pub mod DoneJobs
 mod Ages
 mod Keeping
 mod Promising
+pub mod Resealing

@@ -12,15 +12,16 @@ use Rattle.esdk_run.specs.Objects.{Objects, Unchanged, same_streams}
 use Rattle.esdk_run.specs.Promises.{Promises, Ticks, Words}
 use Rattle.esdk_run.specs.Run.{RunsAs}
 use Rattle.esdk_run.specs.Trees.{IsUntouched, Trees}
-use Rattle.esdk_run.proofs.Asked.{comes_back, done_asked, encrypt_asked, judgement_asked, judgements_asked, jobs_asked, limits_asked, line_asked, migration_asked, others_asked, reads_asked, round_trip_asked, whole_asked}
+use Rattle.esdk_run.proofs.Asked.{audited_asked, comes_back, done_asked, encrypt_asked, extract_asked, judgement_asked, judgements_asked, jobs_asked, limits_asked, line_asked, migration_asked, openers_asked, others_asked, reads_asked, round_trip_asked, whole_asked}
 use Rattle.esdk_run.proofs.Encryption.{encrypts_what_fits, writes_the_message}
+use Rattle.esdk_run.proofs.Extraction.{extract_comes_back, extracts_of_content, extracts_sound_ranges, reads_no_more, says_what_it_extracts}
 use Rattle.esdk_run.proofs.Keeping.{Keeps}
 use Rattle.esdk_run.proofs.TreesBack.{none_is_some}
 
 pub promised : (trees : Trees) (words : Words) (before after : Objects) (unchanged : Unchanged) (time : Ticks) (code : ℕ)
-    → (unchanged.output → after.output ≡ before.output) → RunsAs trees words before after unchanged code → Keeps words before after unchanged time code
+    → (unchanged.output → after.output ≡ before.output) → (unchanged.shelf → after.shelf ≡ before.shelf) → RunsAs trees words before after unchanged code → Keeps words before after unchanged time code
     → Promises trees words before after unchanged time code
-promised trees words before after unchanged time code same runs keeps = record {
+promised trees words before after unchanged time code same unread runs keeps = record {
   files = keeps.files;
   shelf = keeps.shelf;
   input = keeps.input;
@@ -43,6 +44,13 @@ promised trees words before after unchanged time code same runs keeps = record {
   judgements = λ name is. judgements_asked trees words name before after unchanged code is runs;
   jobs = λ name is. done_asked trees words name before after unchanged code is runs;
   generator = λ seed size is. line_asked trees words seed size before after unchanged code is runs;
+  extract_tree = λ asked is. extract_comes_back trees asked before after unchanged code (extract_asked trees words asked before after unchanged code is runs);
+  extraction = λ asked is. says_what_it_extracts trees asked before after unchanged code (extract_asked trees words asked before after unchanged code is runs);
+  sound_range = λ asked is. extracts_sound_ranges trees asked before after unchanged code (extract_asked trees words asked before after unchanged code is runs);
+  range_of_content = λ asked is. extracts_of_content trees asked before after unchanged code (extract_asked trees words asked before after unchanged code is runs);
+  extract_reads = λ asked is. reads_no_more trees asked before after unchanged code unread (extract_asked trees words asked before after unchanged code is runs);
+  audit = λ name is. openers_asked trees words name before after unchanged code is runs;
+  audited = λ name is. audited_asked trees words name before after unchanged code is runs;
 }
 
 -- ---- the course of a run, by its command
@@ -80,6 +88,12 @@ memory_runs trees (Ok (requests.Batch name)) before after unchanged code none in
     })
 memory_runs trees (Ok (requests.Gen seed size)) before after unchanged code none input output entropy files said =
     (none, inr (record { failure = failures.Memory; because = output; said = said }))
+memory_runs trees (Ok (requests.Extract asked)) before after unchanged code none input output entropy files said =
+    inr (record { failure = failures.Memory; because = inl (record { same = output; none = none }); said = said })
+memory_runs trees (Ok (requests.Audit name)) before after unchanged code none input output entropy files said =
+    inr (record { failure = failures.Memory; because = (λ left kept. absurd (none_is_some trees left kept none), output); said = said })
+memory_runs trees (Ok (requests.Reseal asked)) before after unchanged code none input output entropy files said =
+    inr (record { failure = failures.Memory; because = inl (record { same = ((input, output), entropy); none = none }); said = said })
 memory_runs trees (Err fault) before after unchanged code none input output entropy files said =
     (record { same = (input, output); none = none }, inr said)
 

@@ -19,7 +19,7 @@ use Rattle.job_file.specs.declared.job.Work.{Work}
 use Rattle.job_file.specs.declared.job.Work.TheVariants.{Encrypt, Decrypt}
 use Rattle.job_file.specs.JobFile.{JobFile, is_written}
 use Rattle.job_file.specs.JobForm.{Head, context_at, decryption_of, encryption_of, head_of, job_of, keys_in, length_at, number_or, required_at, unless_absent, with_required, work_named}
-use Rattle.job_file.specs.Jobs.{clash_among, file_of, jobs_from, jobs_of, or_refuse, read_names, then_read, unless_clash}
+use Rattle.job_file.specs.Jobs.{clash_among, each_from, file_of, jobs_from, jobs_of, or_refuse, read_names, then_read, unless_clash}
 use Rattle.job_file.proofs.Apart.{reads_apart}
 use Rattle.job_file.proofs.Held.{one_more_passes}
 use Rattle.esdk_run.specs.Batch.{jobs_in}
@@ -138,7 +138,7 @@ job_keeps d =
 -- ---- the jobs
 
 jobs_keep : (number : ℕ) (items : Items) → IfOk (jobs_from number items) (λ jobs. All (λ job. RequiresGiven job.work) jobs)
-unfolding jobs_from
+unfolding each_from
 jobs_keep number no_items = All-nil (λ (job : Job). RequiresGiven job.work)
 jobs_keep number (item d ds) =
     if_read (λ job. RequiresGiven job.work) (λ jobs. All (λ job. RequiresGiven job.work) jobs) (or_refuse (BadShape number) (job_of d)) _

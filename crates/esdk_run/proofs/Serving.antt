@@ -1,5 +1,5 @@
 -- The manager of a batch over its tree: what it may say is what the tree serves.
-use Rattle.std.proofs.Common.{◌≡◌, ◌∙◌, ℕ, List, true, [], None, Some, Ok, Err, refl, sym, ap, subst, drop}
+use Rattle.std.proofs.Common.{◌≡◌, ◌∙◌, ℕ, List, true, false, true≢false, [], None, Some, Ok, Err, refl, sym, ap, subst, drop}
 use Rattle.std.specs.Prelude.{IfOk, IfSome, ◌&&◌, is_none}
 use Rattle.std.specs.declared.option.Option.{Option}
 use Rattle.std.specs.declared.result.Result.{Result}
@@ -29,7 +29,7 @@ use Rattle.esdk_batch.specs.Batch.{RunsBatch}
 use Rattle.esdk_batch.specs.Failures.{CountsFailures, tally_of}
 use Rattle.esdk_encrypt.specs.Told.{NoneFor}
 use Rattle.esdk_run.specs.Batch.{RunsWithin}
-use Rattle.esdk_run.specs.Serving.{TreeOutlasts, TreeServes, TreeServesHeader, TreeServesNone, managing_over, refusal_over}
+use Rattle.esdk_run.specs.Serving.{IsSteadyIfCached, TreeOutlasts, TreeServes, TreeServesHeader, TreeServesNone, managing_over, refusal_over}
 use Rattle.esdk_run.proofs.BatchMore.{runs_more}
 use Rattle.esdk_run.proofs.Chain.{same_keys, where_some}
 
@@ -42,7 +42,7 @@ cached store tree = caching_now store (default_now tree)
 -- What is so of a manager before its first call.
 pub record Begins (cache : Option LimitsValue) (store : Option Store) (tree : KeyringMeaning) : Type 0 where
   pub limits : limits_of store ≡ cache
-  pub tells : (keys : List WrapKeyValue) → default_tells tree keys → tree.steady ≡ true → (cached store tree).tells keys
+  pub tells : (keys : List WrapKeyValue) → default_tells tree keys → IsSteadyIfCached cache tree → (cached store tree).tells keys
   pub exact : (cached store tree).exact
 
 -- without limits there is no cache
@@ -104,7 +104,7 @@ serves_header cache store later tree left request m begins finds = record {
 
 fault_served : (cache : Option LimitsValue) (store later : Option Store) (tree left : KeyringMeaning) (request : DecRequestValue) (fault : Fault) → Begins cache store tree
     → FindsNone (cached store tree) (cached later left) request (managers.Fault fault)
-    → TreeServesNone tree left request (managers.Fault fault)
+    → TreeServesNone cache tree left request (managers.Fault fault)
 fault_served cache store later tree left request faults.ReservedKey begins finds = finds.1 begins.exact
 fault_served cache store later tree left request (faults.ContextMismatch key) begins finds = finds.1 begins.exact
 fault_served cache store later tree left request (faults.MissingRequired key) begins finds = finds.1 begins.exact
@@ -119,7 +119,7 @@ fault_served cache store later tree left request faults.NoKeyOpens begins finds 
 fault_served cache store later tree left request fault begins finds = absurd finds.0
 
 serves_no_header : (cache : Option LimitsValue) (store later : Option Store) (tree left : KeyringMeaning) (request : DecRequestValue) (error : ManagerError) → Begins cache store tree
-    → FindsNone (cached store tree) (cached later left) request error → TreeServesNone tree left request error
+    → FindsNone (cached store tree) (cached later left) request error → TreeServesNone cache tree left request error
 serves_no_header cache store later tree left request (managers.Fault fault) begins finds = fault_served cache store later tree left request fault begins finds
 serves_no_header cache store later tree left request (managers.Refusal refusal) begins none = none
 serves_no_header cache store later tree left request managers.KeyringFault begins failed = (failed.1 begins.exact, failed.0)
@@ -140,14 +140,29 @@ tree_admits cache store later tree left begins = record {
 -- ---- what is left of the tree
 
 -- a plain manager has no cache, of which anything is so
-plain_is_right : (store : Option Store) (tree : KeyringMeaning) (keys : List WrapKeyValue) → (is_none store && true) ≡ true → tree.steady ≡ true → default_tells tree keys → (cached store tree).tells keys
-plain_is_right None tree keys plain steady told = record { told = told; steady = steady; right = tt }
-plain_is_right (Some s) tree keys plain steady told = absurd cc
+plain_is_right : (store : Option Store) (tree : KeyringMeaning) (keys : List WrapKeyValue) → (is_none store && true) ≡ true → default_tells tree keys → (cached store tree).tells keys
+plain_is_right None tree keys plain told = record { told = told; steady = λ some. absurd (true≢false some); right = tt }
+plain_is_right (Some s) tree keys plain told = absurd cc
+
+-- where there is no cache, nothing is asked of the tree
+unsteady : (cache : Option LimitsValue) (tree : KeyringMeaning) → cache ≡ None → IsSteadyIfCached cache tree
+unsteady None tree off = tt
+unsteady (Some limits) tree off = absurd cc
+
+-- what the words of a cache say
+pub steady_cached : (cache : Option LimitsValue) (tree : KeyringMeaning) → IsSteadyIfCached cache tree → is_none cache ≡ false → tree.steady ≡ true
+steady_cached None tree so some = absurd (true≢false some)
+steady_cached (Some limits) tree so some = so
+
+-- a steady tree is steady if there is a cache
+pub steady_so : (cache : Option LimitsValue) (tree : KeyringMeaning) → tree.steady ≡ true → IsSteadyIfCached cache tree
+steady_so None tree steady = tt
+steady_so (Some limits) tree steady = steady
 
 pub tree_outlasts : (cache : Option LimitsValue) (store later : Option Store) (tree left : KeyringMeaning) → Begins cache store tree
     → Went (cached store tree) (cached later left) → TreeOutlasts cache tree left
 tree_outlasts cache store later tree left begins went =
-    let on : (steady : tree.steady ≡ true) (keys : List WrapKeyValue) → tree.keys ≡ Some keys → left.keys ≡ Some keys =
+    let on : (steady : IsSteadyIfCached cache tree) (keys : List WrapKeyValue) → tree.keys ≡ Some keys → left.keys ≡ Some keys =
     λ steady keys told. (went.tells keys (begins.tells keys told steady)).told in
     record {
       wraps = went.goes.wraps;
@@ -156,10 +171,10 @@ tree_outlasts cache store later tree left begins went =
       later = went.goes.later;
       still = went.goes.still;
       keys = λ steady. where_told tree (λ keys. left.keys ≡ Some keys) (on steady);
-      same = λ steady off.
+      same = λ off.
           let plain : (is_none store && true) ≡ true = off_is_plain store (begins.limits ∙ off) in
-          same_keys tree.keys left.keys (on steady)
-          (λ keys told. (went.same plain keys (plain_is_right later left keys (went.goes.plain ∙ plain) (went.goes.steady ∙ steady) told)).told);
+          same_keys tree.keys left.keys (on (unsteady cache tree off))
+          (λ keys told. (went.same plain keys (plain_is_right later left keys (went.goes.plain ∙ plain) told)).told);
     }
 
 -- ---- a batch over such a manager

@@ -14,6 +14,7 @@ use Rattle.body_format.specs.declared.verdicts.Verdict.TheVariants.{Whole}
 use Rattle.message_format.specs.Judgement.{content}
 use Rattle.esdk_decrypt.specs.Decrypt.{fault_at_end}
 use Rattle.esdk_decrypt.specs.Told.{Reader, judged_by}
+use Rattle.cmm_caching.specs.Limits.{LimitsValue}
 use Rattle.job_file.specs.declared.job.Job.{Job}
 use Rattle.job_file.specs.declared.job.Work.{Work}
 use Rattle.job_file.specs.declared.job.Work.TheVariants.{Encrypt, Decrypt}
@@ -29,7 +30,7 @@ use Rattle.esdk_batch.specs.SealStory.{SealAsked, Seen, held, most_sealed}
 use Rattle.esdk_run.specs.Batch.{HasJobs}
 use Rattle.esdk_run.specs.Objects.{Objects}
 use Rattle.esdk_run.specs.Served.{HoldsJobs}
-use Rattle.esdk_run.specs.Serving.{refusal_over}
+use Rattle.esdk_run.specs.Serving.{IsSteadyIfCached, refusal_over}
 use Rattle.esdk_run.specs.Trees.{Trees}
 
 -- ---- what is read for a decrypt job
@@ -63,7 +64,7 @@ pub record ReleasesFront (reader : Reader) (seen : Seen) : Type 0 where
   pub count : ℕ
   pub front : seen.to ≡ Some (take count (content (judged_by reader (held seen.from))))
 
--- what a decrypt job comes to, by how it ended; a steady tree never fails
+-- what a decrypt job comes to, by how it ended, where no keyring failed
 abbrev pub ReadsSo : Reader → Seen → JobEnd → Type 0
 ReadsSo reader seen ends.Done = ReadsWhole reader seen
 ReadsSo reader seen (ends.Fault fault) = ReadsFault reader seen fault
@@ -83,17 +84,22 @@ IsReadBy keys before after job line = (files left : Files) → before ≡ Some f
     → WorkReadsSo keys job.work (seen_of job files left [] line) line.end
 
 -- The job file means these jobs, the keyring file that it names was read as this tree, and the
--- output gained the report of the jobs, one line for each. Where the tree is steady and tells its
--- keys, each decrypt job is read by these keys.
+-- output gained the report of the jobs, one line for each. This is left of the tree: a steady one
+-- didn't fail. Where the tree tells its keys, didn't fail, and is steady if there is a cache, each
+-- decrypt job is read by these keys.
 pub record ShowsJudgements (trees : Trees) (name : List ℕ) (before after : Objects) : Type 0 where
   pub file : JobFile
   pub tree : KeyringMeaning
+  pub left : KeyringMeaning
   pub read : ShelfState
   pub lines : List JobLine
   pub has : HasJobs trees name before.shelf read file tree
+  pub kept : trees.kept ≡ Some left
+  pub still : tree.steady ≡ true → Stayed tree.faults left.faults
   pub gained : Appends before.output.written after.output.written (report_of lines)
   pub each : length lines ≡ length file.jobs
-  pub judged : (keys : List WrapKeyValue) → tree.steady ≡ true → tree.keys ≡ Some keys
+  pub judged : (keys : List WrapKeyValue) → tree.keys ≡ Some keys
+      → Stayed tree.faults left.faults → IsSteadyIfCached file.cache tree
       → AllZip (IsReadBy keys before.shelf.files after.shelf.files) file.jobs lines
 
 -- so it is, where the batch was run and reported
@@ -113,12 +119,13 @@ pub record MustSeal (tree : KeyringMeaning) (from : Option (List ℕ)) (asked : 
   pub room : length text ≤ most_sealed asked
   pub few : length text < most_input
 
--- A decrypt job with these pairs must be done: the tree is steady and tells its keys, and the file
--- that it reads holds a whole message to these.
-pub record MustOpen (tree : KeyringMeaning) (from : Option (List ℕ)) (given : List KeyValue) (required : List (List ℕ)) : Type 0 where
+-- A decrypt job with these pairs must be done: the tree tells its keys, and is steady if there is a
+-- cache, and the file that the job reads holds a whole message to these.
+pub record MustOpen (cache : Option LimitsValue) (tree : KeyringMeaning) (from : Option (List ℕ))
+    (given : List KeyValue) (required : List (List ℕ)) : Type 0 where
   pub keys : List WrapKeyValue
   pub bytes : List ℕ
-  pub steady : tree.steady ≡ true
+  pub steady : IsSteadyIfCached cache tree
   pub told : tree.keys ≡ Some keys
   pub holds : from ≡ Some bytes
   pub few : length bytes < most_input
@@ -129,21 +136,23 @@ abbrev pub SealsIfItMust : KeyringMeaning → SealAsked → Option (List ℕ) �
 SealsIfItMust tree asked from line = MustSeal tree from asked → is_done line ≡ true
 
 -- a job is done that must be, by its work and what the file holds that it reads
-abbrev pub WorksIfItMust : KeyringMeaning → Work → Option (List ℕ) → JobLine → Type 0
-WorksIfItMust tree (Encrypt length frame context required) from line =
+abbrev pub WorksIfItMust : Option LimitsValue → KeyringMeaning → Work → Option (List ℕ) → JobLine
+    → Type 0
+WorksIfItMust cache tree (Encrypt length frame context required) from line =
     SealsIfItMust tree (record { declared = length; frame = frame; context = context; required = required }) from line
-WorksIfItMust tree (Decrypt given required) from line =
-    MustOpen tree from given required → is_done line ≡ true
+WorksIfItMust cache tree (Decrypt given required) from line =
+    MustOpen cache tree from given required → is_done line ≡ true
 
 -- a job and its line, over the files before the batch
-abbrev pub DoesJob : KeyringMeaning → Option Files → Job → JobLine → Type 0
-DoesJob tree files job line = WorksIfItMust tree job.work (file_of files job.from) line
+abbrev pub DoesJob : Option LimitsValue → KeyringMeaning → Option Files → Job → JobLine → Type 0
+DoesJob cache tree files job line = WorksIfItMust cache tree job.work (file_of files job.from) line
 
 -- The output gained the report of these jobs, one line for each, and each that must be is done.
-pub record DoesJobs (tree : KeyringMeaning) (files : Option Files) (jobs : List Job) (before after : SinkState) : Type 0 where
+pub record DoesJobs (cache : Option LimitsValue) (tree : KeyringMeaning) (files : Option Files)
+    (jobs : List Job) (before after : SinkState) : Type 0 where
   pub lines : List JobLine
   pub gained : Appends before.written after.written (report_of lines)
-  pub done : AllZip (DoesJob tree files) jobs lines
+  pub done : AllZip (DoesJob cache tree files) jobs lines
 
 -- No count of faults rose of the shelf, the output, the entropy and the tree, and none is at its
 -- end.
@@ -158,4 +167,5 @@ abbrev pub DoesWhatItMust : Trees → List ℕ → Objects → Objects → ℕ �
 DoesWhatItMust trees name before after code =
     (file : JobFile) (tree : KeyringMeaning) → HoldsJobs trees before.shelf.files name file tree
     → NoJobFails trees tree before after
-    → (code ≡ 5) ⊎ DoesJobs tree before.shelf.files file.jobs before.output after.output
+    → (code ≡ 5)
+    ⊎ DoesJobs file.cache tree before.shelf.files file.jobs before.output after.output

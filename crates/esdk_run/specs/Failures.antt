@@ -7,12 +7,16 @@ use Rattle.esdk_decrypt.specs.declared.errors.DecryptError.{DecryptError}
 use Rattle.esdk_decrypt.specs.declared.errors.DecryptError.TheVariants as decrypting
 use Rattle.esdk_encrypt.specs.declared.errors.EncryptError.{EncryptError}
 use Rattle.esdk_encrypt.specs.declared.errors.EncryptError.TheVariants as encrypting
+use Rattle.extract_core.specs.declared.errors.ExtractError.{ExtractError}
+use Rattle.extract_core.specs.declared.errors.ExtractError.TheVariants as extracting
 use Rattle.esdk_fields.specs.declared.refusals.FileRefusal.TheVariants.{FileTooLong}
 use Rattle.esdk_fields.specs.declared.refusals.Outside.TheVariants.{ShelfFault}
 use Rattle.esdk_report.specs.declared.failure.Failure.{Failure}
 use Rattle.esdk_report.specs.declared.failure.Failure.TheVariants as failures
 use Rattle.keyring_file.specs.declared.key_file.TreeError.{TreeError}
 use Rattle.keyring_file.specs.declared.key_file.TreeError.TheVariants as trees
+use Rattle.reseal_core.specs.declared.errors.InputError.{InputError}
+use Rattle.reseal_core.specs.declared.errors.InputError.TheVariants as resealing
 use Rattle.whole_input.specs.declared.file.FileError.{FileError}
 use Rattle.whole_input.specs.declared.file.FileError.TheVariants as files
 
@@ -50,3 +54,16 @@ abbrev pub decryption_failure : DecryptError → Failure
 decryption_failure (decrypting.Fault fault) = failures.Fault fault
 decryption_failure (decrypting.Outside outside) = failures.Outside outside
 decryption_failure decrypting.Memory = failures.Memory
+
+-- of an extraction
+abbrev pub extraction_failure : ExtractError → Failure
+extraction_failure (extracting.Fault fault) = failures.Fault fault
+extraction_failure (extracting.Outside outside) = failures.Outside outside
+extraction_failure extracting.Memory = failures.Memory
+
+-- of a resealing
+abbrev pub resealing_failure : InputError → Failure
+resealing_failure (resealing.Fault fault) = failures.Fault fault
+resealing_failure (resealing.Refusal refusal) = failures.Refusal refusal
+resealing_failure (resealing.Outside outside) = failures.Outside outside
+resealing_failure resealing.Memory = failures.Memory

@@ -11,9 +11,14 @@ pub mod Prepared
 pub mod Read
 pub mod Trees
 pub mod Serving
+pub mod Audit
 pub mod Batch
 pub mod Generate
+pub mod Extract
+pub mod ExtractTold
 pub mod Served
 pub mod EachJob
 pub mod Ages
+pub mod AuditTold
 pub mod Promises
+pub mod Reseal

@@ -9,6 +9,9 @@ use Rattle.esdk_base.specs.Clock.{Moments}
 use Rattle.esdk_base.specs.Streams.{OnTold}
 use Rattle.esdk_list.specs.List.{input_fault}
 use Rattle.esdk_run.specs.Ages.{KeepsAges}
+use Rattle.esdk_run.specs.ExtractTold.{ComesBackBefore, ExtractsOfContent, ExtractsSoundRanges, ReadsNoMore}
+use Rattle.esdk_run.specs.ExtractTold.{SaysWhatItExtracts}
+use Rattle.esdk_run.specs.AuditTold.{AuditsWhatIsHeld, SaysTheOpeners}
 use Rattle.esdk_run.specs.EachJob.{DoesWhatItMust, SaysEachJudgement}
 use Rattle.esdk_run.specs.Objects.{Objects, Unchanged}
 use Rattle.esdk_run.specs.Run.{AgreesWith, draws, reads_clock, reads_input, reads_shelf}
@@ -46,9 +49,9 @@ pub record Promises (trees : Trees) (words : Words) (before after : Objects)
   pub files : writes_shelf words ≡ false → after.shelf.files ≡ before.shelf.files
   -- `list` and `gen` leave the shelf alone, and so do words that are refused.
   pub shelf : reads_shelf words ≡ false → unchanged.shelf
-  -- Only `list`, `encrypt` and `decrypt` read the input.
+  -- Only `list`, `encrypt`, `decrypt` and `reseal` read the input.
   pub input : reads_input words ≡ false → unchanged.input
-  -- Only `encrypt` and `batch` draw from the entropy.
+  -- Only `encrypt`, `batch` and `reseal` draw from the entropy.
   pub entropy : draws words ≡ false → unchanged.entropy
   -- Only `batch` reads the clock.
   pub clock : reads_clock words ≡ false → time.same
@@ -96,7 +99,7 @@ pub record Promises (trees : Trees) (words : Words) (before after : Objects)
   -- fails.
   pub batch : On requests.Batch words (λ name.
       RunsWhatIsHeld trees name before.shelf after.shelf before.output after.output code)
-  -- `batch`: of each decrypt job is said what the keys of a steady tree read of its file.
+  -- `batch`: of each decrypt job is said what the keys of the tree read of its file.
   pub judgements : On requests.Batch words (λ name. SaysEachJudgement trees name before after code)
   -- `batch`: of jobs that the shelf tells each that must be is done, unless memory runs out or an
   -- object fails.
@@ -104,3 +107,25 @@ pub record Promises (trees : Trees) (words : Words) (before after : Objects)
   -- `gen`: the output gains the line of the seed and the size.
   pub generator : (seed size : ℕ) → words ≡ Ok (requests.Gen seed size)
       → Generates seed size before.output after.output unchanged.output code
+  -- `extract`: a tree is given back only where the keyring file was read as one; and where a shelf
+  -- tells that it holds one, and doesn't fail, that is given back, unless memory runs out.
+  pub extract_tree : On requests.Extract words
+      (λ asked. ComesBackBefore trees asked before.shelf after.shelf code)
+  -- `extract`: of a file that the shelf tells the range is written, and the fault that ends it is
+  -- named.
+  pub extraction : On requests.Extract words
+      (λ asked. SaysWhatItExtracts trees asked before after code)
+  -- `extract`: a range without a fault is done, unless memory runs out or an object fails.
+  pub sound_range : On requests.Extract words
+      (λ asked. ExtractsSoundRanges trees asked before after code)
+  -- `extract`: of a whole message the bytes of the range are written, of those that `decrypt` writes.
+  pub range_of_content : On requests.Extract words
+      (λ asked. ExtractsOfContent trees asked before after code)
+  -- `extract`: no more of the message's file is read than its header and the slots of the range.
+  pub extract_reads : On requests.Extract words (λ asked. ReadsNoMore asked before after code)
+  -- `audit`: of files that the shelf tells the lines say which leaves of a tree that tells its keys
+  -- open which messages, and which messages a leaf is needed for.
+  pub audit : On requests.Audit words (λ name. SaysTheOpeners trees name before after code)
+  -- `audit`: messages whose files the shelf tells are audited, unless memory runs out or an object
+  -- fails.
+  pub audited : On requests.Audit words (λ name. AuditsWhatIsHeld trees name before after code)

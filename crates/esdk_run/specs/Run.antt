@@ -2,25 +2,30 @@
 use Rattle.std.specs.Prelude.{◌≡◌, ◌≢◌, ◌⊎◌, ◌==◌, ◌||◌, ℕ, List, Bool, true, false, Option, Some, None, Result, Ok, Err}
 use Rattle.esdk_args.specs.declared.request.DecryptWords.{DecryptWords}
 use Rattle.esdk_args.specs.declared.request.EncryptWords.{EncryptWords}
+use Rattle.esdk_args.specs.declared.request.ExtractWords.{ExtractWords}
 use Rattle.esdk_args.specs.declared.request.ListWords.{ListWords}
 use Rattle.esdk_args.specs.declared.request.MigrateWords.{MigrateWords}
 use Rattle.esdk_args.specs.declared.request.Request.{Request}
+use Rattle.esdk_args.specs.declared.request.ResealWords.{ResealWords}
 use Rattle.esdk_args.specs.declared.request.Request.TheVariants as requests
 use Rattle.esdk_args.specs.declared.request.WordsFault.{WordsFault}
-use Rattle.esdk_base.specs.Streams.{SinkState, SourceState}
+use Rattle.esdk_base.specs.Streams.{ShelfState, SinkState, SourceState}
 use Rattle.esdk_fields.specs.declared.faults.Fault.{Fault}
 use Rattle.context_codec.specs.Context.{KeyValue}
 use Rattle.esdk_report.specs.declared.failure.Failure.{Failure}
 use Rattle.esdk_report.specs.declared.failure.Failure.TheVariants as failures
 use Rattle.batch_report.specs.declared.job_lines.JobLine.{JobLine}
+use Rattle.esdk_run.specs.Audit.{AuditEnds, WritesAudit}
 use Rattle.esdk_run.specs.Batch.{BatchFails, RunsJobFile, WritesReport}
 use Rattle.esdk_run.specs.Decrypt.{DecryptFails, DecryptsInput}
 use Rattle.esdk_run.specs.Encrypt.{EncryptFails, EncryptsInput}
+use Rattle.esdk_run.specs.Extract.{ExtractFails, ExtractsRange}
 use Rattle.esdk_run.specs.Failures.{words_failure}
 use Rattle.esdk_list.specs.List.{IsListCause, LeavesOutput, Lists}
 use Rattle.esdk_run.specs.Migrate.{MigrateFails, WritesMigrated}
 use Rattle.esdk_run.specs.Generate.{GenFails, WritesLine}
 use Rattle.esdk_run.specs.Objects.{Objects, Unchanged, same_streams, without_entropy}
+use Rattle.esdk_run.specs.Reseal.{ResealFails, Reseals}
 use Rattle.esdk_report.specs.Report.{Reports, TellsContext}
 use Rattle.esdk_run.specs.Trees.{IsUntouched, Trees}
 
@@ -35,6 +40,7 @@ abbrev pub reads_input : Result Request WordsFault → Bool
 reads_input (Ok (requests.List words)) = true
 reads_input (Ok (requests.Encrypt words)) = true
 reads_input (Ok (requests.Decrypt words)) = true
+reads_input (Ok (requests.Reseal words)) = true
 reads_input (Ok request) = false
 reads_input (Err fault) = false
 
@@ -55,6 +61,7 @@ writes_shelf (Err fault) = false
 abbrev pub draws : Result Request WordsFault → Bool
 draws (Ok (requests.Encrypt words)) = true
 draws (Ok (requests.Batch jobs)) = true
+draws (Ok (requests.Reseal words)) = true
 draws (Ok request) = false
 draws (Err fault) = false
 
@@ -143,6 +150,33 @@ GenRuns seed size before after unchanged code =
     EndsBy (WritesLine seed size before.output after.output)
     (GenFails seed size before.output after.output unchanged.output) code before.report after.report
 
+-- of `extract`
+abbrev pub ExtractRuns : Trees → ExtractWords → Objects → Objects → Unchanged → ℕ → Type 0
+ExtractRuns trees asked before after unchanged code =
+    EndsBy (ExtractsRange trees asked before after) (ExtractFails trees asked before after unchanged) code before.report after.report
+
+-- The messages of the file of this name were audited, and the report gained nothing; or a failure ended the run. `unwritten` says that the output is as before.
+abbrev pub AuditsBy : Trees → List ℕ → ShelfState → ShelfState → SinkState → SinkState → Type 0 → ℕ → SinkState → SinkState → Type 0
+AuditsBy trees name old new before after unwritten code report reported =
+    (WritesAudit trees name old new before after code × (reported ≡ report)) ⊎ Fails (AuditEnds trees name old new before after unwritten) code report reported
+
+-- of `audit`
+abbrev pub AuditRuns : Trees → List ℕ → Objects → Objects → Unchanged → ℕ → Type 0
+AuditRuns trees name before after unchanged code =
+    AuditsBy trees name before.shelf after.shelf before.output after.output unchanged.output code before.report after.report
+
+-- The input was resealed, and the report was told its whole context, or that memory was wanting for it.
+pub record ResealsAndTells (trees : Trees) (asked : ResealWords) (before after : Objects) (code : ℕ) : Type 0 where
+  pub context : List KeyValue
+  pub done : Reseals trees asked before after context
+  pub told : TellsOrLacksMemory context code before.report after.report
+
+-- of `reseal`
+abbrev pub ResealRuns : Trees → ResealWords → Objects → Objects → Unchanged → ℕ → Type 0
+ResealRuns trees asked before after unchanged code =
+    ResealsAndTells trees asked before after code
+    ⊎ Fails (ResealFails trees asked before after unchanged) code before.report after.report
+
 -- No input that begins with a header and its tag is refused for a fault, and no other is done.
 abbrev pub AgreesWith : ℕ → Option Fault → Type 0
 AgreesWith code None = code ≢ 1
@@ -158,5 +192,8 @@ RunsAs trees (Ok (requests.Decrypt asked)) before after unchanged code = Decrypt
 RunsAs trees (Ok (requests.Migrate asked)) before after unchanged code = (trees.kept ≡ None) × MigrateRuns asked before after unchanged code
 RunsAs trees (Ok (requests.Batch name)) before after unchanged code = BatchRuns trees name before after unchanged code
 RunsAs trees (Ok (requests.Gen seed size)) before after unchanged code = (trees.kept ≡ None) × GenRuns seed size before after unchanged code
+RunsAs trees (Ok (requests.Extract asked)) before after unchanged code = ExtractRuns trees asked before after unchanged code
+RunsAs trees (Ok (requests.Audit name)) before after unchanged code = AuditRuns trees name before after unchanged code
+RunsAs trees (Ok (requests.Reseal asked)) before after unchanged code = ResealRuns trees asked before after unchanged code
 RunsAs trees (Err fault) before after unchanged code =
     IsUntouched trees (same_streams unchanged) × RefusesWords fault code before.report after.report

@@ -19,6 +19,12 @@ use Rattle.esdk_encrypt.specs.Told.{NoneFor}
 use Rattle.keyring_trait.specs.Saying.{Saying}
 use Rattle.esdk_run.specs.Decrypt.{OpensNone}
 
+-- What is served from a cache was found earlier, maybe when a keyring failed. So with a cache the
+-- keys of the tree are known of what is served where the tree is steady; without one, always.
+abbrev pub IsSteadyIfCached : Option LimitsValue → KeyringMeaning → Type 0
+IsSteadyIfCached None tree = ⊤
+IsSteadyIfCached (Some limits) tree = tree.steady ≡ true
+
 -- ---- to encrypt with
 
 -- Q1, where a key has the reserved prefix; else Q5 or Q6, where the tree refuses to make a data key
@@ -32,53 +38,61 @@ WrappedBy tree ivs materials =
     IfSome tree.keys (λ keys. materials.entries ≡ made keys materials.context materials.key (ivs_of tree.wraps ivs))
 
 -- What isn't served from the cache is made of these random bytes: the first 32 are the data key;
--- and the bytes behind are the IVs, where the tree is steady and tells its keys.
-pub record IsMadeOf (tree : KeyringMeaning) (random : List ℕ) (materials : EncMaterialsValue) : Type 0 where
+-- and the bytes behind are the IVs, where the tree tells its keys, and is steady if there is a
+-- cache.
+pub record IsMadeOf (cache : Option LimitsValue) (tree : KeyringMeaning) (random : List ℕ)
+    (materials : EncMaterialsValue) : Type 0 where
   pub key : materials.key ≡ take 32 random
-  pub wrapped : tree.steady ≡ true → WrappedBy tree (drop 32 random) materials
+  pub wrapped : IsSteadyIfCached cache tree → WrappedBy tree (drop 32 random) materials
 
 -- What is given to a request for these random bytes, where nothing is refused: the request's
 -- context and its required keys, with none added; and an entry for each wrap of the tree. Without a
 -- cache it is served directly. From the cache, too, come wraps of the data key under the keys of
--- the tree, where it is steady and tells them.
-pub record TreeServes (cache : Option LimitsValue) (tree : KeyringMeaning) (wish : EncRequestValue) (random : List ℕ) (materials : EncMaterialsValue) : Type 0 where
+-- the tree, where it tells them, and is steady if there is a cache.
+pub record TreeServes (cache : Option LimitsValue) (tree : KeyringMeaning) (wish : EncRequestValue)
+    (random : List ℕ) (materials : EncMaterialsValue) : Type 0 where
   pub unrefused : refusal_over wish.context tree ≡ None
   pub context : materials.context ≡ wish.context
   pub required : materials.required ≡ wish.required
   pub count : length materials.entries ≡ tree.wraps
-  pub fresh : IsNew materials.served → IsMadeOf tree random materials
-  pub wrapped : tree.steady ≡ true → IfSome tree.keys (λ keys. AreWraps keys materials)
+  pub fresh : IsNew materials.served → IsMadeOf cache tree random materials
+  pub wrapped : IsSteadyIfCached cache tree → IfSome tree.keys (λ keys. AreWraps keys materials)
   pub direct : cache ≡ None → materials.served ≡ Direct
 
 -- ---- to decrypt with
 
 -- What is found for a header's pairs and entries, from the cache or not, where nothing is wrong
 -- with the pairs: the whole context, its pairs that are only authenticated, and a data key. Where
--- the tree is steady and tells its keys, it is the data key that these find. Without a cache it is
--- served directly.
-pub record TreeServesHeader (cache : Option LimitsValue) (tree left : KeyringMeaning) (request : DecRequestValue) (materials : DecMaterialsValue) : Type 0 where
+-- the tree tells its keys, and is steady if there is a cache, one of them opens an entry with this
+-- data key; where no keyring failed, it is the first that opens. Without a cache it is served
+-- directly.
+pub record TreeServesHeader (cache : Option LimitsValue) (tree left : KeyringMeaning)
+    (request : DecRequestValue) (materials : DecMaterialsValue) : Type 0 where
   pub sound : pair_offence request.stored request.given [] ≡ None
   pub context : materials.context ≡ whole_of request.stored request.given
   pub only : materials.only ≡ only_given request.stored request.given
-  pub opens : tree.steady ≡ true → Opens tree left (whole_of request.stored request.given) request.entries (Some materials.key)
+  pub opens : IsSteadyIfCached cache tree
+      → Opens tree left (whole_of request.stored request.given) request.entries (Some materials.key)
   pub direct : cache ≡ None → materials.served ≡ Direct
 
--- Nothing is wrong with the pairs, and none of the keys opens an entry, where the tree is steady
--- and tells them.
-pub record OpensNoneSteadily (tree : KeyringMeaning) (request : DecRequestValue) : Type 0 where
+-- Nothing is wrong with the pairs, and none of the keys opens an entry, where the tree tells them,
+-- and is steady if there is a cache.
+pub record ServesNoKey (cache : Option LimitsValue) (tree : KeyringMeaning)
+    (request : DecRequestValue) : Type 0 where
   pub sound : pair_offence request.stored request.given [] ≡ None
-  pub none : tree.steady ≡ true → OpensNone [] tree request
+  pub none : IsSteadyIfCached cache tree → OpensNone [] tree request
 
 -- Why nothing is found: M15, where no key opens an entry; else what is wrong with the pairs; or,
 -- where nothing is wrong with them, a keyring that failed. Want of memory is free.
-abbrev pub TreeServesNone : KeyringMeaning → KeyringMeaning → DecRequestValue → ManagerError → Type 0
-TreeServesNone tree left request (managers.Fault NoKeyOpens) = OpensNoneSteadily tree request
-TreeServesNone tree left request (managers.Fault fault) =
+abbrev pub TreeServesNone : Option LimitsValue → KeyringMeaning → KeyringMeaning
+    → DecRequestValue → ManagerError → Type 0
+TreeServesNone cache tree left request (managers.Fault NoKeyOpens) = ServesNoKey cache tree request
+TreeServesNone cache tree left request (managers.Fault fault) =
     pair_offence request.stored request.given [] ≡ Some fault
-TreeServesNone tree left request managers.KeyringFault =
+TreeServesNone cache tree left request managers.KeyringFault =
     (pair_offence request.stored request.given [] ≡ None) × Rose tree.faults left.faults
-TreeServesNone tree left request (managers.Refusal refusal) = ⊥
-TreeServesNone tree left request managers.Memory = ⊤
+TreeServesNone cache tree left request (managers.Refusal refusal) = ⊥
+TreeServesNone cache tree left request managers.Memory = ⊤
 
 -- ---- both
 
@@ -90,17 +104,17 @@ managing_over cache tree left = record {
   gives = λ wish now. TreeServes cache tree wish;
   gives_none = λ wish error. NoneFor (refusal_over wish.context tree) tree.faults left.faults error;
   finds = λ request now. TreeServesHeader cache tree left request;
-  finds_none = TreeServesNone tree left;
+  finds_none = TreeServesNone cache tree left;
 }
 
 -- What a batch leaves of a tree: all that it tells and means, but for the count of its failures.
--- That never falls, and of a steady tree it stays. Of the keys it is known where the tree is
--- steady: those that it tells it tells still, and without a cache it tells no others.
+-- That never falls, and of a steady tree it stays. Without a cache it tells the same keys; with one
+-- it tells still those that it told, where it is steady.
 pub record TreeOutlasts (cache : Option LimitsValue) (old new : KeyringMeaning) : Type 0 where
   pub wraps : new.wraps ≡ old.wraps
   pub refuses : new.refuses_none ≡ old.refuses_none
   pub steady : new.steady ≡ old.steady
   pub later : old.faults ≤ new.faults
   pub still : old.steady ≡ true → Stayed old.faults new.faults
-  pub keys : old.steady ≡ true → IfSome old.keys (λ keys. new.keys ≡ Some keys)
-  pub same : old.steady ≡ true → cache ≡ None → new.keys ≡ old.keys
+  pub keys : IsSteadyIfCached cache old → IfSome old.keys (λ keys. new.keys ≡ Some keys)
+  pub same : cache ≡ None → new.keys ≡ old.keys

@@ -9,7 +9,7 @@ use Rattle.keyring_trait.specs.Keyring.{KeyringMeaning}
 use Rattle.keyring_trait.specs.Wrapping.{active}
 use Rattle.multi_keyring.specs.Forest.{Forest}
 use Rattle.multi_keyring.specs.declared.tree.Node.{Node}
-use Rattle.multi_keyring.specs.Tree.{meanings, tree_meaning}
+use Rattle.multi_keyring.specs.Tree.{leaves, meanings, tree_meaning}
 use Rattle.keyring_file.specs.declared.plugs.Plug.{Plug}
 use Rattle.keyring_file.specs.Found.{wraps_of}
 use Rattle.keyring_file.specs.KeyFile.{tree_of}
@@ -22,9 +22,12 @@ use Rattle.esdk_run.specs.Pairs.{GivesContext}
 abbrev pub TreeReading : Type 0
 TreeReading = List ℕ → Result (List KeyringMeaning) FileRefusal
 
--- How a run reads keyring files, and what it gives back: what is left of the tree, where it read one.
+-- How a run reads keyring files: as trees, with its plugs and without, and as what the leaves of
+-- those with plugs mean; and what it gives back: what is left of the tree, where it read one.
 pub record Trees : Type 0 where
   pub read : TreeReading
+  pub plain : TreeReading
+  pub leaves : TreeReading
   pub kept : Option KeyringMeaning
 
 -- ---- what a file is
@@ -34,6 +37,13 @@ pub record TreeIs (read : TreeReading) (old new : ShelfState) (name : List ℕ) 
   pub bytes : List ℕ
   pub file : IsFile old new name bytes
   pub is : read bytes ≡ Ok (tree ∷ [])
+
+-- The same, and its leaves mean this.
+pub record TreeHas (trees : Trees) (old new : ShelfState) (name : List ℕ) (tree : KeyringMeaning) (leaves : List KeyringMeaning) : Type 0 where
+  pub bytes : List ℕ
+  pub file : IsFile old new name bytes
+  pub is : trees.read bytes ≡ Ok (tree ∷ [])
+  pub leaves_are : trees.leaves bytes ≡ Ok leaves
 
 -- ---- what a tree keeps
 
@@ -82,6 +92,19 @@ means meaning (Err refusal) = Err refusal
 abbrev pub reading : {P : Type 0} → (P → KeyringMeaning) → List (Plug P) → TreeReading
 reading meaning plugs = λ bytes. means meaning (tree_of (wraps_of meaning) bytes plugs)
 
+-- what the leaves of such a tree mean
+abbrev pub leaves_mean : {P : Type 0} → (P → KeyringMeaning) → Result (Forest P) FileRefusal → Result (List KeyringMeaning) FileRefusal
+leaves_mean meaning (Ok forest) = Ok (leaves meaning forest)
+leaves_mean meaning (Err refusal) = Err refusal
+
+abbrev pub leaf_reading : {P : Type 0} → (P → KeyringMeaning) → List (Plug P) → TreeReading
+leaf_reading meaning plugs = λ bytes. leaves_mean meaning (tree_of (wraps_of meaning) bytes plugs)
+
 -- and what is given back, where this tree is
 abbrev pub trees_of : {P : Type 0} → (P → KeyringMeaning) → List (Plug P) → Option (Node P) → Trees
-trees_of meaning plugs tree = record { read = reading meaning plugs; kept = option_map (tree_meaning meaning) tree }
+trees_of meaning plugs tree = record {
+  read = reading meaning plugs;
+  plain = reading meaning [];
+  leaves = leaf_reading meaning plugs;
+  kept = option_map (tree_meaning meaning) tree;
+}

@@ -93,7 +93,7 @@ fn report_end<R: Sink>(
 }
 
 /// Puts the line of the whole context on the report, and answers the status.
-fn tell_context<R: Sink>(alloc: Global, context: &Context, report: &mut R) -> Status
+pub(crate) fn tell_context<R: Sink>(alloc: Global, context: &Context, report: &mut R) -> Status
     ensures status { is_status result.code ≡ true }
     ensures told { TellsOrLacksMemory context.now result.code (R.state report.old) (R.state report.new) }
 {

@@ -1,6 +1,6 @@
 //! What the errors of the calls below are called in the program.
 ghost use Rattle.std.specs.Prelude.{◌≡◌};
-ghost use Rattle.esdk_run.specs.Failures.{decryption_failure, encryption_failure, file_failure, pairs_failure, tree_failure, words_failure};
+ghost use Rattle.esdk_run.specs.Failures.{decryption_failure, encryption_failure, extraction_failure, file_failure, pairs_failure, resealing_failure, tree_failure, words_failure};
 
 use context_codec::PairError;
 use esdk_args::WordsFault;
@@ -8,7 +8,9 @@ use esdk_decrypt::DecryptError;
 use esdk_encrypt::EncryptError;
 use esdk_fields::{FileRefusal, Outside};
 use esdk_report::Failure;
+use extract_core::ExtractError;
 use keyring_file::TreeError;
+use reseal_core::InputError;
 use whole_input::FileError;
 
 /// The failure of refused words.
@@ -73,5 +75,28 @@ pub fn decryption_failure(error: DecryptError) -> Failure
         DecryptError::Fault(fault) => Failure::Fault(fault),
         DecryptError::Outside(outside) => Failure::Outside(outside),
         DecryptError::Memory => Failure::Memory,
+    }
+}
+
+/// The failure of an extraction.
+pub fn extraction_failure(error: ExtractError) -> Failure
+    ensures { result ≡ extraction_failure error }
+{
+    match error {
+        ExtractError::Fault(fault) => Failure::Fault(fault),
+        ExtractError::Outside(outside) => Failure::Outside(outside),
+        ExtractError::Memory => Failure::Memory,
+    }
+}
+
+/// The failure of a resealing.
+pub fn resealing_failure(error: InputError) -> Failure
+    ensures { result ≡ resealing_failure error }
+{
+    match error {
+        InputError::Fault(fault) => Failure::Fault(fault),
+        InputError::Refusal(refusal) => Failure::Refusal(refusal),
+        InputError::Outside(outside) => Failure::Outside(outside),
+        InputError::Memory => Failure::Memory,
     }
 }

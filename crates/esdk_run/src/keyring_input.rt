@@ -1,13 +1,13 @@
 //! The keyring tree that a keyring file is read as.
-ghost use Rattle.std.specs.Prelude.{◌≡◌, ◌<◌, ◌^◌, [], ◌∷◌, length, IfErr, IfOk, Ok};
-ghost use Rattle.multi_keyring.specs.Tree.{tree_meaning};
+ghost use Rattle.std.specs.Prelude.{◌≡◌, ◌<◌, ◌^◌, [], ◌∷◌, length, IfErr, IfOk, None, Ok};
+ghost use Rattle.multi_keyring.specs.Tree.{node_leaves, tree_meaning};
 ghost use Rattle.esdk_run.specs.FileReading.{FileFails, ReadCause};
-ghost use Rattle.esdk_run.specs.Trees.{IsLawful, TreeIs, reading};
+ghost use Rattle.esdk_run.specs.Trees.{IsLawful, TreeHas, TreeIs, leaf_reading, reading, trees_of};
 
 use crate::failures::{file_failure, tree_failure};
 use esdk_base::Shelf;
 use esdk_report::Failure;
-use keyring_file::{Plug, read_tree};
+use keyring_file::{Plug, leaves_are_few, read_tree};
 use keyring_trait::Keyring;
 use multi_keyring::Node;
 use std::alloc::Global;
@@ -27,6 +27,10 @@ pub fn read_keyring<P: Keyring, F: Shelf>(
     requires plugs { length plugs.items < 2 ^ 24 }
     ensures tree { IfOk result (λ tree. TreeIs (reading P.meaning plugs.items) (F.state shelf.old)
         (F.state shelf.new) name.now (tree_meaning P.meaning tree)) }
+    ensures leaves { IfOk result (λ tree. TreeHas (trees_of P.meaning plugs.items None)
+        (F.state shelf.old) (F.state shelf.new) name.now (tree_meaning P.meaning tree)
+        (node_leaves P.meaning tree)) }
+    ensures few { IfOk result (λ tree. length (node_leaves P.meaning tree) < 2 ^ 32) }
     ensures lawful { IfOk result (λ tree. IsLawful (tree_meaning P.meaning tree)) }
     ensures cause { IfErr result (FileFails (reading P.meaning plugs.items) (F.state shelf.old)
         (F.state shelf.new) name.now) }
@@ -43,9 +47,14 @@ fn tree_in<P: Keyring>(alloc: Global, bytes: &[u8], plugs: Vec<Plug<P>>) -> Resu
     requires plugs { length plugs.items < 2 ^ 24 }
     ensures tree { IfOk result (λ tree. reading P.meaning plugs.items bytes.now ≡ Ok
         (tree_meaning P.meaning tree ∷ [])) }
+    ensures leaves { IfOk result (λ tree. leaf_reading P.meaning plugs.items bytes.now ≡ Ok
+        (node_leaves P.meaning tree)) }
+    ensures few { IfOk result (λ tree. length (node_leaves P.meaning tree) < 2 ^ 32) }
     ensures lawful { IfOk result (λ tree. IsLawful (tree_meaning P.meaning tree)) }
     ensures cause { IfErr result (ReadCause (reading P.meaning plugs.items) bytes.now) }
 {
+    // A law, which says that there aren't too many leaves to be counted.
+    leaves_are_few::<P>();
     match read_tree(alloc, bytes, plugs) {
         Ok(tree) => {
             // Called for its clauses alone, which say what every keyring keeps.

@@ -2,9 +2,11 @@
 //! outputs, a shelf of files, an entropy, a clock and the keyrings that a keyring file may name.
 #![tactic(auto)]
 
+mod audit;
 mod batch;
 mod decrypt;
 mod encrypt;
+mod extract;
 mod failures;
 mod generate;
 mod keyring_input;
@@ -13,6 +15,7 @@ mod migrate;
 mod outcome;
 mod pair_input;
 mod prepared;
+mod reseal;
 mod top_call;
 
 pub use outcome::Ended;

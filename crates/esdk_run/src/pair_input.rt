@@ -17,10 +17,7 @@ pub fn context_of(alloc: Global, words: &[PairWord]) -> Result<Context, PairErro
 {
     let mut context = Context::new(alloc);
     for word in words {
-        match insert_pair(alloc, word, &mut context) {
-            Ok(()) => {}
-            Err(error) => return Err(error),
-        }
+        insert_pair(alloc, word, &mut context)?;
     }
     // Called for its clause alone, which says that the pairs are a context.
     let _pairs = context.pairs();

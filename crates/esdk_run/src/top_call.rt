@@ -6,14 +6,17 @@ ghost use Rattle.esdk_run.specs.Promises.{Promises, ticks};
 ghost use Rattle.esdk_run.specs.Run.{RunsAs, is_status};
 ghost use Rattle.esdk_run.specs.Trees.{trees_of};
 
+use crate::audit::run_audit;
 use crate::batch::run_batch;
 use crate::decrypt::run_decrypt;
 use crate::encrypt::run_encrypt;
+use crate::extract::run_extract;
 use crate::failures::words_failure;
 use crate::generate::run_gen;
 use crate::list::run_list;
 use crate::migrate::run_migrate;
 use crate::outcome::Ended;
+use crate::reseal::run_reseal;
 use esdk_args::{Request, read_words};
 use esdk_base::{Clock, Entropy, Shelf, Sink, Source};
 use esdk_fields::Text;
@@ -24,22 +27,29 @@ use std::alloc::Global;
 
 /// Carries out the command that the words name, and answers the exit status, with the tree of
 /// keyrings that a keyring file was read as, as the run left it: it is given back exactly where one
-/// was read. At status 5 alone it may be missing though one was read; then `encrypt` and `decrypt`
-/// leave input, output and entropy as they were, and `batch` leaves the output.
+/// was read, and of two it is the first. At status 5 alone it may be missing though one was read;
+/// then `encrypt`, `decrypt` and `reseal` leave input, output and entropy as they were, and `batch`
+/// and `audit` leave the output.
 ///
 /// `list` reads a header and its tag from the input and writes the header's listing on the output.
 /// `encrypt` writes the message of its whole input under the tree of a keyring file, over the
 /// context of its words. `decrypt` writes what the judgement of its input releases under such a
-/// tree, with the pairs of its words given, and the whole context on the report. `migrate` writes a
-/// keyring file in version 2, with the key retired that its words name. `batch` runs the jobs of a
-/// job file over the files of the shelf, and writes a line for each on the output. `gen` writes the
-/// line of a message that follows from a seed. The plugs are the keyrings that a keyring file may
-/// name. Where a run fails, the report gets one line, and nothing more is read or written; a report
-/// that fails then changes nothing. The status is 0 where all was done, 1 for a fault of the input,
-/// 2 for words that no command takes or that have a bad number or a bad pair, 3 for a keyring file
-/// or a job file that is refused, 4 for a failure of the input, the output, the report of a
-/// context, the shelf, the entropy or a keyring or an input that is too long, 5 where memory ran
-/// out, 6 for a request that is refused, and 7 where a batch was run and some job of it isn't done.
+/// tree, with the pairs of its words given, and the whole context on the report. `reseal` opens its
+/// input as `decrypt` does, and writes a new message of what is released, sealed with the tree of a
+/// second keyring file, in which no plug may stand. `extract` writes a range of the content of a
+/// message in a file of the shelf. `audit` writes which leaves of a tree open which messages of a
+/// file. `migrate` writes a keyring file in version 2, with the key retired that its words name.
+/// `batch` runs the jobs of a job file over the files of the shelf, and writes a line for each on
+/// the output. `gen` writes the line of a message that follows from a seed. The plugs are the
+/// keyrings that a keyring file may name. Where a run fails, the report gets one line, and nothing
+/// more is read or written; a report that fails then changes nothing.
+///
+/// The status is 0 where all was done, 1 for a fault of the input or of the file of a message, 2
+/// for words that no command takes or that have a bad number or a bad pair, 3 for a keyring file, a
+/// job file or the file of an audit that is refused, 4 for a failure of the input, the output, the
+/// report of a context, the shelf, the entropy or a keyring or an input that is too long, 5 where
+/// memory ran out, 6 for a request that is refused, and 7 where a batch was run and some job of it
+/// isn't done, or an audit, and some message of it has no opener.
 pub fn run<P: Keyring, S: Source, O: Sink, R: Sink, F: Shelf, W: Entropy, C: Clock>(
     alloc: Global,
     words: &[Text],
@@ -96,6 +106,11 @@ pub fn run<P: Keyring, S: Source, O: Sink, R: Sink, F: Shelf, W: Entropy, C: Clo
             status: run_gen(alloc, seed, size, output, report),
             tree: None,
         },
+        Ok(Request::Extract(asked)) => run_extract(alloc, &asked, output, report, shelf, plugs),
+        Ok(Request::Audit(name)) => run_audit(alloc, &name, output, report, shelf, plugs),
+        Ok(Request::Reseal(asked)) => {
+            run_reseal(alloc, &asked, input, output, report, shelf, entropy, plugs)
+        }
         Err(fault) => Ended {
             status: report_failure(alloc, &words_failure(fault), report),
             tree: None,

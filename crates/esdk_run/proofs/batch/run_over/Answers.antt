@@ -1,16 +1,21 @@
-use Rattle.std.proofs.Common.{◌∙◌, ap}
+use Rattle.std.proofs.Common.{◌∙◌, ap, is_none, sym}
 use Rattle.std.specs.declared.option.Option.{Option}
 use Rattle.cmm_caching.specs.Asked.{limits_of}
 use Rattle.cmm_caching.specs.Store.{Store}
 use Rattle.desk_core.specs.Desk.{empty_desk}
 use Rattle.esdk_run.proofs.Ages.{serves_in_time}
-use Rattle.esdk_run.proofs.Serving.{Begins, counts_over, outlasts_over, runs_over}
+use Rattle.esdk_run.proofs.Serving.{Begins, counts_over, outlasts_over, runs_over, steady_cached}
 use Rattle.esdk_run.proofs.batch.run_over.Goals as goal
 
 pub returns-clause-runs : goal.returns-clause-runs
 returns-clause-runs g c =
     let begins : Begins c.args.jobs.now.cache c.in_ok-manager.manager.1 (g.K.Keyring.meaning c.new.result) =
-    record { limits = c.in_ok-manager.ensures.limits ∙ c.cache.ensures; tells = c.in_ok-manager.ensures.tells; exact = c.in_ok-manager.ensures.exact tt } in
+    record {
+      limits = c.in_ok-manager.ensures.limits ∙ c.cache.ensures;
+      tells = λ keys told steady.
+          c.in_ok-manager.ensures.tells keys told (λ some. steady_cached _ (g.K.Keyring.meaning c.new.result) steady (sym (ap is_none c.cache.ensures) ∙ some));
+      exact = c.in_ok-manager.ensures.exact tt;
+    } in
     runs_over g.K.Keyring.meaning c.new.result c.args.tree c.into_ring.result c.in_ok-manager.manager c.new-desk.result.manager c.run_batch-ended.new.desk.manager c.args.jobs.now
     (g.F.Shelf.state c.args.shelf.now) (g.F.Shelf.state c.run_batch-ended.new.shelf) (g.W.Entropy.state c.args.entropy.now) (g.W.Entropy.state c.run_batch-ended.new.entropy)
     c.new-desk.result.journal.items c.run_batch-ended.new.desk.journal.items c.journal-journal.result.now c.run_batch-ended.result
@@ -31,7 +36,12 @@ returns-clause-ages g c =
 pub returns-clause-goes : goal.returns-clause-goes
 returns-clause-goes g c =
     let begins : Begins c.args.jobs.now.cache c.in_ok-manager.manager.1 (g.K.Keyring.meaning c.new.result) =
-    record { limits = c.in_ok-manager.ensures.limits ∙ c.cache.ensures; tells = c.in_ok-manager.ensures.tells; exact = c.in_ok-manager.ensures.exact tt } in
+    record {
+      limits = c.in_ok-manager.ensures.limits ∙ c.cache.ensures;
+      tells = λ keys told steady.
+          c.in_ok-manager.ensures.tells keys told (λ some. steady_cached _ (g.K.Keyring.meaning c.new.result) steady (sym (ap is_none c.cache.ensures) ∙ some));
+      exact = c.in_ok-manager.ensures.exact tt;
+    } in
     outlasts_over g.K.Keyring.meaning c.args.jobs.now.cache c.new.result c.args.tree c.into_ring.result c.in_ok-manager.manager c.new-desk.result.manager c.run_batch-ended.new.desk.manager
     c.new-desk.ensures.manager c.in_ok-manager.ensures.inner c.new.ensures (c.into_ring.ensures ∙ c.into_inner.ensures ∙ (λ i. (c.into_manager.ensures i).0)) begins
     c.run_batch-ended.ensures.went

@@ -1,4 +1,5 @@
 use Rattle.std.proofs.Common.{rules, ◌∙◌, List, sym, subst}
+use Rattle.std.proofs.lemmas.Result.{err_from_is_err_and}
 use Rattle.std.specs.declared.result.Result.{Result}
 use Rattle.esdk_fields.specs.declared.refusals.Refusal.{Refusal}
 use Rattle.context_codec.specs.Context.{KeyValue}
@@ -12,7 +13,10 @@ loop-word-preserved c = c.loop-word.invariant ∙ inserted_more c.args.words.now
 pub returns-clause-context : goal.returns-clause-context
 returns-clause-context c = gives_context c.args.words.now c.loop-word.word-index c.loop-word.context c.loop-word.invariant (search rules) c.pairs-pairs.ensures.context
 
-pub returns-in-Err-clause-cause : goal.returns-in-Err-clause-cause
-returns-in-Err-clause-cause c =
-    subst (λ (made : Result (List KeyValue) Refusal). RefusesPairs made c.in-Err.error) (sym c.loop-word.invariant)
-    (refused_more c.args.words.now c.loop-word.word-index c.word-item.result c.loop-word.context c.in-Err.error (search rules) c.word-item.is c.in-Err.ensures.cause)
+pub returns-in_err-insert_pair-clause-cause : goal.returns-in_err-insert_pair-clause-cause
+returns-in_err-insert_pair-clause-cause c =
+    let p = err_from_is_err_and c.from_residual.result c.from_residual.ensures.1 in
+    let error = c.in_err-insert_pair.field-0.0 in
+    rw (p.1, p.2)
+    (subst (λ (made : Result (List KeyValue) Refusal). RefusesPairs made error) (sym c.loop-word.invariant)
+    (refused_more c.args.words.now c.loop-word.word-index c.word-item.result c.loop-word.context error (search rules) c.word-item.is c.in_err-insert_pair.ensures.cause))

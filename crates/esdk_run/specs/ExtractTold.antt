@@ -1,0 +1,133 @@
+-- What `extract` says over the tree that it gives back, where the shelf tells the message's file.
+use Rattle.std.specs.Prelude.{◌≡◌, ◌≢◌, ℕ, ◌+◌, ◌<◌, ◌≤◌, ◌⊎◌, List, length, None, Some, Ok}
+use Rattle.std.specs.Io.KnownBytes.{Appends}
+use Rattle.esdk_args.specs.declared.request.ExtractWords.{ExtractWords}
+use Rattle.esdk_fields.specs.Bytes.{AreBytes}
+use Rattle.esdk_fields.specs.Counts.{Stayed}
+use Rattle.esdk_fields.specs.declared.faults.Fault.{Fault}
+use Rattle.esdk_base.specs.Shelf.{Holds}
+use Rattle.esdk_base.specs.Streams.{ShelfState}
+use Rattle.context_codec.specs.Context.{KeyValue}
+use Rattle.keyring_trait.specs.Keyring.{KeyringMeaning}
+use Rattle.keyring_trait.specs.Wrapping.{WrapKeyValue}
+use Rattle.body_format.specs.declared.verdicts.Verdict.TheVariants.{Whole}
+use Rattle.message_format.specs.Judgement.{content}
+use Rattle.message_format.specs.Reading.{unlocking}
+use Rattle.esdk_decrypt.specs.Told.{Reader, judged_by}
+use Rattle.extract_core.specs.Extracted.{ByteRange, Extraction, extracted, in_range}
+use Rattle.extract_core.specs.Extract.{most_read}
+use Rattle.whole_input.specs.File.{most_file}
+use Rattle.whole_input.specs.Pieces.{most_piece}
+use Rattle.esdk_report.specs.Lines.{fault_line, printed_line}
+use Rattle.esdk_report.specs.Report.{Gains}
+use Rattle.esdk_run.specs.Extract.{as_decryption, extract_reader, no_limits, range_asked}
+use Rattle.esdk_run.specs.Objects.{Objects}
+use Rattle.esdk_run.specs.Pairs.{context_in}
+use Rattle.esdk_run.specs.Told.{GivesTree, HoldsTree, IfNoneFailed, IsDoneOrMemory, IsLeft, Reads}
+use Rattle.esdk_run.specs.Trees.{Trees}
+
+-- what this reader extracts of a message
+abbrev pub extracted_by : Reader → List ℕ → ByteRange → Extraction
+extracted_by reader bytes range = extracted bytes reader.settings
+    (unlocking bytes reader.settings reader.given reader.required reader.keys) range
+
+-- ---- the tree that is given back
+
+-- A tree is given back only where the keyring file was read as one, before the message's file was
+-- read. Where a shelf tells that it holds one, and doesn't fail, that is given back, unless memory
+-- runs out.
+pub record ComesBackBefore (trees : Trees) (asked : ExtractWords) (old new : ShelfState) (code : ℕ)
+    : Type 0 where
+  pub read : (left : KeyringMeaning) → trees.kept ≡ Some left
+      → (middle : ShelfState) × IsLeft trees asked.keyring old middle left
+  pub held : (context : List KeyValue) (tree : KeyringMeaning) → context_in asked.pairs ≡ Ok context
+      → HoldsTree trees old.files asked.keyring tree → Stayed old.faults new.faults
+      → (code ≡ 5) ⊎ GivesTree trees tree
+
+-- ---- what is written
+
+-- The words give these pairs, a tree is given back that tells these keys, and the shelf tells that
+-- the message's file holds these bytes.
+pub record ReadsFile (trees : Trees) (asked : ExtractWords) (before : Objects)
+    (given : List KeyValue) (keys : List WrapKeyValue) (bytes : List ℕ) : Type 0 where
+  pub reads : Reads trees (as_decryption asked) given keys
+  pub held : Holds before.shelf.files asked.from bytes
+
+-- This is so where no keyring of the tree failed in the run, and its count isn't at its end.
+abbrev pub IfNoneFailedBefore : Trees → ExtractWords → ShelfState → Type 0 → Type 0
+IfNoneFailedBefore trees asked old So =
+    (middle : ShelfState) × IfNoneFailed trees asked.keyring old middle So
+
+-- The output gained what is extracted, which no fault ends.
+pub record GainsRange (reader : Reader) (asked : ExtractWords) (bytes : List ℕ)
+    (before after : Objects) : Type 0 where
+  pub sound : (extracted_by reader bytes (range_asked asked)).fault ≡ None
+  pub gained : Appends before.output.written after.output.written
+      (extracted_by reader bytes (range_asked asked)).part
+
+-- The output gained what is extracted before this fault, and the report the fault's line.
+pub record NamesExtractFault (reader : Reader) (asked : ExtractWords) (bytes : List ℕ)
+    (before after : Objects) : Type 0 where
+  pub fault : Fault
+  pub cause : (extracted_by reader bytes (range_asked asked)).fault ≡ Some fault
+  pub gained : Appends before.output.written after.output.written
+      (extracted_by reader bytes (range_asked asked)).part
+  pub line : Gains (printed_line (fault_line fault)) before.report after.report
+
+-- `extract` writes what is extracted of the file, and names the fault that ends it.
+abbrev pub SaysWhatItExtracts : Trees → ExtractWords → Objects → Objects → ℕ → Type 0
+SaysWhatItExtracts trees asked before after code =
+    (given : List KeyValue) (keys : List WrapKeyValue) (bytes : List ℕ)
+    → ReadsFile trees asked before given keys bytes
+    → IfNoneFailedBefore trees asked before.shelf
+    ((code ≡ 0 → GainsRange (extract_reader asked given keys) asked bytes before after)
+    × (code ≡ 1 → NamesExtractFault (extract_reader asked given keys) asked bytes before after))
+
+-- No count of faults of the shelf, the output and the report rose, and none is at its end.
+pub record NothingFailsOf (before after : Objects) : Type 0 where
+  pub reading : Stayed before.shelf.faults after.shelf.faults
+  pub writing : Stayed before.output.faults after.output.faults
+  pub reporting : Stayed before.report.faults after.report.faults
+
+-- A range without a fault is extracted, unless memory runs out or an object fails.
+abbrev pub ExtractsSoundRanges : Trees → ExtractWords → Objects → Objects → ℕ → Type 0
+ExtractsSoundRanges trees asked before after code =
+    (given : List KeyValue) (keys : List WrapKeyValue) (bytes : List ℕ)
+    → ReadsFile trees asked before given keys bytes
+    → (extracted_by (extract_reader asked given keys) bytes (range_asked asked)).fault ≡ None
+    → NothingFailsOf before after
+    → IfNoneFailedBefore trees asked before.shelf (IsDoneOrMemory code)
+
+-- This reader reads a whole message, and the range isn't empty and begins within its content.
+pub record IsWholeRange (reader : Reader) (bytes : List ℕ) (range : ByteRange) : Type 0 where
+  pub whole : (judged_by reader bytes).verdict ≡ Whole
+  pub some : 1 ≤ range.count
+  pub within : range.at < length (content (judged_by reader bytes))
+
+-- The output gained the bytes of the range, as far as there are any, of what `decrypt` writes, and
+-- no fault is named.
+pub record WritesOfContent (reader : Reader) (asked : ExtractWords) (bytes : List ℕ)
+    (before after : Objects) (code : ℕ) : Type 0 where
+  pub writes : code ≡ 0 → Appends before.output.written after.output.written
+      (in_range (range_asked asked) 0 (content (judged_by reader bytes)))
+  pub names : code ≢ 1
+
+-- Of a whole message the bytes of the range are written, as far as there are any, of those that
+-- `decrypt` writes by the same words.
+abbrev pub ExtractsOfContent : Trees → ExtractWords → Objects → Objects → ℕ → Type 0
+ExtractsOfContent trees asked before after code =
+    (given : List KeyValue) (keys : List WrapKeyValue) (bytes : List ℕ)
+    → ReadsFile trees asked before given keys bytes → AreBytes bytes
+    → IsWholeRange (extract_reader asked given keys) bytes (range_asked asked)
+    → IfNoneFailedBefore trees asked before.shelf
+    (WritesOfContent (extract_reader asked given keys) asked bytes before after code)
+
+-- ---- how much is read
+
+-- Of a file that the shelf tells no more is read than the header, up to a piece behind it, and the
+-- slots that hold the range, beside the keyring file; unless memory runs out.
+abbrev pub ReadsNoMore : ExtractWords → Objects → Objects → ℕ → Type 0
+ReadsNoMore asked before after code = (bytes : List ℕ) → Holds before.shelf.files asked.from bytes
+    → code ≢ 5
+    → after.shelf.given ≤ before.shelf.given + most_file + most_piece
+    + most_read no_limits (range_asked asked) bytes

@@ -1,0 +1,159 @@
+-- What the command `reseal` comes to.
+use Rattle.std.specs.Prelude.{◌≡◌, ◌⊎◌, ℕ, List, [], ◌∷◌, length, take, drop, ⊤, Option, option_map, None, IfSome}
+use Rattle.esdk_args.specs.declared.request.ResealWords.{ResealWords}
+use Rattle.esdk_base.specs.Streams.{ShelfState}
+use Rattle.esdk_fields.specs.declared.refusals.Outside.TheVariants as outsides
+use Rattle.esdk_fields.specs.declared.refusals.Refusal.{Refusal}
+use Rattle.context_codec.specs.Context.{KeyValue}
+use Rattle.header_codec.specs.declared.settings.Settings.{Settings}
+use Rattle.keyring_trait.specs.declared.served.Served.TheVariants.{Direct}
+use Rattle.keyring_trait.specs.Keyring.{KeyringMeaning}
+use Rattle.keyring_trait.specs.Manager.{refusal_named, reserved_used}
+use Rattle.keyring_trait.specs.Materials.{EncMaterialsValue}
+use Rattle.keyring_trait.specs.Requests.{EncRequestValue}
+use Rattle.keyring_trait.specs.Wrapping.{first_some, ivs_of, made}
+use Rattle.esdk_encrypt.specs.Told.{NoneFor}
+use Rattle.reseal_core.specs.declared.errors.InputError.{InputError}
+use Rattle.reseal_core.specs.declared.errors.InputError.TheVariants as errors
+use Rattle.reseal_core.specs.Reseal.{ResealEnds, Resealing, ResealsInput}
+use Rattle.esdk_report.specs.declared.failure.Failure.{Failure}
+use Rattle.esdk_report.specs.declared.failure.Failure.TheVariants as failures
+use Rattle.esdk_run.specs.Decrypt.{TreeFinds, TreeFindsNone}
+use Rattle.esdk_run.specs.FileReading.{FileFails}
+use Rattle.esdk_run.specs.Objects.{Objects, Unchanged, same_streams}
+use Rattle.esdk_run.specs.Pairs.{RefusesWordPairs, required_in}
+use Rattle.esdk_run.specs.Trees.{HasNoTree, HasTree, IsLawful, IsUntouched, TreeGoes, TreeIs, Trees}
+
+-- the limit that the words set, and whether they allow a message without a commitment
+abbrev pub limits_of : ResealWords → Settings
+limits_of asked = record
+    { max_keys = None; max_unit = asked.max_unit; uncommitted = asked.uncommitted }
+
+-- ---- what the second tree gives
+
+-- Q1, where a key has the reserved prefix; else Q5 or Q6, where the tree refuses to make a data key
+unfoldable pub refusal_sealing : List KeyValue → KeyringMeaning → Option Refusal
+refusal_sealing context tree = first_some (λ o. o)
+    (reserved_used context ∷ option_map refusal_named tree.refuses_none ∷ [])
+
+-- What is given for a request and these random bytes, where nothing is refused: its context and its
+-- required keys, no more and no others; the first 32 bytes as data key; and an entry for each wrap
+-- of the tree. Where the tree tells its keys, the entries are their wraps of the data key, in
+-- order, with the bytes behind it as IVs.
+pub record TreeSeals (tree : KeyringMeaning) (request : EncRequestValue) (random : List ℕ)
+    (materials : EncMaterialsValue) : Type 0 where
+  pub unrefused : refusal_sealing request.context tree ≡ None
+  pub whole : materials.context ≡ request.context
+  pub required : materials.required ≡ request.required
+  pub key : materials.key ≡ take 32 random
+  pub count : length materials.entries ≡ tree.wraps
+  pub wrapped : IfSome tree.keys
+      (λ keys. materials.entries ≡ made keys request.context (take 32 random)
+      (ivs_of tree.wraps (drop 32 random)))
+  pub served : materials.served ≡ Direct
+
+-- What is asked for, with these pairs given: of a first tree that means this before and that after
+-- the run, and of such a second one.
+abbrev pub reseal_asked : ResealWords → List KeyValue → KeyringMeaning → KeyringMeaning
+    → KeyringMeaning → KeyringMeaning → Resealing
+reseal_asked asked given tree left second later = record {
+  opening = record {
+    manager = record {
+      finds = TreeFinds (required_in asked.pairs) tree left;
+      finds_none =
+          TreeFindsNone (required_in asked.pairs) tree left;
+    };
+    settings = limits_of asked;
+    given = given;
+  };
+  wraps = second.wraps;
+  gives = TreeSeals second;
+  gives_none = λ request. NoneFor (refusal_sealing request.context second) second.faults
+      later.faults;
+  size = asked.frame;
+}
+
+-- ---- the two files
+
+-- The words give these pairs, and the first keyring file is read as a tree, of which this is left.
+-- Then this was the shelf.
+pub record HasFirst (trees : Trees) (asked : ResealWords) (old : ShelfState) (given : List KeyValue)
+    (tree left : KeyringMeaning) (between : ShelfState) : Type 0 where
+  pub has : HasTree trees asked.pairs asked.keyring old between given tree left
+  pub files : between.files ≡ old.files
+
+-- The second file is read as a tree, in which no plug stands.
+pub record HasSecond (trees : Trees) (asked : ResealWords) (between new : ShelfState)
+    (second : KeyringMeaning) : Type 0 where
+  pub file : TreeIs trees.plain between new asked.to_keyring second
+  pub lawful : IsLawful second
+
+-- The second file gives no tree for this reason. The first tree is given back as it was.
+pub record HasNoSecond (trees : Trees) (asked : ResealWords) (old new : ShelfState)
+    (untouched : Type 0) (failure : Failure) : Type 0 where
+  pub given : List KeyValue
+  pub tree : KeyringMeaning
+  pub between : ShelfState
+  pub first : HasFirst trees asked old given tree tree between
+  pub cause : FileFails trees.plain between new asked.to_keyring failure
+  pub same : untouched
+
+-- ---- how it ends
+
+-- Both files are read as trees, of which these are left, and this is so of the run with them.
+pub record HasBoth (trees : Trees) (asked : ResealWords) (before after : Objects)
+    (law : Resealing → Type 0) : Type 0 where
+  pub given : List KeyValue
+  pub tree : KeyringMeaning
+  pub left : KeyringMeaning
+  pub between : ShelfState
+  pub first : HasFirst trees asked before.shelf given tree left between
+  pub second : KeyringMeaning
+  pub later : KeyringMeaning
+  pub sealing : HasSecond trees asked between after.shelf second
+  pub goes : TreeGoes second later
+  pub so : law (reseal_asked asked given tree left second later)
+
+-- the whole input is a whole message to the first tree, with this whole context, and the output
+-- gained the new message of its content
+abbrev pub Reseals : Trees → ResealWords → Objects → Objects → List KeyValue → Type 0
+Reseals trees asked before after context =
+    HasBoth trees asked before after
+    (λ run. ResealsInput run before.input after.input before.output after.output before.entropy
+    after.entropy context)
+
+-- the resealing ended with this error
+abbrev pub ResealingFails : Trees → ResealWords → Objects → Objects → Unchanged → InputError
+    → Type 0
+ResealingFails trees asked before after unchanged error =
+    HasBoth trees asked before after
+    (λ run. ResealEnds run before.input after.input before.output after.output before.entropy
+    after.entropy (same_streams unchanged) ⊤ error)
+
+-- nothing was read but files, and nothing was written or drawn
+abbrev pub untouched : Unchanged → Type 0
+untouched unchanged = same_streams unchanged × unchanged.entropy
+
+-- Why an input wasn't resealed, and what that left. Want of memory is free.
+abbrev pub ResealFails : Trees → ResealWords → Objects → Objects → Unchanged → Failure → Type 0
+ResealFails trees asked before after unchanged (failures.File refusal) =
+    (HasNoTree trees asked.pairs asked.keyring before.shelf after.shelf (failures.File refusal)
+    × IsUntouched trees (untouched unchanged))
+    ⊎ HasNoSecond trees asked before.shelf after.shelf (untouched unchanged) (failures.File refusal)
+ResealFails trees asked before after unchanged (failures.Outside outsides.ShelfFault) =
+    (HasNoTree trees asked.pairs asked.keyring before.shelf after.shelf
+    (failures.Outside outsides.ShelfFault) × IsUntouched trees (untouched unchanged))
+    ⊎ HasNoSecond trees asked before.shelf after.shelf (untouched unchanged)
+    (failures.Outside outsides.ShelfFault)
+ResealFails trees asked before after unchanged (failures.Outside outside) = ResealingFails trees
+    asked before after unchanged (errors.Outside outside)
+ResealFails trees asked before after unchanged (failures.Fault fault) = ResealingFails trees asked
+    before after unchanged (errors.Fault fault)
+ResealFails trees asked before after unchanged (failures.Refusal refusal) =
+    (RefusesWordPairs asked.pairs refusal unchanged.shelf × IsUntouched trees (untouched unchanged))
+    ⊎ ResealingFails trees asked before after unchanged (errors.Refusal refusal)
+ResealFails trees asked before after unchanged failures.Memory =
+    IsUntouched trees (untouched unchanged)
+    ⊎ HasNoSecond trees asked before.shelf after.shelf (untouched unchanged) failures.Memory
+    ⊎ ResealingFails trees asked before after unchanged errors.Memory
+ResealFails trees asked before after unchanged failure = ⊥
