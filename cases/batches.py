@@ -12,6 +12,7 @@ from contexts import joined, refuse_request
 from endings import OUTSIDE, REFUSED, Ended
 from keyrings import KeyringFault
 from messages import (
+    MOST_FRAMES,
     Bytes,
     Fault,
     Going,
@@ -26,7 +27,6 @@ from messages import (
 )
 from objects import Failed
 
-MOST_FRAMES = 2**32 - 1
 MOST_NUMBER = 2**63
 
 

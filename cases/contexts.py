@@ -34,3 +34,28 @@ def refuse_request(context, required, tree):
             raise Ended(REFUSED, f"Q1 ReservedPrefix {json_text(key.decode())}")
     if tree.refuses(False):
         raise Ended(REFUSED, tree.refuses(False))
+
+
+def context_of(pairs):
+    context = {}
+    for key, value, _ in pairs:
+        if value is None:
+            continue
+        if key in context:
+            raise Ended(REFUSED, f"Q3 DuplicateKey {json_text(key.decode())}")
+        longer = context_length({**context, key: value})
+        if longer > MOST_CONTEXT:
+            raise Ended(REFUSED, f"Q2 ContextTooLong {longer}")
+        context[key] = value
+    return context
+
+
+def required_of(pairs):
+    return {key for key, _, is_required in pairs if is_required}
+
+
+def context_line(context):
+    members = ",".join(
+        f"{json_text(key.decode())}:{json_text(context[key].decode())}" for key in sorted(context)
+    )
+    return "{" + members + "}"

@@ -9,22 +9,24 @@ other's named values.
 """
 
 import sys
-from dataclasses import dataclass
 
 from cryptography.hazmat.primitives.ciphers.aead import AESGCM
 
+import audits
 import batches
+import extraction
 import generator
 import jobs
 import keyrings
 import migration
-from contexts import joined, refuse_request
-from endings import DONE, FAULT, FILE, OUTSIDE, REFUSED, UNDONE, WORDS, Ended
+from armour import Armour, Unarmour
+from contexts import context_line, context_of, joined, refuse_request, required_of
+from endings import DONE, FAULT, FILE, OUTSIDE, REFUSED, UNDONE, Ended
 from forms import MOST_PIECE, Reader, shown, shown_report
-from keyrings import KeyringFault, json_text
+from keyrings import KeyringFault
 from messages import (
     COMMITTING,
-    MOST_CONTEXT,
+    MOST_FRAMES,
     Bytes,
     Fault,
     Going,
@@ -38,151 +40,10 @@ from messages import (
     units,
 )
 from objects import Clock, Entropy, Failed, Shelf, Sink, Source
+from words import read_words
 
 MOST_FILE = 1_048_576
 MOST_HEADER = 16_777_216
-MOST_FRAMES = 2**32 - 1
-
-# The options of each command with a value, in the order of the table: the range of a number, or None for a name.
-OPTIONS = {
-    "list": {},
-    "encrypt": {"--keyring": None, "--frame": (1, 2**32 - 1), "--max-keys": (1, 2**16 - 1)},
-    "decrypt": {"--keyring": None, "--max-keys": (1, 2**16 - 1), "--max-unit": (1, 2**36 - 32)},
-    "batch": {"--jobs": None},
-    "gen": {"--seed": (0, 2**64 - 1), "--size": (0, 2**26)},
-    "migrate": {"--keyring": None, "--retire": (1, 2**20)},
-}
-REQUIRED = {"--keyring", "--jobs", "--seed", "--size"}
-FLAG = "--allow-uncommitted"
-WITH_FLAG = ("list", "decrypt")
-WITH_PAIRS = ("encrypt", "decrypt")
-
-
-@dataclass
-class Asked:
-    """What the words ask for."""
-
-    command: str
-    name: str
-    numbers: dict
-    uncommitted: bool
-    pairs: list
-
-    def limits(self):
-        return Limits(self.numbers.get("--max-keys"), self.numbers.get("--max-unit"), self.uncommitted)
-
-
-def read_words(words):
-    """The command, then its options and pairs in any order, then the numbers and the pairs."""
-    words = [word.decode() for word in words]
-    if not words or words[0] not in OPTIONS:
-        raise not_read()
-    command = words[0]
-    given = Given(command)
-    for word in words[1:]:
-        given.take(word)
-    given.close()
-    numbers = {
-        name: read_number(name, given.values[name], *range_)
-        for name, range_ in OPTIONS[command].items()
-        if name in given.values and range_
-    }
-    file = next((given.values[name] for name, range_ in OPTIONS[command].items() if not range_), None)
-    return Asked(command, file, numbers, FLAG in given.values, read_pairs(given.pairs))
-
-
-def not_read():
-    return Ended(WORDS, "words NotRead")
-
-
-class Given:
-    """What stands behind a command, word by word."""
-
-    def __init__(self, command):
-        self.options = set(OPTIONS[command])
-        self.flags = {FLAG} if command in WITH_FLAG else set()
-        self.has_pairs = command in WITH_PAIRS
-        self.values = {}
-        self.pairs = []
-        self.waiting = None
-        self.only_pairs = False
-
-    def take(self, word):
-        if self.only_pairs or word == "-" or not word.startswith("-"):
-            self.take_plain(word)
-        elif self.waiting:
-            raise not_read()
-        elif word == "--":
-            self.only_pairs = True
-        else:
-            self.take_option(*word.partition("="))
-
-    def take_plain(self, word):
-        """A word that is no option: the value that is waited for, or a pair."""
-        if self.waiting:
-            self.values[self.waiting], self.waiting = word, None
-        elif self.has_pairs:
-            self.pairs.append(word)
-        else:
-            raise not_read()
-
-    def take_option(self, name, has_value, value):
-        is_flag = name in self.flags
-        if name in self.values or not (is_flag or name in self.options) or (is_flag and has_value):
-            raise not_read()
-        if has_value or is_flag:
-            self.values[name] = value
-        else:
-            self.waiting = name
-
-    def close(self):
-        if self.waiting or not (self.options & REQUIRED) <= set(self.values):
-            raise not_read()
-
-
-def read_number(name, text, least, most):
-    is_number = 1 <= len(text) <= 20 and all(digit in "0123456789" for digit in text)
-    if not is_number or not least <= int(text) <= most:
-        raise Ended(WORDS, f"words BadNumber {name}")
-    return int(text)
-
-
-def read_pairs(words):
-    """Key, value and whether the key is required, of each word."""
-    pairs = []
-    for place, word in enumerate(words, 1):
-        key, has_value, value = word.partition("=")
-        is_required = key.endswith(":")
-        key = key[:-1] if is_required else key
-        if not key or not (has_value or is_required):
-            raise Ended(WORDS, f"words BadPair {place}")
-        pairs.append((key.encode(), value.encode() if has_value else None, is_required))
-    return pairs
-
-
-def context_of(pairs):
-    context = {}
-    for key, value, _ in pairs:
-        if value is None:
-            continue
-        if key in context:
-            raise Ended(REFUSED, f"Q3 DuplicateKey {json_text(key.decode())}")
-        longer = context_length({**context, key: value})
-        if longer > MOST_CONTEXT:
-            raise Ended(REFUSED, f"Q2 ContextTooLong {longer}")
-        context[key] = value
-    return context
-
-
-def required_of(pairs):
-    return {key for key, _, is_required in pairs if is_required}
-
-
-def context_line(context):
-    members = ",".join(
-        f"{json_text(key.decode())}:{json_text(context[key].decode())}" for key in sorted(context)
-    )
-    return "{" + members + "}"
 
 
 class Run:
@@ -232,29 +93,34 @@ class Run:
             pass
 
     def status_of(self, asked):
-        if asked.command == "list":
-            self.list(asked.limits())
-            return DONE
-        if asked.command == "migrate":
-            self.migrate(asked)
-            return DONE
-        if asked.command == "gen":
-            self.put(generator.line_of(asked.numbers["--seed"], asked.numbers["--size"]).encode())
-            return DONE
-        if asked.command == "batch":
-            return self.batch(asked.name)
+        without_pairs = {
+            "list": self.list,
+            "migrate": self.migrate,
+            "gen": self.gen,
+            "batch": self.batch,
+            "audit": self.audit,
+        }
+        if asked.command in without_pairs:
+            return without_pairs[asked.command](asked)
         context = context_of(asked.pairs)
         required = required_of(asked.pairs)
-        self.tree = self.read_keyring(asked.name)
-        if asked.command == "encrypt":
-            self.encrypt(asked.numbers, context, required)
-            return DONE
-        whole = self.decrypt(asked.limits(), context, required)
-        return self.put_context(whole)
-
-    def put_context(self, whole):
+        self.tree = self.read_keyring(asked.names["--keyring"], self.plugs)
+        with_pairs = {
+            "encrypt": self.encrypt,
+            "decrypt": self.decrypt,
+            "reseal": self.reseal,
+            "extract": self.extract,
+        }
         try:
-            self.report.put(f"{context_line(whole)}\n".encode())
+            return with_pairs[asked.command](asked, context, required)
+        except Fault as fault:
+            raise Ended(FAULT, str(fault)) from None
+        except Going:
+            raise Ended(FAULT, "M10 Truncated") from None
+
+    def put_context(self):
+        try:
+            self.report.put(f"{context_line(self.whole)}\n".encode())
         except Failed:
             return OUTSIDE
         return DONE
@@ -271,6 +137,12 @@ class Run:
         except Failed:
             raise Ended(OUTSIDE, "X1 SourceFault") from None
 
+    def read_at(self, name, at):
+        try:
+            return self.shelf.read_at(name, at, MOST_PIECE)
+        except Failed:
+            raise Ended(OUTSIDE, "X3 ShelfFault") from None
+
     def read_file(self, name):
         try:
             bytes_ = self.shelf.read_whole(name, MOST_FILE)
@@ -280,98 +152,157 @@ class Run:
             raise Ended(FILE, "K10 FileTooLong")
         return bytes_
 
-    def read_keyring(self, name):
+    def read_keyring(self, name, plugs):
+        return self.value_of(name, keyrings.read_tree, plugs)
+
+    def value_of(self, name, read, *given):
+        """What this function reads in the file."""
         bytes_ = self.read_file(name)
         try:
-            return keyrings.read_tree(bytes_, self.plugs)
+            return read(bytes_, *given)
         except keyrings.Refusal as refusal:
             raise Ended(FILE, str(refusal)) from None
 
-    # migrate
+    def draw(self, tree):
+        """A message id, a data key, and an IV for each key of the tree that wraps."""
+        count = len(keyrings.active(tree))
+        try:
+            random = self.entropy.fill(64 + 12 * count)
+        except Failed:
+            raise Ended(OUTSIDE, "X4 EntropyFault") from None
+        return random[:32], random[32:64], [random[at : at + 12] for at in range(64, len(random), 12)]
+
+    # gen, migrate
+
+    def gen(self, asked):
+        self.put(generator.line_of(asked.numbers["--seed"], asked.numbers["--size"]).encode())
+        return DONE
 
     def migrate(self, asked):
-        bytes_ = self.read_file(asked.name)
-        try:
-            text = migration.migrate(bytes_, asked.numbers.get("--retire"))
-        except keyrings.Refusal as refusal:
-            raise Ended(FILE, str(refusal)) from None
-        self.put(text)
+        self.put(self.value_of(asked.names["--keyring"], migration.migrate, asked.numbers.get("--retire")))
+        return DONE
 
     # batch
 
-    def batch(self, name):
-        bytes_ = self.read_file(name)
-        try:
-            file = jobs.read_jobs(bytes_, name)
-        except keyrings.Refusal as refusal:
-            raise Ended(FILE, str(refusal)) from None
-        self.tree = self.read_keyring(file.keyring)
+    def batch(self, asked):
+        file = self.value_of(asked.names["--jobs"], jobs.read_jobs, asked.names["--jobs"])
+        self.tree = self.read_keyring(file.keyring, self.plugs)
         lines = batches.run(file, self.tree, self.shelf, self.entropy, self.clock)
         self.put("".join(f"{line}\n" for line in lines).encode())
         return DONE if all(line.is_done() for line in lines) else UNDONE
 
-    # list
+    # audit
 
-    def list(self, limits):
+    def audit(self, asked):
+        file = self.value_of(asked.names["--jobs"], audits.read_audit)
+        self.tree = self.read_keyring(file.keyring, self.plugs)
+        lines = [self.audited(message) for message in file.messages]
+        self.put(audits.audit_text(lines, len(self.tree.leaves())).encode())
+        return DONE if all(line.openers for line in lines) else UNDONE
+
+    def audited(self, message):
         """Reads until the header with its authentication is whole, and no further."""
         try:
-            header = read_header(Bytes(more=self.read), limits)
+            header = read_header(self.file_from(message.source, 0), Limits())
+            return audits.Line(audits.openers(self.tree, header, message.given))
+        except Fault as fault:
+            return audits.Line([], str(fault))
+        except Going:
+            return audits.Line([], "M10 Truncated")
+        except KeyringFault:
+            raise Ended(OUTSIDE, "X5 KeyringFault") from None
+
+    def file_from(self, name, at):
+        """The bytes of a file of the shelf from this offset on, which are read as they are asked for."""
+        left = Bytes(more=lambda: self.read_at(name, at + len(left.bytes)))
+        return left
+
+    # list
+
+    def list(self, asked):
+        """Reads until the header with its authentication is whole, and no further."""
+        try:
+            header = read_header(Bytes(more=self.reader(asked)), asked.limits())
         except Fault as fault:
             raise Ended(FAULT, str(fault)) from None
         except Going:
             raise Ended(FAULT, "M10 Truncated") from None
         self.put(listing(header).encode())
+        return DONE
+
+    def reader(self, asked):
+        """What gives the next bytes of the message."""
+        return Unarmour(self.read).read if asked.is_armoured() else self.read
 
     # encrypt
 
-    def encrypt(self, numbers, context, required):
-        frame = numbers.get("--frame", 4096)
-        count = len(keyrings.active(self.tree))
-        try:
-            random = self.entropy.fill(64 + 12 * count)
-        except Failed:
-            raise Ended(OUTSIDE, "X4 EntropyFault") from None
-        message_id, data_key, rest = random[:32], random[32:64], random[64:]
+    def encrypt(self, asked, context, required):
+        drawn = self.draw(self.tree)
         refuse_request(context, required, self.tree)
-        ivs = [rest[12 * i : 12 * i + 12] for i in range(count)]
+        armour = Armour(self.put)
+        put = armour.put if asked.is_armoured() else self.put
+        self.seal(asked.numbers, self.tree, drawn, (context, required), self.read, put)
+        armour.finish()
+        return DONE
+
+    def seal(self, numbers, tree, drawn, whole_and_required, read, put):
+        """Writes the message, under the keys of the tree, of the text that is read."""
+        message_id, data_key, ivs = drawn
+        context, required = whole_and_required
         try:
-            entries = keyrings.wrap_all(self.tree, ivs, data_key, context)
+            entries = keyrings.wrap_all(tree, ivs, data_key, context)
         except KeyringFault:
             raise Ended(OUTSIDE, "X5 KeyringFault") from None
         refuse_entries(entries, numbers.get("--max-keys"), context, required)
         only = {key: context[key] for key in required}
         stored = {key: context[key] for key in context if key not in required}
-        self.put(locked_header(message_id, stored, only, entries, frame, data_key))
-        self.put_frames(data_key, message_id, frame)
-
-    def put_frames(self, data_key, message_id, frame):
-        """Writes a full frame once a byte behind it was read, and the last one where the input ends."""
-        cipher = AESGCM(derived_key(data_key, message_id))
-        left, number = Bytes(more=self.read), 1
-        while left.has(frame + 1):
-            if number == MOST_FRAMES:
-                raise Ended(REFUSED, "Q9 TooManyFrames")
-            self.put(sealed_frame(cipher, message_id, number, left.take(frame)))
-            number += 1
-        rest = left.take(len(left.bytes) - left.at)
-        self.put(sealed_frame(cipher, message_id, number, rest, is_final=True))
+        frame = numbers.get("--frame", 4096)
+        put(locked_header(message_id, stored, only, entries, frame, data_key))
+        put_frames(AESGCM(derived_key(data_key, message_id)), message_id, frame, read, put)
 
     # decrypt
 
-    def decrypt(self, limits, given, required):
-        """Writes the content of each unit once it is whole, and gives the whole context."""
+    def decrypt(self, asked, given, required):
+        """Writes the content of each unit once it is whole."""
+        left = Bytes(more=self.reader(asked))
+        header, data_key = self.unlocked_front(left, asked.limits(), given, required)
+        for unit in units(left, header, data_key, asked.limits().max_unit):
+            if unit:
+                self.put(unit)
+        return self.put_context()
+
+    # reseal
+
+    def reseal(self, asked, given, required):
+        """Opens under the first tree, and seals each content under the second once its unit is whole."""
+        second = self.read_keyring(asked.names["--to-keyring"], [])
+        drawn = self.draw(second)
         left = Bytes(more=self.read)
-        try:
-            header = read_header(left, limits)
-            data_key = self.unlocked(header, given, required)
-            for unit in units(left, header, data_key, limits.max_unit):
-                if unit:
-                    self.put(unit)
-        except Fault as fault:
-            raise Ended(FAULT, str(fault)) from None
-        except Going:
-            raise Ended(FAULT, "M10 Truncated") from None
-        return self.whole
+        header, data_key = self.unlocked_front(left, asked.limits(), given, required)
+        only = self.whole.keys() - header.stored.keys()
+        refuse_request(self.whole, only, second)
+        contents = (unit for unit in units(left, header, data_key, asked.limits().max_unit) if unit)
+        self.seal(asked.numbers, second, drawn, (self.whole, only), lambda: next(contents, b""), self.put)
+        return self.put_context()
+
+    # extract
+
+    def extract(self, asked, given, required):
+        """Reads the header, then each unit of the range by itself."""
+        name, at, count = asked.names["--from"], asked.numbers["--at"], asked.numbers["--count"]
+        header, data_key = self.unlocked_front(self.file_from(name, 0), Limits(), given, required)
+        extraction.check(self.shelf.files[name], header, data_key, at, count)
+        for part in extraction.parts(lambda offset: self.file_from(name, offset), header, data_key, at, count):
+            if part:
+                self.put(part)
+        return DONE
+
+    # what opens a message
+
+    def unlocked_front(self, left, limits, given, required):
+        """The header at the front, and its data key."""
+        header = read_header(left, limits)
+        return header, self.unlocked(header, given, required)
 
     def unlocked(self, header, given, required):
         """The data key of the header."""
@@ -385,6 +316,18 @@ class Run:
         check_lock(header, only, data_key)
         self.whole = whole
         return data_key
+
+
+def put_frames(cipher, message_id, frame, read, put):
+    """Writes a full frame once a byte behind it was read, and the last one where the text ends."""
+    left, number = Bytes(more=read), 1
+    while left.has(frame + 1):
+        if number == MOST_FRAMES:
+            raise Ended(REFUSED, "Q9 TooManyFrames")
+        put(sealed_frame(cipher, message_id, number, left.take(frame)))
+        number += 1
+    rest = left.take(len(left.bytes) - left.at)
+    put(sealed_frame(cipher, message_id, number, rest, is_final=True))
 
 
 def plug_of(settings):

@@ -17,6 +17,7 @@ FINAL_MARK = b"\xff\xff\xff\xff"
 MOST_CONTEXT = 65_535
 MOST_END_OF_KEYS = 16_777_216
 MOST_BLOCK = 2**36 - 32
+MOST_FRAMES = 2**32 - 1
 IV = 12
 TAG = 16
 TYPE = 0x80
@@ -174,6 +175,10 @@ class Header:
 
     def is_framed(self):
         return self.frame > 0
+
+    def length(self):
+        """How many bytes stand before the body."""
+        return len(self.body) + (TAG if self.suite == COMMITTING else IV + TAG)
 
 
 def read_part(left):

@@ -1,9 +1,11 @@
 """Files of cases that scripts write."""
 
+import base64
+import json
 import os
 
-from forms import Reader
-from judge import ends_of
+from forms import OBJECTS, Reader
+from judge import Run, ends_of
 
 FOLDER = os.path.dirname(os.path.abspath(__file__))
 
@@ -24,6 +26,41 @@ def case_of(values, *lines):
     for line in lines:
         reader.line(line, found)
     return found[0]
+
+
+def calls_of(values, settings):
+    """How many calls of each object the run of these settings makes, and of the plugs' shelves."""
+    run = Run(case_of(values, "case counted", *settings))
+    plugs = list(run.plugs)
+    run.ended()
+    calls = {name: getattr(run, name).calls for name in OBJECTS}
+    calls["plug"] = sum(plug.shelf.calls for plug in plugs)
+    return calls
+
+
+def failing_line(name, *numbers):
+    """The setting by which these calls of an object, or of the last plug's shelf, fail."""
+    calls = " ".join(map(str, numbers))
+    return f"plug-fail {calls}" if name == "plug" else f"fail {name} {calls}"
+
+
+def raw_node(name, key, retired=False):
+    """The node of a keyring file for a key of the namespace `ns`."""
+    node = {"namespace": "ns", "name": name, "key": base64.b64encode(key).decode()}
+    return {"raw": {**node, "retired": True} if retired else node}
+
+
+def multi_node(generator, *children):
+    return {"multi": {**({"generator": generator} if generator else {}), "children": list(children)}}
+
+
+def tree_text(node, version=1):
+    """A keyring file, as a value of a case."""
+    return json_line({"version": version, "ring": node})
+
+
+def json_line(value):
+    return "text " + json.dumps(value, separators=(",", ":"), ensure_ascii=False)
 
 
 def hex_lines(setting, bytes_):
