@@ -19,16 +19,18 @@ _esdk_options() {
     case $1 in
         encrypt) echo --keyring --frame --max-keys ;;
         decrypt) echo --keyring --max-keys --max-unit --allow-uncommitted ;;
+        extract) echo --keyring --from --at --count ;;
         list) echo --allow-uncommitted ;;
-        batch) echo --jobs ;;
+        batch | audit) echo --jobs ;;
         gen) echo --seed --size ;;
         migrate) echo --keyring --retire ;;
+        reseal) echo --keyring --to-keyring --frame --max-unit --allow-uncommitted ;;
     esac
 }
 
 # In the checkout `esdk` is the script, which has more words.
 _esdk_commands() {
-    echo encrypt decrypt list batch gen migrate
+    echo encrypt decrypt extract list batch audit gen migrate reseal
     [ "$1" != ./esdk ] || echo help version build install package try
 }
 
@@ -44,10 +46,10 @@ _esdk() {
     [ "$before" != = ] || before=${COMP_WORDS[COMP_CWORD - 2]}
     [ "${COMP_WORDS[1]}" != try ] || at=2
     case $before in
-        --keyring | --jobs) _esdk_files "$word" ;;
-        --frame | --max-keys | --max-unit | --seed | --size | --retire) ;;
+        --keyring | --to-keyring | --from | --jobs) _esdk_files "$word" ;;
+        --frame | --max-keys | --max-unit | --at | --count | --seed | --size | --retire) ;;
         install | package) _esdk_folders "$word" ;;
-        try) _esdk_words "$word" "encrypt decrypt list gen migrate" ;;
+        try) _esdk_words "$word" "encrypt decrypt extract list gen migrate reseal" ;;
         *) case $word in -*) _esdk_words "$word" "$(_esdk_options "${COMP_WORDS[at]}")" ;; esac ;;
     esac
 }
@@ -77,17 +79,27 @@ _esdk_tree() {
     esac
 }
 
+_esdk_audit() {
+    local word=${COMP_WORDS[COMP_CWORD]}
+    COMPREPLY=()
+    case $COMP_CWORD in
+        1) _esdk_files "$word" ;;
+        2) _esdk_folders "$word" ;;
+    esac
+}
+
 _esdk_jobs() {
     local word=${COMP_WORDS[COMP_CWORD]}
     COMPREPLY=()
     case $COMP_CWORD:${COMP_WORDS[1]} in
-        1:*) _esdk_words "$word" "encrypt decrypt report" ;;
+        1:*) _esdk_words "$word" "encrypt decrypt audit report" ;;
         3:encrypt | 3:decrypt) _esdk_folders "$word" ;;
         *) _esdk_files "$word" ;;
     esac
 }
 
 complete -F _esdk esdk
+complete -F _esdk_audit esdk-audit
 complete -F _esdk_keygen esdk-keygen
 complete -F _esdk_into esdk-into
 complete -F _esdk_tree esdk-tree

@@ -1,7 +1,7 @@
 #!/usr/bin/env python3
 """Stands in for the program `esdk` in tests of the scripts around it, where it isn't built.
 
-It has `encrypt`, `decrypt`, `list` and `batch`, keyring files of one key line, and the lines and
+It has `encrypt`, `decrypt`, `list`, `batch` and `audit`, keyring files of one key line, and the lines and
 statuses that these tests meet. What it writes and reads are messages of the format, by
 vectors/opening.py over the package `cryptography`; it proves nothing, and holds files whole.
 """
@@ -261,8 +261,51 @@ def batch(words):
     sys.exit(status)
 
 
+def unlocks(message, wrapping, given):
+    """Whether the key opens the message's header. Of a body that is damaged it says nothing."""
+    try:
+        opened(message, wrapping, given, lambda text: None)
+    except Fault as fault:
+        return fault.line.split()[0] not in ("M15", "M16", "M17")
+    except Refused:
+        pass
+    return True
+
+
+def audited(message, wrapping):
+    """What an audit says of a message."""
+    try:
+        read = pathlib.Path(message["from"]).read_bytes()
+    except OSError:
+        raise Fault(4, "X3 ShelfFault") from None
+    try:
+        reader = Reader(read)
+        read_header(reader)
+        reader.take(16)
+    except Refused:
+        return "M10 Truncated"
+    except Fault as fault:
+        return fault.line
+    return "opened-by 1" if unlocks(read, wrapping, message.get("given", {})) else "opened-by none"
+
+
+def audit(words):
+    given, _ = options(words, ["--jobs"])
+    file = json.loads(pathlib.Path(given["--jobs"]).read_bytes().decode())
+    messages = file["messages"]
+    if file["version"] != 1 or not 1 <= len(messages) <= 1000:
+        raise Fault(3, "K2 BadShape 0")
+    wrapping = keyring(file["keyring"])
+    lines = [audited(message, wrapping) for message in messages]
+    for at, line in enumerate(lines, 1):
+        print("message", at, line)
+    needed = [str(at) for at, line in enumerate(lines, 1) if line == "opened-by 1"]
+    print("leaf 1 needed-for", " ".join(needed) or "none")
+    sys.exit(0 if len(needed) == len(lines) else 7)
+
+
 def main():
-    commands = {"encrypt": encrypt, "decrypt": decrypt, "list": listing, "batch": batch}
+    commands = {"encrypt": encrypt, "decrypt": decrypt, "list": listing, "batch": batch, "audit": audit}
     words = sys.argv[1:]
     try:
         if not words or words[0] not in commands or any("\udc80" <= letter <= "\udcff" for letter in "".join(words)):

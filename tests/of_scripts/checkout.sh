@@ -51,6 +51,12 @@ trials() {
     want "a trial says that it is one, and no more" [ "$(wc -l <report)" -eq 1 ]
     want "a trial says that it is unproved" grep -q unproved report
     want "a trial names the keyring file from the root" [ "$(tr '\n' ' ' <rt.words)" = "try -- encrypt --keyring $work/key a=b -- --keyring=c " ]
+    trial '\nchecked: ended status=0\nrun=ended status=0 runners=1 proved=no\n' reseal --keyring key --to-keyring=new
+    want "a trial of reseal has the input" cmp output plain
+    want "a trial names both keyring files from the root" [ "$(tr '\n' ' ' <rt.words)" = "try -- reseal --keyring $work/key --to-keyring=$work/new " ]
+    trial '\nchecked: ended status=0\nrun=ended status=0 runners=1 proved=no\n' extract --from=m.esdk --keyring key --at 1
+    want "a trial of extract has no input" [ ! -s output ]
+    want "a trial names the message from the root" [ "$(tr '\n' ' ' <rt.words)" = "try -- extract --from=$work/m.esdk --keyring $work/key --at 1 " ]
     : >esdk.key
     trial 'rt: a check will refuse this: x\nesdk: M10 Truncated\nchecked: ended status=1\nrun=ended status=1 runners=1 proved=no\n' decrypt --keyring=/k
     ended "a trial of what the program refuses" 1
@@ -59,15 +65,17 @@ trials() {
     trial 'error: it is wrong\nrun=none proved=no\n' list
     ended "a trial without an answer" 70
     want "a trial without an answer shows why" grep -q 'it is wrong' report
-    run checkout/esdk try batch
-    ended "a trial of a batch" 70
+    for word in batch audit; do
+        run checkout/esdk try "$word"
+        ended "a trial of $word" 70
+    done
 }
 
 installs() {
     run checkout/esdk install home/bin
     ended "install" 0
     want "install says of which version" grep -q "installed home/bin/esdk, of version $(cat "$top/VERSION")" report
-    for name in esdk esdk-into esdk-jobs esdk-keygen esdk-tree; do
+    for name in esdk esdk-audit esdk-into esdk-jobs esdk-keygen esdk-tree; do
         want "install: $name" [ -x "home/bin/$name" ]
         want "install: its man page" cmp "home/share/man/man1/$name.1" "$top/docs/$name.1"
         want "install: its completion" cmp "home/share/bash-completion/completions/$name" "$top/share/esdk.bash"
@@ -136,13 +144,15 @@ completion() {
     want "completion of an option" [ "$(offers _esdk esdk decrypt --max)" = "--max-keys --max-unit" ]
     want "completion of a keyring file" [ "$(offers _esdk esdk encrypt --keyring accen)" = accents ]
     want "completion of a keyring file behind =" [ "$(offers _esdk esdk encrypt --keyring = accen)" = accents ]
+    want "completion of the second keyring file" [ "$(offers _esdk esdk reseal --to-keyring accen)" = accents ]
     want "completion of the script's words" [ "$(offers _esdk ./esdk pa)" = package ]
     want "completion of esdk-tree" [ "$(offers _esdk_tree esdk-tree verify key sto)" = store ]
+    want "completion of esdk-audit" [ "$(offers _esdk_audit esdk-audit key sto)" = store ]
     want "completion of esdk-jobs" [ "$(offers _esdk_jobs esdk-jobs rep)" = report ]
 }
 
 helps() {
-    for name in esdk-into esdk-jobs esdk-keygen esdk-tree; do
+    for name in esdk-audit esdk-into esdk-jobs esdk-keygen esdk-tree; do
         run "$share/$name" --help
         ended "$name --help" 0
         want "$name --help says how it is used" grep -q "^usage: .*$name" output

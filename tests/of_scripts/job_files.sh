@@ -54,7 +54,7 @@ reports() {
     want "it is named for another job file" cmp again third
     : >empty
     run "$share/esdk-jobs" report jobs-1.json empty
-    want "a batch that was killed did none" [ "$(grep -c 'the batch has no line for it' output)" -eq 12 ]
+    want "a batch that was killed did none" [ "$(grep -c 'the report has no line for it' output)" -eq 12 ]
     run "$share/esdk-jobs" report empty empty
     ended "a report of what is no job file" 2
     run "$share/esdk-jobs" report jobs-1.json missing

@@ -20,9 +20,9 @@ without() {
 status_without() {
     local closed=" $1 "
     case $2 in
-        encrypt | decrypt | list) [[ $closed != *" 0 "* ]] || { echo 4; return; } ;;
+        encrypt | decrypt | reseal | list) [[ $closed != *" 0 "* ]] || { echo 4; return; } ;;
     esac
-    if [[ $closed == *" 1 "* ]] || { [[ $closed == *" 2 "* ]] && [ "$2" = decrypt ]; }; then echo 4; else echo 0; fi
+    if [[ $closed == *" 1 "* ]] || [[ "$closed$2" =~ ' 2 '.*(decrypt|reseal)$ ]]; then echo 4; else echo 0; fi
 }
 
 # A command without some streams: what it says, and that the files of the folder are as before. closed_streams_of COMMAND INPUT WORDS..
