@@ -2,7 +2,7 @@
 use Rattle.std.specs.Prelude.{unwrap_or}
 use Rattle.esdk_args.specs.declared.commands.CommandName.{CommandName}
 use Rattle.esdk_args.specs.declared.commands.CommandName.TheVariants as commands
-use Rattle.esdk_args.specs.declared.options.FlagOption.TheVariants.{AllowUncommitted}
+use Rattle.esdk_args.specs.declared.options.FlagOption.TheVariants.{AllowUncommitted, Armour}
 use Rattle.esdk_args.specs.declared.options.NameOption.TheVariants.{Keyring, Jobs, From, ToKeyring}
 use Rattle.esdk_args.specs.declared.options.OptionName.TheVariants.{Frame, MaxKeys, MaxUnit}
 use Rattle.esdk_args.specs.declared.options.OptionName.TheVariants.{Retire, Seed, Size, At, Count}
@@ -12,12 +12,15 @@ use Rattle.esdk_args.specs.Values.{Given, required_name, required_number}
 
 -- the request of a command
 abbrev pub request_from : CommandName → Given → Request
-request_from commands.List given =
-    requests.List (record { uncommitted = given.flags AllowUncommitted })
+request_from commands.List given = requests.List (record {
+  uncommitted = given.flags AllowUncommitted;
+  armour = given.flags Armour;
+})
 request_from commands.Encrypt given = requests.Encrypt (record {
   keyring = required_name given Keyring;
   frame = unwrap_or (given.numbers Frame) 4096;
   max_keys = given.numbers MaxKeys;
+  armour = given.flags Armour;
   pairs = given.pairs;
 })
 request_from commands.Decrypt given = requests.Decrypt (record {
@@ -25,6 +28,7 @@ request_from commands.Decrypt given = requests.Decrypt (record {
   max_keys = given.numbers MaxKeys;
   max_unit = given.numbers MaxUnit;
   uncommitted = given.flags AllowUncommitted;
+  armour = given.flags Armour;
   pairs = given.pairs;
 })
 request_from commands.Batch given = requests.Batch (required_name given Jobs)

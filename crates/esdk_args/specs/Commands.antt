@@ -1,7 +1,8 @@
 -- The table of commands: what may stand behind each, and the command of `clap` that reads it.
---     list [--allow-uncommitted]
---     encrypt --keyring NAME [--frame N] [--max-keys N] PAIR..
---     decrypt --keyring NAME [--max-keys N] [--max-unit N] [--allow-uncommitted] PAIR..
+--     list [--allow-uncommitted] [--armour]
+--     encrypt --keyring NAME [--frame N] [--max-keys N] [--armour] PAIR..
+--     decrypt --keyring NAME [--max-keys N] [--max-unit N] [--allow-uncommitted] [--armour]
+--         PAIR..
 --     batch --jobs NAME
 --     gen --seed N --size N
 --     extract --keyring NAME --from NAME --at N --count N PAIR..
@@ -19,7 +20,7 @@ use Rattle.esdk_args.specs.declared.commands.Argument.{Argument}
 use Rattle.esdk_args.specs.declared.commands.Argument.TheVariants.{Required, Optional, Flag, Pairs}
 use Rattle.esdk_args.specs.declared.commands.CommandName.{CommandName}
 use Rattle.esdk_args.specs.declared.commands.CommandName.TheVariants as commands
-use Rattle.esdk_args.specs.declared.options.FlagOption.TheVariants.{AllowUncommitted}
+use Rattle.esdk_args.specs.declared.options.FlagOption.TheVariants.{AllowUncommitted, Armour}
 use Rattle.esdk_args.specs.declared.options.NameOption.TheVariants.{Keyring, Jobs, From, ToKeyring}
 use Rattle.esdk_args.specs.declared.options.OptionName.TheVariants.{Frame, MaxKeys, MaxUnit}
 use Rattle.esdk_args.specs.declared.options.OptionName.TheVariants.{Retire, Seed, Size, At, Count}
@@ -42,12 +43,13 @@ command_text commands.Reseal = codes "reseal"
 
 -- what may stand behind it, in the order in which it is judged; pair words come last
 abbrev pub arguments : CommandName → List Argument
-arguments commands.List = Flag AllowUncommitted ∷ []
+arguments commands.List = Flag AllowUncommitted ∷ Flag Armour ∷ []
 arguments commands.Encrypt =
-    Required (Name Keyring) ∷ Optional (Number Frame) ∷ Optional (Number MaxKeys) ∷ Pairs ∷ []
+    Required (Name Keyring) ∷ Optional (Number Frame) ∷ Optional (Number MaxKeys) ∷ Flag Armour
+    ∷ Pairs ∷ []
 arguments commands.Decrypt =
     Required (Name Keyring) ∷ Optional (Number MaxKeys) ∷ Optional (Number MaxUnit)
-    ∷ Flag AllowUncommitted ∷ Pairs ∷ []
+    ∷ Flag AllowUncommitted ∷ Flag Armour ∷ Pairs ∷ []
 arguments commands.Batch = Required (Name Jobs) ∷ []
 arguments commands.Gen = Required (Number Seed) ∷ Required (Number Size) ∷ []
 arguments commands.Extract =

@@ -1,7 +1,7 @@
 -- The options, by what stands behind them: a name, a number, or nothing.
 use Rattle.std.specs.Prelude.{ℕ, List, ◌++◌, codes}
 use Rattle.esdk_args.specs.declared.options.FlagOption.{FlagOption}
-use Rattle.esdk_args.specs.declared.options.FlagOption.TheVariants.{AllowUncommitted}
+use Rattle.esdk_args.specs.declared.options.FlagOption.TheVariants.{AllowUncommitted, Armour}
 use Rattle.esdk_args.specs.declared.options.NameOption.TheVariants.{Keyring, Jobs, From, ToKeyring}
 use Rattle.esdk_args.specs.declared.options.OptionName.{OptionName}
 use Rattle.esdk_args.specs.declared.options.OptionName.TheVariants.{Frame, MaxKeys, MaxUnit}
@@ -54,6 +54,7 @@ value_name (Number option) = option_name option
 -- the name of a flag
 abbrev pub flag_name : FlagOption → List ℕ
 flag_name AllowUncommitted = codes "allow-uncommitted"
+flag_name Armour = codes "armour"
 
 -- ---- as they are written
 

@@ -46,6 +46,7 @@ fn list_from(matches: &ArgMatches<'_>) -> Request
 {
     Request::List(ListWords {
         uncommitted: is_given(matches, FlagOption::AllowUncommitted),
+        armour: is_given(matches, FlagOption::Armour),
     })
 }
 
@@ -57,6 +58,7 @@ fn encrypt_from(alloc: Global, matches: &ArgMatches<'_>) -> Result<Request, Allo
         keyring: required_name(alloc, matches, NameOption::Keyring)?,
         frame: number_u32(matches, OptionName::Frame).unwrap_or(DEFAULT_FRAME),
         max_keys: number_u16(matches, OptionName::MaxKeys),
+        armour: is_given(matches, FlagOption::Armour),
         pairs: pairs(alloc, matches)?,
     }))
 }
@@ -70,6 +72,7 @@ fn decrypt_from(alloc: Global, matches: &ArgMatches<'_>) -> Result<Request, Allo
         max_keys: number_u16(matches, OptionName::MaxKeys),
         max_unit: number(matches, OptionName::MaxUnit),
         uncommitted: is_given(matches, FlagOption::AllowUncommitted),
+        armour: is_given(matches, FlagOption::Armour),
         pairs: pairs(alloc, matches)?,
     }))
 }

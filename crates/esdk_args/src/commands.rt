@@ -39,20 +39,25 @@ pub(crate) enum Argument {
     Pairs,
 }
 
-static LIST: [Argument; 1] = [Argument::Flag(FlagOption::AllowUncommitted)];
+static LIST: [Argument; 2] = [
+    Argument::Flag(FlagOption::AllowUncommitted),
+    Argument::Flag(FlagOption::Armour),
+];
 
-static ENCRYPT: [Argument; 4] = [
+static ENCRYPT: [Argument; 5] = [
     Argument::Required(ValueOption::Name(NameOption::Keyring)),
     Argument::Optional(ValueOption::Number(OptionName::Frame)),
     Argument::Optional(ValueOption::Number(OptionName::MaxKeys)),
+    Argument::Flag(FlagOption::Armour),
     Argument::Pairs,
 ];
 
-static DECRYPT: [Argument; 5] = [
+static DECRYPT: [Argument; 6] = [
     Argument::Required(ValueOption::Name(NameOption::Keyring)),
     Argument::Optional(ValueOption::Number(OptionName::MaxKeys)),
     Argument::Optional(ValueOption::Number(OptionName::MaxUnit)),
     Argument::Flag(FlagOption::AllowUncommitted),
+    Argument::Flag(FlagOption::Armour),
     Argument::Pairs,
 ];
 

@@ -2,9 +2,9 @@
 //! reads the words behind it.
 //!
 //! ```text
-//! list [--allow-uncommitted]
-//! encrypt --keyring NAME [--frame N] [--max-keys N] PAIR..
-//! decrypt --keyring NAME [--max-keys N] [--max-unit N] [--allow-uncommitted] PAIR..
+//! list [--allow-uncommitted] [--armour]
+//! encrypt --keyring NAME [--frame N] [--max-keys N] [--armour] PAIR..
+//! decrypt --keyring NAME [--max-keys N] [--max-unit N] [--allow-uncommitted] [--armour] PAIR..
 //! batch --jobs NAME
 //! gen --seed N --size N
 //! extract --keyring NAME --from NAME --at N --count N PAIR..

@@ -54,6 +54,9 @@ pub(crate) enum FlagOption {
     /// `--allow-uncommitted` of `list`, `decrypt` and `reseal`: messages without a commitment may be
     /// read.
     AllowUncommitted,
+    /// `--armour` of `list`, `encrypt` and `decrypt`: messages are read and written as text, base64
+    /// in lines.
+    Armour,
 }
 
 /// The option as it is written among the words.
@@ -107,6 +110,7 @@ pub(crate) fn flag_name<'a>(flag: FlagOption) -> &'a str
 {
     match flag {
         FlagOption::AllowUncommitted => "allow-uncommitted",
+        FlagOption::Armour => "armour",
     }
 }
 

@@ -40,6 +40,8 @@ pub enum Request {
 pub struct ListWords {
     /// Whether a message without a commitment may be read.
     pub uncommitted: bool,
+    /// Whether the input is the message as text, base64 in lines.
+    pub armour: bool,
 }
 
 /// What the words say of an encryption.
@@ -51,6 +53,8 @@ pub struct EncryptWords {
     pub frame: u32,
     /// The greatest number of encrypted data keys, 1 to 65,535; None where the words give none.
     pub max_keys: Option<u16>,
+    /// Whether the message is written as text, base64 in lines.
+    pub armour: bool,
     /// The pairs of the context, and the keys that are required.
     pub pairs: PairWords,
 }
@@ -67,6 +71,8 @@ pub struct DecryptWords {
     pub max_unit: Option<u64>,
     /// Whether a message without a commitment may be read.
     pub uncommitted: bool,
+    /// Whether the input is the message as text, base64 in lines.
+    pub armour: bool,
     /// The given pairs of the context, and the keys that are required.
     pub pairs: PairWords,
 }
