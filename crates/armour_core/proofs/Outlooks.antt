@@ -88,7 +88,7 @@ same_outlook o q text long same =
 -- ---- text that is taken
 
 -- behind sound groups
-outlook_behind : (o : OpenGroup) (text more : List ℕ) (long : Bool) → (read_on o (characters text)).bad ≡ None
+pub outlook_behind : (o : OpenGroup) (text more : List ℕ) (long : Bool) → (read_on o (characters text)).bad ≡ None
     → read_out o (text ++ more) long ≡ with_front (read_on o (characters text)).bytes (read_out (open_on o (characters text)) more long)
 unfolding read_out
 outlook_behind o text more long sound =

@@ -1,7 +1,8 @@
 -- An armoured output that takes bytes line by line.
+use borrow.Rule.Slice.PartMut.{put_mid}
 use Rattle.std.proofs.Common.{◌≡◌, ℕ, ◌+◌, ◌-◌, ◌<◌, ◌≤◌, ◌==◌, Bool, true, false, List, [], ◌++◌, length, take, drop, refl, sym, subst, ap, ◌∙◌, arith, inl, inr, eq-eqb, if◌then◌else◌}
 use Rattle.std.proofs.lemmas.Bool.{cases_Bool, eqb-true}
-use Rattle.std.proofs.lemmas.List.{append-nil, append_assoc, length-append, length-drop, length-take-le, take-append-drop, take_all}
+use Rattle.std.proofs.lemmas.List.{append-nil, append_assoc, drop_all, length-append, length-drop, length-take, length-take-le, take-append-drop, take_all}
 use Rattle.std.proofs.Math.Seq.{take-add}
 use Rattle.armour_core.specs.declared.armour.Armour.{Armour}
 use Rattle.armour_core.specs.ArmourText.{armour_text}
@@ -10,6 +11,7 @@ use Rattle.armour_core.specs.ArmouredOutput.{FailsAtLine, TakesLines, full_lines
 pub use Rattle.armour_core.specs.ArmouredOutput.{held_of}
 use Rattle.armour_core.specs.Armouring.{ArmouringValue, full_line_text, in_full_lines, line_ended, line_stepped, open_line, taken_of}
 use Rattle.armour_core.specs.LineLaws.{armour_nil}
+use Rattle.armour_core.proofs.Readers.{filled_more}
 use Rattle.armour_core.specs.Stands.{IsOpen, Stands}
 
 -- a session at which an armour stands
@@ -73,6 +75,23 @@ step_line old new piece out used answer stands gives =
       keeps = s.line ∙ ap open_line stepped;
     }
 
+-- what an armour gave is no more than a line's text
+pub out_few : (armour : Armour) (out : List ℕ) → ((v : ArmouringValue) → Stands armour v → out ≡ v.out) → length out ≤ 77
+out_few armour out gives = omega (arith, ap length (gives (session_of armour) (stands_there armour)), length-take armour.given armour.text, armour.room)
+
+-- a full line of bytes, where none is held
+pub line_taken : (held bytes : List ℕ) → held ≡ [] → 57 ≤ length bytes
+    → (armour_text (take 57 bytes) ≡ full_lines_text (held ++ take 57 bytes)) × (held ≡ open_line (held ++ take 57 bytes))
+line_taken held bytes none some =
+    let line : List ℕ = take 57 bytes in
+    let size : length line ≡ 57 = length-take-le 57 bytes some in
+    let all : in_full_lines (length line) ≡ 57 = omega (arith, size) in
+    let text : full_lines_text line ≡ armour_text line = ap (λ (n : ℕ). armour_text (take n line)) all ∙ ap armour_text (take_all 57 line (omega (arith, size))) in
+    let rest : open_line line ≡ [] = ap (λ (n : ℕ). drop n line) all ∙ drop_all 57 line (omega (arith, size)) in (
+      sym text ∙ ap (λ (x : List ℕ). full_lines_text (x ++ line)) (sym none),
+      none ∙ sym rest ∙ ap (λ (x : List ℕ). open_line (x ++ line)) (sym none),
+    )
+
 -- ---- the loop
 
 -- what is left of the bytes, as a slice
@@ -82,9 +101,13 @@ rest_of bytes used = take (length bytes - used) (drop used bytes)
 rest_is : (bytes : List ℕ) (used : ℕ) → rest_of bytes used ≡ drop used bytes
 rest_is bytes used = take_all (length bytes - used) (drop used bytes) (omega (arith, length-drop used bytes))
 
-pub step_rest : (old new : Armour) (bytes out : List ℕ) (used more : ℕ) → ((v : ArmouringValue) → Stands old v → more ≡ taken_of v (rest_of bytes used))
-    → ((v : ArmouringValue) → Stands old v → Stands new (line_stepped v (rest_of bytes used))) → ((v : ArmouringValue) → Stands new v → out ≡ v.out) → StepsLine old new (drop used bytes) more out
-step_rest old new bytes out used more answer stands gives = subst (λ (p : List ℕ). StepsLine old new p more out) (rest_is bytes used) (step_line old new (rest_of bytes used) out more answer stands gives)
+-- the lines that what is left of the bytes fills
+pub filled_step : (old new : Armour) (bytes text : List ℕ) (used more : ℕ) → text ≡ full_lines_text (held_of old ++ take more (rest_of bytes used))
+    → held_of new ≡ open_line (held_of old ++ take more (rest_of bytes used)) → StepsLine old new (drop used bytes) more text
+filled_step old new bytes text used more gives keeps = record {
+  gives = gives ∙ ap (λ (p : List ℕ). full_lines_text (held_of old ++ take more p)) (rest_is bytes used);
+  keeps = keeps ∙ ap (λ (p : List ℕ). open_line (held_of old ++ take more p)) (rest_is bytes used);
+}
 
 fails_longer : {R E : Type 0} (fails : R → R → List ℕ → E → Type 0) (r t : R) (a first rest : List ℕ) (error : E) → FailsAtLine fails r t a first error → FailsAtLine fails r t a (first ++ rest) error
 fails_longer fails r t a first rest error one =
@@ -134,3 +157,48 @@ module _ {R : Type 0} (takes : R → R → List ℕ → Type 0) where
       let front = armoured_behind takes fails behind r s t before (held_of old) (take used bytes) piece error h.lines here in
       let joined : FailsAtLine fails r t before (take (used + more) bytes) error = subst (λ (x : List ℕ). FailsAtLine fails r t before x error) (sym (take-add used more bytes)) front in
       subst (λ (x : List ℕ). FailsAtLine fails r t before x error) (take-append-drop (used + more) bytes) (fails_longer fails r t before (take (used + more) bytes) (drop (used + more) bytes) error joined)
+
+-- ---- a buffer of lines
+
+-- It goes on with these bytes.
+abbrev pub Extends : List ℕ → List ℕ → List ℕ → Type 0
+Extends old new bytes = new ≡ old ++ bytes
+
+pub extends_more : (r s t first second : List ℕ) → Extends r s first → Extends s t second → Extends r t (first ++ second)
+extends_more r s t first second one two = two ∙ ap (λ (x : List ℕ). x ++ second) one ∙ append_assoc r first second
+
+-- What was written of the text so far.
+pub record FillingLines (old now : Armour) (bytes text : List ℕ) (used filled : ℕ) : Type 0 where
+  pub goes : IsOpen now
+  pub size : length text ≡ 9856
+  pub room : filled ≤ 9856
+  pub none : used ≡ 0 → filled ≡ 0
+  pub lines : Handing Extends [] (take filled text) (held_of old) (held_of now) bytes used
+
+pub filling_lines_begin : (armour : Armour) (bytes text : List ℕ) → IsOpen armour → length text ≡ 9856 → FillingLines armour armour bytes text 0 0
+filling_lines_begin armour bytes text goes size = record {
+  goes = goes;
+  size = size;
+  room = omega arith;
+  none = λ zero. zero;
+  lines = handing_begins Extends [] (held_of armour) bytes refl (few_held armour);
+}
+
+pub filling_lines_more : (old now new : Armour) (bytes text part : List ℕ) (used filled more count k : ℕ) → FillingLines old now bytes text used filled → used < length bytes → filled ≤ 9779
+    → IsOpen new → more ≤ length (rest_of bytes used) → (1 ≤ length (rest_of bytes used) → 1 ≤ more) → count ≤ 77 → k ≡ length text - filled → length part ≡ k
+    → take count part ≡ full_lines_text (held_of now ++ take more (rest_of bytes used)) → held_of new ≡ open_line (held_of now ++ take more (rest_of bytes used))
+    → FillingLines old new bytes (put_mid filled k text part) (used + more) (filled + count)
+filling_lines_more old now new bytes text part used filled more count k f within room goes few some short is size gives keeps =
+    let left : length (rest_of bytes used) ≡ length bytes - used = ap length (rest_is bytes used) ∙ length-drop used bytes in
+    let one : 1 ≤ more = some (omega (arith, left, within)) in
+    let fits : filled ≤ length text = omega (arith, f.size, room) in
+    let long : length (put_mid filled k text part) ≡ length text =
+    omega (arith, length-append (take filled text) (part ++ drop k (drop filled text)), length-append part (drop k (drop filled text)), length-take-le filled text fits, size, is, length-drop k (drop filled text), length-drop filled text, fits) in
+    let front : take (filled + count) (put_mid filled k text part) ≡ take filled text ++ take count part = filled_more filled k count text part fits (omega (arith, size, is, f.size, room, short)) in record {
+      goes = goes;
+      size = long ∙ f.size;
+      room = omega (arith, room, short);
+      none = λ zero. absurd (omega (arith, zero, one));
+      lines = handing_more Extends extends_more [] (take filled text) (take (filled + count) (put_mid filled k text part)) (held_of old) now new bytes (take count part) used more f.lines few
+          (filled_step now new bytes (take count part) used more gives keeps) front;
+    }

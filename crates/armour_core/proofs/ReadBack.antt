@@ -40,7 +40,7 @@ passes_breaks front breaks rest are =
 abbrev is_symbol : ℕ → Bool
 is_symbol symbol = is_character symbol && not (symbol == padding)
 
-abbrev table : List ℕ
+abbrev pub table : List ℕ
 table = standard.encode_table
 
 table_symbols : all_below (λ i. is_symbol (slice_index table i)) 64 ≡ true
@@ -55,7 +55,7 @@ symbols i = elim (cases_lt i 64) [
 symbol_is : (i : ℕ) → is_character (slice_index table i) ≡ true
 symbol_is i = (and_parts (is_character (slice_index table i)) (not (slice_index table i == padding)) (symbols i)).0
 
-no_padding : (i : ℕ) → (slice_index table i == padding) ≡ false
+pub no_padding : (i : ℕ) → (slice_index table i == padding) ≡ false
 no_padding i = not-true (slice_index table i == padding) (and_parts (is_character (slice_index table i)) (not (slice_index table i == padding)) (symbols i)).1
 
 pub keep : (x : ℕ) (xs : List ℕ) → is_character x ≡ true → characters xs ≡ xs → characters (x ∷ xs) ≡ x ∷ xs
@@ -81,7 +81,7 @@ keep_padding : (count : ℕ) → characters (replicate count padding) ≡ replic
 keep_padding zero = refl
 keep_padding (suc n) = keep padding (replicate n padding) refl (keep_padding n)
 
-keep_encoded : (bytes : List ℕ) → characters (encode_of standard bytes) ≡ encode_of standard bytes
+pub keep_encoded : (bytes : List ℕ) → characters (encode_of standard bytes) ≡ encode_of standard bytes
 keep_encoded bytes =
     let pads : List ℕ = replicate (padding_len (length bytes)) padding in
     filter-append is_character (encode_symbols table bytes) pads ∙ ap (λ (x : List ℕ). x ++ characters pads) (keep_symbols bytes) ∙ ap (λ (x : List ℕ). encode_symbols table bytes ++ x) (keep_padding (padding_len (length bytes)))
@@ -121,7 +121,7 @@ unfolding groups_read
 group_again n s0 s1 s2 s3 bytes rest are is =
     ap (λ (x : Option (List ℕ)). group_then n x (groups_read (n + 1) (s3 == padding) rest)) (ap (decoded_of standard) (sym is) ∙ decoded_again bytes are)
 
-groups_again : (n : ℕ) (bytes : List ℕ) → IsBytes bytes → groups_read n false (encode_of standard bytes) ≡ record { bytes = bytes; bad = None }
+pub groups_again : (n : ℕ) (bytes : List ℕ) → IsBytes bytes → groups_read n false (encode_of standard bytes) ≡ record { bytes = bytes; bad = None }
 unfolding encode_symbols
 groups_again n [] are = read_nil n false
 groups_again n (a ∷ []) are = group_again n _ _ _ _ (a ∷ []) [] are refl ∙ ap (behind (a ∷ [])) (read_nil (n + 1) true)

@@ -1,10 +1,11 @@
 -- A reader that takes the text of a source piece by piece.
 use borrow.Rule.Slice.PartMut.{put_mid}
 use Rattle.std.proofs.Math.Seq.{take-append-add}
-use Rattle.std.proofs.Common.{◌≡◌, ◌⊎◌, ℕ, ◌+◌, ◌-◌, ◌^◌, ◌%◌, ◌<◌, ◌≤◌, ◌==◌, nat_le, min, Bool, true, false, not, List, [], ◌∷◌, ◌++◌, length, take, drop, Option, Some, None, Ok, Err, refl, sym, ap, ◌∙◌, arith, inl, inr, eq-eqb, if◌then◌else◌}
+use Rattle.std.proofs.Common.{◌≡◌, ◌⊎◌, ℕ, ◌+◌, ◌-◌, ◌^◌, ◌%◌, ◌<◌, ◌≤◌, ◌==◌, nat_le, min, Bool, true, false, not, List, [], ◌∷◌, ◌++◌, length, take, drop, get_or, Fits, w8, Option, Some, None, Ok, Err, refl, sym, ap, ◌∙◌, arith, inl, inr, eq-eqb, if◌then◌else◌}
 use Rattle.std.specs.Option.{is_some}
 use Rattle.std.proofs.lemmas.Bool.{cases_lt, ne_eqb}
 use Rattle.std.proofs.lemmas.List.{append-nil, append_assoc, drop-drop, drop_all, length-append, length-drop, length-take-le, take-append-drop, take-append-le, take_all, take_at}
+use Rattle.base64.specs.GeneralPurpose.{IsBytes}
 use Rattle.whole_input.specs.Pieces.{most_input}
 use Rattle.armour_core.specs.declared.errors.ArmourError.{ArmourError}
 use Rattle.armour_core.specs.declared.reader.ArmourReader.{ArmourReader}
@@ -251,6 +252,10 @@ begins r taken none handed goes reads text =
 
 -- ---- the buffer that bytes are handed on into
 
+-- what a slice holds is bytes
+pub fits_bytes : (xs : List ℕ) → ((i : ℕ) → Fits w8 (get_or xs i 0)) → IsBytes xs
+fits_bytes xs fit i = (fit i).fits
+
 pub copied_is : (copied rest old : List ℕ) (count : ℕ) → copied ≡ take count rest → count ≤ length rest → take count (copied ++ drop count old) ≡ take count rest
 copied_is copied rest old count is within = take_at copied (drop count old) count (ap length is ∙ length-take-le count rest within) ∙ is
 
@@ -290,18 +295,17 @@ pub record Filling (old : ArmourReader) (first : List ℕ) (now : ArmourReader) 
 pub filling_begins : (r : ArmourReader) (out : List ℕ) → Filling r out r out 0
 filling_begins r out = record { outlook = λ text. refl; pieces = refl; size = refl; room = omega arith; some = λ some. inr some }
 
-pub filling_more : (old now next new : ArmourReader) (first out part : List ℕ) (filled count : ℕ) → Filling old first now out filled → filled < length out → length part ≡ length out - filled
-    → ((text : List ℕ) → reader_outlook next text ≡ reader_outlook now text) → next.pieces ≡ now.pieces → 1 ≤ length (pending next)
-    → ((text : List ℕ) → reader_outlook next text ≡ with_front (take count part) (reader_outlook new text)) → new.pieces ≡ next.pieces → count ≤ length out - filled → 1 ≤ count
-    → Filling old first new (put_mid filled (length out - filled) out part) (filled + count)
-filling_more old now next new first out part filled count f within size same pieces has handed pieces_too few some =
-    let all : List ℕ = put_mid filled (length out - filled) out part in
-    let rest : List ℕ = drop (length out - filled) (drop filled out) in
-    let long : length all ≡ length out = omega (arith, length-append (take filled out) (part ++ rest), length-append part rest, length-take-le filled out f.room, size, f.room, length-drop (length out - filled) (drop filled out), length-drop filled out) in record {
+pub filling_more : (old now new : ArmourReader) (first out part : List ℕ) (filled count k : ℕ) → Filling old first now out filled → filled + k ≤ length out → length part ≡ k
+    → ((text : List ℕ) → reader_outlook now text ≡ with_front (take count part) (reader_outlook new text)) → new.pieces ≡ now.pieces → count ≤ k → 1 ≤ count
+    → Filling old first new (put_mid filled k out part) (filled + count)
+filling_more old now new first out part filled count k f within size handed pieces few some =
+    let all : List ℕ = put_mid filled k out part in
+    let rest : List ℕ = drop k (drop filled out) in
+    let long : length all ≡ length out = omega (arith, length-append (take filled out) (part ++ rest), length-append part rest, length-take-le filled out f.room, size, f.room, within, length-drop k (drop filled out), length-drop filled out) in record {
       outlook = λ text.
-          f.outlook text ∙ ap (with_front (take filled out)) (sym (same text) ∙ handed text) ∙ with_both (take filled out) (take count part) (reader_outlook new text)
-          ∙ ap (λ (x : List ℕ). with_front x (reader_outlook new text)) (sym (filled_more filled (length out - filled) count out part f.room (omega (arith, few, size))));
-      pieces = pieces_too ∙ pieces ∙ f.pieces;
+          f.outlook text ∙ ap (with_front (take filled out)) (handed text) ∙ with_both (take filled out) (take count part) (reader_outlook new text)
+          ∙ ap (λ (x : List ℕ). with_front x (reader_outlook new text)) (sym (filled_more filled k count out part f.room (omega (arith, few, size))));
+      pieces = pieces ∙ f.pieces;
       size = long ∙ f.size;
       room = omega (arith, long, few, within);
       some = λ _. inl (omega (arith, some));

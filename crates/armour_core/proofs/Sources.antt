@@ -37,7 +37,7 @@ reads_same before now r s t reads same pieces = record {
 }
 
 pub outlasts_same : (before now : SourceState) (r s t : ArmourReader) (k m : ℕ) → Outlasts before now r s k m → ((text : List ℕ) → (reader_outlook s text).end ≡ (reader_outlook t text).end) → t.pieces ≡ s.pieces → Outlasts before now r t k m
-outlasts_same before now r s t k m out same pieces = record { reads = reads_same before now r s t out.reads same pieces; later = out.later; kept = out.kept; failed = out.failed; stayed = out.stayed }
+outlasts_same before now r s t k m out same pieces = record { reads = reads_same before now r s t out.reads same pieces; later = out.later; kept = out.kept; failed = out.failed; stayed = out.stayed; same = out.same }
 
 pub outlasts_ok : (a b c : SourceState) (r s t : ArmourReader) (k m : ℕ) → Outlasts a b r s k m → ReadsOn b c s t → c.faults ≡ b.faults → Outlasts a c r t k m
 outlasts_ok a b c r s t k m out reads same = record {
@@ -46,6 +46,7 @@ outlasts_ok a b c r s t k m out reads same = record {
   kept = omega (arith, out.kept, same);
   failed = λ more. let rose = out.failed more in omega (arith, rose, same);
   stayed = λ still. out.stayed (omega (arith, still, same));
+  same = λ is few. same ∙ out.same is few;
 }
 
 pub outlasts_err : (a b c : SourceState) (r s t : ArmourReader) (k m n : ℕ) → Outlasts a b r s k m → ReadsOn b c s t → Rose b.faults c.faults → m ≤ 2 ^ 64 - 1 → n ≡ min (m + 1) (2 ^ 64 - 1) → Outlasts a c r t k n
@@ -55,6 +56,7 @@ outlasts_err a b c r s t k m n out reads rose few is = record {
   kept = omega (arith, out.kept, rose);
   failed = λ _. omega (arith, out.kept, rose);
   stayed = λ still. absurd (omega (arith, still, out.kept, rose));
+  same = λ kept fewer. absurd (omega (arith, kept, fewer, is, out.later));
 }
 
 -- ---- the turns of the loop

@@ -8,6 +8,8 @@ pub mod LineLaws
 pub mod Outlook
 pub mod ReaderLaws
 pub mod ReaderOutlook
+pub mod Sextets
 pub mod Stands
 pub mod Unarmoured
 pub mod Unarmouring
+pub mod Widths

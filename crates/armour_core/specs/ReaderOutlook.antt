@@ -1,5 +1,5 @@
 -- What is to come of a text that a reader takes from a source piece by piece.
-use Rattle.std.specs.Prelude.{◌≡◌, ℕ, ◌+◌, ◌-◌, ◌*◌, ◌<◌, ◌≤◌, nat_le, is_none, if◌then◌else◌, List, [], ◌++◌, length, take, drop, Option, Some, None}
+use Rattle.std.specs.Prelude.{◌≡◌, ℕ, ◌+◌, ◌-◌, ◌*◌, ◌^◌, ◌<◌, ◌≤◌, nat_le, is_none, if◌then◌else◌, List, [], ◌++◌, length, take, drop, Option, Some, None}
 use Rattle.std.specs.Option.{option_map}
 use Rattle.esdk_fields.specs.Counts.{Rose, RoseBy, Stayed}
 use Rattle.esdk_base.specs.Streams.{SourceState}
@@ -57,7 +57,7 @@ abbrev pub turns_left : ArmourReader → ℕ
 turns_left r = 2 * room_of r + (if is_none r.ending then 1 else 0)
 
 -- Since the first moment more of the same text was taken. A read of it failed where one of this
--- source failed, and only there.
+-- source failed, and only there; at 2^64 - 1 failures this source counts no more of them.
 pub record Outlasts (before now : SourceState) (old new : ArmourReader)
     (old_faults new_faults : ℕ) : Type 0 where
   pub reads : ReadsOn before now old new
@@ -65,3 +65,4 @@ pub record Outlasts (before now : SourceState) (old new : ArmourReader)
   pub kept : RoseBy 0 before.faults now.faults
   pub failed : old_faults < new_faults → Rose before.faults now.faults
   pub stayed : Stayed before.faults now.faults → new_faults ≡ old_faults
+  pub same : new_faults ≡ old_faults → new_faults < 2 ^ 64 - 1 → now.faults ≡ before.faults

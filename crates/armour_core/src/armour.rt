@@ -1,12 +1,12 @@
 //! Bytes that become armour text piece by piece.
 
-ghost use Rattle.std.specs.Prelude.{◌≡◌, ◌<◌, ◌≤◌, length};
+ghost use Rattle.std.specs.Prelude.{◌≡◌, ◌<◌, ◌≤◌, [], true, length};
 ghost use Rattle.armour_core.specs.Armouring.{ArmouringValue, line_ended, line_stepped, new_armouring, taken_of};
 
 use crate::base64_groups::line_text;
 
 /// How many bytes a full line has.
-const LINE: usize = 57;
+pub(crate) const LINE: usize = 57;
 
 /// Makes armour text of bytes as they come. It holds one line, and takes no memory.
 #[derive(Drop)]
@@ -22,6 +22,7 @@ pub struct Armour {
 }
 
 impl Armour {
+    ghost use Rattle.armour_core.specs.ArmouredOutput.{held_of};
     ghost use Rattle.armour_core.specs.Stands.{IsOpen, Stands};
 
     /// Nothing is taken yet.
@@ -43,6 +44,13 @@ impl Armour {
         ensures { (v : ArmouringValue) → Stands self.now v → result.now ≡ v.out }
     {
         &self.text[..self.given]
+    }
+
+    /// Whether no byte of a line is held.
+    pub(crate) fn holds_none(&self) -> bool
+        ensures { result ≡ true → held_of self.now ≡ [] }
+    {
+        self.held == 0
     }
 
     /// Takes bytes of the piece up to a full line, which has 57, and answers how many: all of them,

@@ -10,21 +10,26 @@
 //! leaves, and `specs/Stands.antt` which object is at which point of a session. `specs/Laws.antt`
 //! says what follows, however bytes and text are cut into pieces.
 //!
-//! What goes into an `ArmouredOutput` comes out of it as armour text, and an `UnarmouredSource` is a
-//! source of the bytes that the text of another one gives: so whoever puts and reads bytes puts and
-//! reads armour. `specs/ArmouredOutput.antt` says what a receiver gains then, and
-//! `specs/Outlook.antt` what is to come of a text, and how it ends.
+//! What goes into an `ArmouredOutput` comes out of it as armour text, and an `UnarmouredSource` is
+//! a source of the bytes that the text of another one gives: so whoever puts and reads bytes puts
+//! and reads armour. `specs/ArmouredOutput.antt` says what a receiver gains then, and
+//! `specs/Outlook.antt` what is to come of a text, and how it ends. Both work on full lines, in
+//! vectors (`lines`, `vectors`), and only on the rest byte by byte.
 #![tactic(auto)]
 
 mod armour;
 mod base64_groups;
 mod errors;
+mod filling;
 mod laws;
+mod lines;
 mod output;
 mod reader;
 mod source;
 mod text_end;
 mod unarmour;
+mod vectors;
+mod widths;
 
 pub use armour::Armour;
 pub use errors::ArmourError;

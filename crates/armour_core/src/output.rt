@@ -5,14 +5,16 @@ ghost use Rattle.armour_core.specs.ArmourText.{armour_text};
 ghost use Rattle.armour_core.specs.ArmouredOutput.{HandsOn, held_of};
 
 use crate::armour::Armour;
+use crate::filling::{TEXT, fill_lines};
 use esdk_base::Receiver;
 
-/// A receiver that hands the bytes that it takes on to another as armour text: each line by one
-/// call, once it is full. It holds the open line, which `finish` hands on.
+/// A receiver that hands the bytes that it takes on to another as armour text: the lines that they
+/// fill, up to 128 of them by one call. It holds the open line, which `finish` hands on.
 #[derive(Drop)]
 pub struct ArmouredOutput<'a, R> {
     output: &'a mut R,
     armour: Armour,
+    text: [u8; 9856],
     ghost goes: { armour.finished ≡ false },
 }
 
@@ -25,6 +27,7 @@ impl<'a, R: Receiver> ArmouredOutput<'a, R> {
         ArmouredOutput {
             output,
             armour: Armour::new(),
+            text: [0; TEXT],
         }
     }
 
@@ -61,8 +64,9 @@ impl<'a, R: Receiver> Receiver for ArmouredOutput<'a, R> {
     fn take(&mut self, bytes: &[u8]) -> Result<(), R::Error> {
         let mut used = 0;
         while used < bytes.len() {
-            used += self.armour.step(&bytes[used..]);
-            match hand_on(self.armour.out(), self.output) {
+            let lines = fill_lines(&mut self.armour, &bytes[used..], &mut self.text);
+            used += lines.used;
+            match hand_on(&self.text[..lines.filled], self.output) {
                 Ok(()) => {}
                 Err(error) => return Err(error),
             }

@@ -1,17 +1,25 @@
 //! Armour text that is taken from a source in pieces, and read into a buffer.
 
-ghost use Rattle.std.specs.Prelude.{◌≡◌, ◌≢◌, ◌<◌, ◌≤◌, ℕ, List, [], None, true, false, length, take, IfOk, OnErr, OnOk};
+ghost use Rattle.std.specs.Prelude.{◌≡◌, ◌≢◌, ◌+◌, ◌^◌, ◌<◌, ◌≤◌, ℕ, List, [], None, Some, true, false, length, take, OnErr, OnOk};
 ghost use Rattle.esdk_fields.specs.Counts.{Rose};
 ghost use Rattle.whole_input.specs.Pieces.{most_input};
 ghost use Rattle.armour_core.specs.Unarmouring.{IsBadGroup};
+ghost use Rattle.armour_core.specs.declared.text_end.TextEnd.TheVariants.{TooLong};
 
+use crate::armour::LINE;
+use crate::base64_groups::is_character;
 use crate::errors::ArmourError;
+use crate::lines::line_bytes;
 use crate::text_end::TextEnd;
 use crate::unarmour::Unarmour;
 use esdk_base::{Failed, Source};
 use esdk_fields::Fault;
-use std::alloc::{AllocError, Global};
 use whole_input::{End, Pieces};
+
+/// How many characters a full line has, and how many groups of four these are.
+const LINE_CHARACTERS: usize = 76;
+
+const LINE_GROUPS: u64 = 19;
 
 /// Reads armour text that it takes from a source in pieces, until a group is bad, the text ends or
 /// 2^62 bytes of it were taken.
@@ -26,26 +34,26 @@ pub(crate) struct ArmourReader {
     ghost few: { handed ≤ length (take unarmour.given unarmour.bytes) },
     ghost goes: { ending ≡ None → unarmour.stopped ≡ false },
     ghost most: { pieces.taken ≤ most_input },
+    ghost long: { ending ≡ Some TooLong → pieces.taken ≡ most_input },
 }
 
 impl ArmourReader {
     ghost use Rattle.armour_core.specs.Outlook.{open_of, read_out, text_outlook, with_front};
     ghost use Rattle.armour_core.specs.ReaderOutlook.{IsSpent, KeepsOutlook, ReadsOn, pending, reader_outlook};
 
-    /// Nothing is taken yet. Fails only where memory runs out.
-    pub(crate) fn new(alloc: Global) -> Result<ArmourReader, AllocError>
-        ensures outlook { IfOk result (λ r. (text : List ℕ)
-            → reader_outlook r text ≡ text_outlook text) }
-        ensures none { IfOk result (λ r. r.pieces.taken ≡ 0) }
+    /// Nothing is taken yet through these pieces.
+    pub(crate) fn new(pieces: Pieces) -> ArmourReader
+        requires unused { pieces ≡ record { taken = 0; piece = [] } }
+        ensures outlook { (text : List ℕ) → reader_outlook result text ≡ text_outlook text }
+        ensures none { result.pieces.taken ≡ 0 }
     {
-        let pieces = Pieces::new(alloc)?;
-        Ok(ArmourReader {
+        ArmourReader {
             pieces,
             at: 0,
             unarmour: Unarmour::new(),
             handed: 0,
             ending: None,
-        })
+        }
     }
 
     /// How the text ends, once that was seen.
@@ -71,7 +79,8 @@ impl ArmourReader {
         self.at < self.pieces.piece().len()
     }
 
-    /// Reads text of the last piece up to the end of a group.
+    /// Reads text of the last piece up to the end of a group, and passes over the line breaks
+    /// behind it, so that a line begins where it may be read at once.
     fn read_group(&mut self)
         requires handed { pending self.old ≡ [] }
         requires goes { self.old.ending ≡ None }
@@ -85,6 +94,7 @@ impl ArmourReader {
             Ok(used) => {
                 self.handed = 0;
                 self.at += used;
+                self.pass_breaks();
             }
             Err(error) => {
                 self.handed = 0;
@@ -126,6 +136,95 @@ impl ArmourReader {
         count
     }
 
+    /// Passes over line breaks of the last piece.
+    fn pass_breaks(&mut self)
+        ensures outlook { (text : List ℕ) → reader_outlook self.new text
+            ≡ reader_outlook self.old text }
+        ensures pieces { self.new.pieces ≡ self.old.pieces }
+        ensures later { self.old.at ≤ self.new.at }
+    {
+        while self.at < self.pieces.piece().len() {
+            if is_character(self.pieces.piece()[self.at]) {
+                return;
+            }
+            self.at += 1;
+        }
+    }
+
+    /// Whether a line may be read next: a group may begin here, and 76 bytes of the last piece are
+    /// left.
+    fn may_read_line(&self) -> bool
+        ensures read { result ≡ true → (pending self.now ≡ []) × (self.now.ending ≡ None) }
+        ensures line { result ≡ true → self.now.at + 76 ≤ length self.now.pieces.piece }
+        ensures fits { result ≡ true → self.now.at + 76 < 2 ^ 64 }
+        ensures between { result ≡ true → (self.now.unarmour.held ≡ 0)
+            × (self.now.unarmour.padded ≡ false) }
+    {
+        if !self.may_read() || !self.unarmour.is_between() {
+            return false;
+        }
+        self.pieces.piece().len() - self.at >= LINE_CHARACTERS
+    }
+
+    /// Hands the 57 bytes of the next 76 characters on, if all of them are symbols of base64, and
+    /// answers whether they are.
+    fn read_line(&mut self, out: &mut [u8]) -> bool
+        requires room { length out.old ≡ 57 }
+        ensures outlook { (text : List ℕ) → result ≡ true → reader_outlook self.old text
+            ≡ with_front out.new (reader_outlook self.new text) }
+        ensures pieces { self.new.pieces ≡ self.old.pieces }
+        ensures same { result ≡ false → self.new ≡ self.old }
+    {
+        if !self.may_read_line() {
+            return false;
+        }
+        let end = self.at + LINE_CHARACTERS;
+        if !line_bytes(&self.pieces.piece()[self.at..end], out) {
+            return false;
+        }
+        self.at = end;
+        self.unarmour.pass_groups(LINE_GROUPS);
+        self.pass_breaks();
+        true
+    }
+
+    /// Hands the bytes of whole lines on, as many as have room, and answers how many.
+    fn read_lines(&mut self, out: &mut [u8]) -> usize
+        ensures outlook { (text : List ℕ) → reader_outlook self.old text
+            ≡ with_front (take result out.new) (reader_outlook self.new text) }
+        ensures pieces { self.new.pieces ≡ self.old.pieces }
+        ensures room { result ≤ length out.old }
+        ensures none { result ≡ 0 → self.new ≡ self.old }
+    {
+        let mut filled = 0;
+        while out.len() - filled >= LINE {
+            if !self.read_line(&mut out[filled..filled + LINE]) {
+                return filled;
+            }
+            filled += LINE;
+        }
+        filled
+    }
+
+    /// Hands bytes of the last piece on: those of whole lines, or else those of the next group that
+    /// gives some. Answers how many: none only where none are left or have room.
+    fn fill_some(&mut self, out: &mut [u8]) -> usize
+        ensures outlook { (text : List ℕ) → reader_outlook self.old text
+            ≡ with_front (take result out.new) (reader_outlook self.new text) }
+        ensures pieces { self.new.pieces ≡ self.old.pieces }
+        ensures room { result ≤ length out.old }
+        ensures some { 1 ≤ length (pending self.old) → 1 ≤ length out.old → 1 ≤ result }
+    {
+        let lines = self.read_lines(out);
+        if lines > 0 {
+            return lines;
+        }
+        if !self.has_some() {
+            return 0;
+        }
+        self.hand_on(out)
+    }
+
     /// Hands bytes of the last piece on, as many as have room, and answers how many.
     pub(crate) fn fill(&mut self, out: &mut [u8]) -> usize
         ensures outlook { (text : List ℕ) → reader_outlook self.old text
@@ -136,10 +235,11 @@ impl ArmourReader {
     {
         let mut filled = 0;
         while filled < out.len() {
-            if !self.has_some() {
+            let count = self.fill_some(&mut out[filled..]);
+            if count == 0 {
                 return filled;
             }
-            filled += self.hand_on(&mut out[filled..]);
+            filled += count;
         }
         filled
     }

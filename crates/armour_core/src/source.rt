@@ -1,8 +1,10 @@
 //! A source of armour text as a source of the bytes that it gives.
 
-ghost use Rattle.std.specs.Prelude.{◌≡◌, ◌-◌, ◌^◌, ◌≤◌, List, ℕ, None, Some, IfOk, IfSome, OnOk, length};
+ghost use Rattle.std.specs.Prelude.{◌≡◌, ◌-◌, ◌^◌, ◌≤◌, List, [], ℕ, None, Some, IfOk, IfSome, OnOk, length};
 ghost use Rattle.std.specs.Option.{option_map};
 ghost use Rattle.armour_core.specs.declared.text_end.TextEnd.{TextEnd};
+ghost use Rattle.armour_core.specs.declared.text_end.TextEnd.TheVariants.{TooLong};
+ghost use Rattle.whole_input.specs.Pieces.{most_input};
 ghost use Rattle.esdk_fields.specs.Counts.{HasCause};
 ghost use Rattle.std.proofs.Common.{◌∙◌, refl};
 
@@ -10,6 +12,7 @@ use crate::reader::ArmourReader;
 use crate::text_end::TextEnd;
 use esdk_base::{Failed, Source};
 use std::alloc::{AllocError, Global};
+use whole_input::Pieces;
 
 /// A source of armour text as a source of the bytes that it gives. The text is borrowed meanwhile,
 /// and is taken in pieces of at most 65,536 bytes, at most 2^62 of it. The bytes end where a group
@@ -40,20 +43,43 @@ impl<'a, S: Source> UnarmouredSource<'a, S> {
         ensures none { IfOk result (λ s. s.reader.pieces.taken ≡ 0) }
         ensures faults { IfOk result (λ s. s.faults ≡ 0) }
     {
-        let reader = ArmourReader::new(alloc)?;
-        Ok(UnarmouredSource {
-            text,
-            reader,
-            given: 0,
-            faults: 0,
-        })
+        let pieces = Pieces::new(alloc)?;
+        Ok(UnarmouredSource::over(pieces, text))
     }
 
-    /// How the text ends, once that was seen.
+    /// The bytes that this text gives, which is taken through these pieces. None of them may have
+    /// been taken yet. Takes no memory, and reads nothing yet.
+    pub fn over(pieces: Pieces, text: &'a mut S) -> UnarmouredSource<'a, S>
+        requires unused { pieces ≡ record { taken = 0; piece = [] } }
+        ensures text { result.text ≡ text.entry }
+        ensures outlook { (bytes : List ℕ)
+            → reader_outlook result.reader bytes ≡ text_outlook bytes }
+        ensures none { result.reader.pieces.taken ≡ 0 }
+        ensures faults { result.faults ≡ 0 }
+    {
+        UnarmouredSource {
+            text,
+            reader: ArmourReader::new(pieces),
+            given: 0,
+            faults: 0,
+        }
+    }
+
+    /// Gives the text back as it was left, and drops the buffer. Who needs to know what is left of
+    /// the text ends with this call: a source that is dropped says nothing of it.
+    pub fn into_text(self) -> &'a mut S
+        ensures same { result.ghost_name ≡ self.entry.text.ghost_name }
+        ensures now { result.now ≡ self.entry.text.now }
+    {
+        self.text
+    }
+
+    /// How the text ends, once that was seen. Where it is `TooLong`, 2^62 bytes of it were taken.
     pub fn ending(&self) -> Option<TextEnd>
         ensures ending { result ≡ self.now.reader.ending }
         ensures told { (told : TextEnd) → told_end (S.state self.now.text.now) self.now.reader
             ≡ Some told → IfSome result (λ end. end ≡ told) }
+        ensures long { result ≡ Some TooLong → self.now.reader.pieces.taken ≡ most_input }
     {
         self.reader.ending()
     }

@@ -1,6 +1,6 @@
 //! Armour text that becomes bytes piece by piece.
 
-ghost use Rattle.std.specs.Prelude.{◌≡◌, ◌≤◌, ◌<◌, List, ℕ, IfOk, length, true, false};
+ghost use Rattle.std.specs.Prelude.{◌≡◌, ◌+◌, ◌-◌, ◌^◌, ◌≤◌, ◌<◌, List, ℕ, IfOk, length, min, true, false};
 ghost use Rattle.std.proofs.Props.{props};
 ghost use Rattle.armour_core.specs.GroupState.{IsGroupState};
 ghost use Rattle.armour_core.specs.Unarmouring.{UnarmouringValue, end_answer, group_answer, group_stepped, new_unarmouring, text_ended};
@@ -50,6 +50,26 @@ impl Unarmour {
         ensures { (v : UnarmouringValue) → Reads self.now v → result.now ≡ v.out }
     {
         &self.bytes[..self.given]
+    }
+
+    /// Whether a group may begin here: none is open, and none had padding.
+    pub(crate) fn is_between(&self) -> bool
+        ensures { result ≡ true → (self.now.held ≡ 0) × (self.now.padded ≡ false) }
+    {
+        self.held == 0 && !self.padded
+    }
+
+    /// Counts so many groups that were read elsewhere, none of them bad or padded.
+    pub(crate) fn pass_groups(&mut self, count: u64)
+        requires between { self.old.held ≡ 0 }
+        requires unpadded { self.old.padded ≡ false }
+        ensures number { self.new.number ≡ min (self.old.number + count) (2 ^ 64 - 1) }
+        ensures group { (self.new.group ≡ self.old.group) × (self.new.held ≡ self.old.held)
+            × (self.new.padded ≡ self.old.padded) }
+        ensures given { (self.new.bytes ≡ self.old.bytes) × (self.new.given ≡ self.old.given) }
+        ensures stopped { self.new.stopped ≡ self.old.stopped }
+    {
+        self.number = self.number.saturating_add(count);
     }
 
     /// Takes bytes of the piece up to the end of a group, and answers how many: all of them, where

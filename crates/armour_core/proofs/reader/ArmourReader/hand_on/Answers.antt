@@ -15,6 +15,7 @@ invariant_of-self c =
       few = omega (arith, out, rest, length-drop c.args.self.now.handed c.out.result.now, c.min-count.ensures, c.args.self.now.few);
       goes = c.args.self.now.goes;
       most = c.args.self.now.most;
+      long = c.args.self.now.long;
     }
 
 pub returns-clause-some : goal.returns-clause-some
