@@ -1,10 +1,10 @@
 -- An input that fits into a message is encrypted, unless memory runs out or a count of faults rises.
-use Rattle.std.proofs.Common.{◌≡◌, ◌∙◌, ◌≤◌, ◌*◌, ℕ, zero, suc, List, [], ◌∷◌, false, length, take, drop, Option, Some, None, refl, sym, ap, subst, arith, length-append, length-take, le-ltb}
+use Rattle.std.proofs.Common.{◌≡◌, ◌∙◌, ◌≤◌, ◌*◌, ℕ, zero, suc, List, [], ◌∷◌, false, length, take, drop, Option, Some, None, inl, inr, refl, sym, ap, subst, arith, length-append, length-take, le-ltb}
 use Rattle.std.specs.Prelude.{All, IfSome}
 use Rattle.std.specs.List.{flat_map}
 use Rattle.std.specs.Io.KnownBytes.{Consumes}
 use Rattle.std.proofs.lemmas.List.Elements.{All-head, All-tail}
-use Rattle.esdk_fields.specs.Counts.{Stayed}
+use Rattle.esdk_fields.specs.Counts.{Rose, Stayed}
 use Rattle.esdk_base.specs.Streams.{EntropyState, SinkState, SourceState}
 use Rattle.esdk_fields.specs.declared.refusals.Outside.TheVariants as outsides
 use Rattle.esdk_fields.specs.declared.refusals.Refusal.{Refusal}
@@ -27,7 +27,8 @@ use Rattle.whole_input.specs.Taken.{Came}
 use Rattle.esdk_encrypt.specs.declared.errors.EncryptError.{EncryptError}
 use Rattle.esdk_encrypt.specs.declared.errors.EncryptError.TheVariants as errors
 use Rattle.stream_seal.specs.Start.{start_refusal}
-use Rattle.esdk_encrypt.specs.Encrypt.{Asked, EncryptEnds, RefusesStart, drawn_id, drawn_rest}
+use Rattle.esdk_encrypt.specs.Encrypt.{Asked, EncryptEnds, RefusesStart, SinkFails, drawn_id, drawn_rest}
+use Rattle.esdk_encrypt.specs.Gaining.{Form, gained_as}
 use Rattle.esdk_encrypt.specs.Laws.{FitsMessage, IsWithin, NoObjectFails}
 use Rattle.esdk_encrypt.specs.Told.{NoneFor, Writer, asked_by, materials_of, wraps_of}
 
@@ -87,32 +88,41 @@ start_not_refused asked entropy spent refusal untouched granted refuses =
     (subst (λ (n : ℕ). IfSome asked.max_keys (λ most. n ≤ most)) (sym count) granted.allowed) in
     let refused : Some refusal ≡ None = sym refuses.cause ∙ begins in cc
 
+-- a count of faults rose, wherever a sink failed
+sink_rose : (form : Form) (m : EncMaterialsValue) (size : ℕ) (id : List ℕ) (input taken : SourceState) (output put : SinkState) → SinkFails m size id input taken (gained_as form output put)
+    → Rose output.faults put.faults
+sink_rose form m size id input taken output put fails = elim fails.at [
+  | inl header ↦ header.stopped.1
+  | inr (inl frame) ↦ frame.was.stopped.1
+  | inr (inr final) ↦ final.stopped.1
+]
+
 -- where the input fits and nothing fails, only want of memory ends an encryption
-pub only_memory_ends : (asked : Asked) (text : List ℕ) (input taken : SourceState) (output put : SinkState) (entropy spent : EntropyState) (untouched unasked : Type 0) (error : EncryptError)
+pub only_memory_ends : (form : Form) (asked : Asked) (text : List ℕ) (input taken : SourceState) (output put : SinkState) (entropy spent : EntropyState) (untouched unasked : Type 0) (error : EncryptError)
     → IsGranted asked → FitsMessage asked.size input text → NoObjectFails input taken output put entropy spent
-    → EncryptEnds asked input taken output put entropy spent untouched unasked error → error ≡ errors.Memory
-only_memory_ends asked text input taken output put entropy spent untouched unasked (errors.Outside outsides.EntropyFault) granted fits nothing ends =
+    → EncryptEnds asked input taken (gained_as form output put) entropy spent untouched unasked error → error ≡ errors.Memory
+only_memory_ends form asked text input taken output put entropy spent untouched unasked (errors.Outside outsides.EntropyFault) granted fits nothing ends =
     absurd (omega (arith, nothing.drawing, ends.rose))
-only_memory_ends asked text input taken output put entropy spent untouched unasked (errors.Outside outsides.KeyringFault) granted fits nothing ends =
+only_memory_ends form asked text input taken output put entropy spent untouched unasked (errors.Outside outsides.KeyringFault) granted fits nothing ends =
     absurd (let is : managers.KeyringFault ≡ managers.Memory = granted.none managers.KeyringFault ends.cause in cc)
-only_memory_ends asked text input taken output put entropy spent untouched unasked (errors.Outside outsides.SourceFault) granted fits nothing ends =
+only_memory_ends form asked text input taken output put entropy spent untouched unasked (errors.Outside outsides.SourceFault) granted fits nothing ends =
     absurd (omega (arith, nothing.source, ends.stops.rose))
-only_memory_ends asked text input taken output put entropy spent untouched unasked (errors.Outside outsides.SinkFault) granted fits nothing ends =
-    absurd (omega (arith, nothing.sink, ends.stops.rose))
-only_memory_ends asked text input taken output put entropy spent untouched unasked (errors.Outside outsides.InputTooLong) granted fits nothing ends =
+only_memory_ends form asked text input taken output put entropy spent untouched unasked (errors.Outside outsides.SinkFault) granted fits nothing ends =
+    absurd (omega (arith, nothing.sink, sink_rose form ends.materials asked.size (drawn_id ends.drawn) input taken output put ends.stops))
+only_memory_ends form asked text input taken output put entropy spent untouched unasked (errors.Outside outsides.InputTooLong) granted fits nothing ends =
     let stops = ends.stops in
     absurd (omega (arith, stops.most.count, few_came input taken stops.text text fits.told stops.came, fits.few))
-only_memory_ends asked text input taken output put entropy spent untouched unasked (errors.Outside outside) granted fits nothing ends = absurd ends.stops
-only_memory_ends asked text input taken output put entropy spent untouched unasked (errors.Refusal refusals.TooManyFrames) granted fits nothing ends =
+only_memory_ends form asked text input taken output put entropy spent untouched unasked (errors.Outside outside) granted fits nothing ends = absurd ends.stops
+only_memory_ends form asked text input taken output put entropy spent untouched unasked (errors.Refusal refusals.TooManyFrames) granted fits nothing ends =
     let stops = ends.stops in
     absurd (omega (arith, stops.many, few_came input taken stops.text text fits.told stops.came, fits.room))
-only_memory_ends asked text input taken output put entropy spent untouched unasked (errors.Refusal (refusals.TooManyDataKeys n)) granted fits nothing ends =
+only_memory_ends form asked text input taken output put entropy spent untouched unasked (errors.Refusal (refusals.TooManyDataKeys n)) granted fits nothing ends =
     absurd (start_not_refused asked entropy spent (refusals.TooManyDataKeys n) untouched granted ends)
-only_memory_ends asked text input taken output put entropy spent untouched unasked (errors.Refusal (refusals.HeaderTooLong n)) granted fits nothing ends =
+only_memory_ends form asked text input taken output put entropy spent untouched unasked (errors.Refusal (refusals.HeaderTooLong n)) granted fits nothing ends =
     absurd (start_not_refused asked entropy spent (refusals.HeaderTooLong n) untouched granted ends)
-only_memory_ends asked text input taken output put entropy spent untouched unasked (errors.Refusal refusal) granted fits nothing ends =
+only_memory_ends form asked text input taken output put entropy spent untouched unasked (errors.Refusal refusal) granted fits nothing ends =
     absurd (let is : managers.Refusal refusal ≡ managers.Memory = granted.none (managers.Refusal refusal) ends.cause in cc)
-only_memory_ends asked text input taken output put entropy spent untouched unasked errors.Memory granted fits nothing ends = refl
+only_memory_ends form asked text input taken output put entropy spent untouched unasked errors.Memory granted fits nothing ends = refl
 
 -- ---- keys that are told
 

@@ -5,6 +5,7 @@ use Rattle.esdk_base.specs.Streams.{EntropyState, OnTold, SinkState, SourceState
 use Rattle.esdk_fields.specs.declared.refusals.Refusal.{Refusal}
 use Rattle.stream_seal.specs.Start.{message_of}
 use Rattle.esdk_encrypt.specs.Encrypt.{Encrypts, drawn_id}
+use Rattle.esdk_encrypt.specs.Gaining.{Form, Whole, gained_as}
 use Rattle.esdk_encrypt.specs.Laws.{GainsMessage}
 use Rattle.esdk_encrypt.specs.Told.{Writer, asked_by, message_by}
 
@@ -24,10 +25,10 @@ appended_told : (now : Option (List ℕ)) (before bytes : List ℕ) → Appends 
 appended_told None before bytes appended = absurd appended
 appended_told (Some written) before bytes appended = ap Some appended
 
-pub gains_message : (writer : Writer) (refusal : Option Refusal) (old new : ℕ) (text before : List ℕ) (input taken : SourceState) (output put : SinkState) (entropy spent : EntropyState)
-    → input.left ≡ Some text → output.written ≡ Some before → Encrypts (asked_by writer refusal old new) input taken output put entropy spent
-    → GainsMessage writer text before entropy put
-gains_message writer refusal old new text before input taken output put entropy spent left written encrypts =
+pub gains_message : (form : Form) (writer : Writer) (refusal : Option Refusal) (old new : ℕ) (text before : List ℕ) (input taken : SourceState) (output put : SinkState) (entropy spent : EntropyState)
+    → input.left ≡ Some text → output.written ≡ Some before → Encrypts (asked_by writer refusal old new) input taken (gained_as form output put) entropy spent
+    → GainsMessage form writer text before entropy put
+gains_message form writer refusal old new text before input taken output put entropy spent left written encrypts =
     let drawn : List ℕ = encrypts.drawn in
     let writes = encrypts.writes in
     let drew = encrypts.started.drew in
@@ -35,11 +36,12 @@ gains_message writer refusal old new text before input taken output put entropy 
     consumed_all taken.left writes.text text (subst (λ bytes. Consumes bytes taken.left writes.text) left writes.came.consumed) writes.end.end in
     let message_is : message_of encrypts.materials writer.size (drawn_id drawn) writes.text ≡ message_by writer drawn text =
     λ i. message_of (encrypts.started.given.1 i) writer.size (drawn_id drawn) (all i) in
-    let gained : Appends (Some before) put.written (message_by writer drawn text) =
-    subst (λ b. Appends (Some before) put.written b) message_is (subst (λ first. Appends first put.written (message_of encrypts.materials writer.size (drawn_id drawn) writes.text)) written writes.gained) in
+    let gained : Appends (Some before) put.written (form Whole (message_by writer drawn text)) =
+    subst (λ b. Appends (Some before) put.written (form Whole b)) message_is
+    (subst (λ first. Appends first put.written (form Whole (message_of encrypts.materials writer.size (drawn_id drawn) writes.text))) written writes.gained) in
     record {
       drawn = drawn;
       count = drew.count;
       first = subst (λ (n : ℕ). OnTold entropy.to_come (λ coming. drawn ≡ take n coming)) drew.count (consumed_first entropy.to_come spent.to_come drawn drew.consumed);
-      gained = appended_told put.written before (message_by writer drawn text) gained;
+      gained = appended_told put.written before (form Whole (message_by writer drawn text)) gained;
     }

@@ -3,7 +3,9 @@ pub mod EarlyEnds
 pub mod Ending
 pub mod Fitting
 pub mod Gaining
+pub mod GainsMore
 pub mod Input
 pub mod Messages
 pub mod Sessions
+pub mod SinkGains
 pub mod Telling

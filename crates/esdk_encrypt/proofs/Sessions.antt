@@ -1,20 +1,15 @@
 -- The session of a message whose text comes piece by piece, and what is written of it.
-use Rattle.std.proofs.Common.{◌≡◌, ◌∙◌, ℕ, ◌≤◌, List, [], ◌++◌, length, take, Bool, true, false, nat_le, if◌then◌else◌, is_some, Option, Some, None, refl, sym, ap, subst, append-nil}
-use Rattle.std.specs.Io.KnownBytes.{Appends}
-use Rattle.std.proofs.KnownBytes.{Appends-trans}
-use Rattle.esdk_base.specs.Sink.{AppendsFront}
-use Rattle.esdk_base.specs.Streams.{SinkState}
+use Rattle.std.proofs.Common.{◌≡◌, ◌∙◌, ℕ, ◌≤◌, List, [], ◌++◌, length, take, Bool, true, false, nat_le, if◌then◌else◌, is_some, Some, None, refl, sym, ap, subst, append-nil}
 use Rattle.esdk_fields.specs.declared.refusals.Refusal.{Refusal}
 use Rattle.esdk_fields.specs.declared.refusals.Refusal.TheVariants as refusals
 use Rattle.body_format.specs.Written.{frame_count, regular_frames}
 use Rattle.keyring_trait.specs.Materials.{EncMaterialsValue}
 use Rattle.stream_seal.specs.Feeding.{IsFed, fed, fed_out, feed_refusal, frames_given, given_so_far}
 use Rattle.stream_seal.specs.Session.{SealingValue, new_session}
-use Rattle.stream_seal.specs.Start.{most_text, start_of}
-use Rattle.stream_seal.proofs.Feeding.{feeds}
-use Rattle.whole_input.specs.Written.{WritesBeyond}
-use Rattle.whole_input.proofs.Fronts.{beyond_after}
+use Rattle.stream_seal.specs.Start.{message_of, most_text, start_of}
+use Rattle.stream_seal.proofs.Feeding.{feeds, last_held}
 use Rattle.esdk_encrypt.specs.Encrypt.{written_so_far}
+use Rattle.esdk_encrypt.specs.Gaining.{FailsBeyond}
 use Rattle.esdk_encrypt.specs.Writing.{session_of}
 
 -- before the first frame the header is all
@@ -36,6 +31,11 @@ module _ (m : EncMaterialsValue) (size : ℕ) (id text : List ℕ) where
   unfolding given_so_far
   given_is = refl
 
+  -- the final frame follows what is written while the input goes on
+  pub more_follows : 1 ≤ size → (more : List ℕ) × (message_of m size id text ≡ written_so_far m size id text ++ more)
+  unfolding given_so_far
+  more_follows wide = (_, last_held (session_of m size id text) wide refl)
+
   module _ (piece : List ℕ) where
     -- what was given then is what is written of that text
     given_then : given_so_far (fed (session_of m size id text) piece) ≡ written_so_far m size id (take (most_text size) (text ++ piece))
@@ -49,20 +49,29 @@ module _ (m : EncMaterialsValue) (size : ℕ) (id text : List ℕ) where
         ap (λ (g : List ℕ). g ++ fed_out (session_of m size id text) piece) (sym given_is)
         ∙ sym (feeds (session_of m size id text) piece (is_fed wide short)).given ∙ given_then
 
-    -- the frames of a piece were put behind what was written before
-    pub gains_more : (a b c : Option (List ℕ)) → 1 ≤ size → length text ≤ most_text size → Appends a b (written_so_far m size id text) → Appends b c (fed_out (session_of m size id text) piece)
-        → Appends a c (written_so_far m size id (take (most_text size) (text ++ piece)))
-    gains_more a b c wide short before more =
-        subst (λ (g : List ℕ). Appends a c g) (written_then wide short)
-        (Appends-trans a b c (written_so_far m size id text) (fed_out (session_of m size id text) piece) before more)
+    -- the frames of a piece were taken behind what was written before
+    pub gains_more : {R : Type 0} (takes : R → R → List ℕ → Type 0) → ((r s t : R) (xs ys : List ℕ) → takes r s xs → takes s t ys → takes r t (xs ++ ys))
+        → (old mid new : R) → 1 ≤ size → length text ≤ most_text size → takes old mid (written_so_far m size id text) → takes mid new (fed_out (session_of m size id text) piece)
+        → takes old new (written_so_far m size id (take (most_text size) (text ++ piece)))
+    gains_more takes takes_more old mid new wide short before more =
+        subst (λ (g : List ℕ). takes old new g) (written_then wide short)
+        (takes_more old mid new (written_so_far m size id text) (fed_out (session_of m size id text) piece) before more)
 
-    -- or not all of them, of which there are some
-    pub frames_beyond : (output mid put : SinkState) → 1 ≤ size → length text ≤ most_text size → 1 ≤ length (fed_out (session_of m size id text) piece)
-        → Appends output.written mid.written (written_so_far m size id text) → AppendsFront mid.written put.written (fed_out (session_of m size id text) piece)
-        → WritesBeyond output put (written_so_far m size id text) (written_so_far m size id (take (most_text size) (text ++ piece)))
-    frames_beyond output mid put wide short some before more =
-        subst (λ (g : List ℕ). WritesBeyond output put (written_so_far m size id text) g) (written_then wide short)
-        (beyond_after output mid put (written_so_far m size id text) (fed_out (session_of m size id text) piece) some before more)
+    -- or the receiver failed at some of them
+    pub frames_beyond : {R E : Type 0} (takes : R → R → List ℕ → Type 0) (fails : R → R → List ℕ → E → Type 0) (old mid new : R) (given rest : List ℕ) (error : E)
+        → 1 ≤ size → length text ≤ most_text size → 1 ≤ length given → fed_out (session_of m size id text) piece ≡ given ++ rest
+        → takes old mid (written_so_far m size id text) → fails mid new given error
+        → FailsBeyond takes fails old new (written_so_far m size id text) (written_so_far m size id (take (most_text size) (text ++ piece)))
+    frames_beyond takes fails old mid new given rest error wide short some out before failed = record {
+      between = mid;
+      given = given;
+      rest = rest;
+      error = error;
+      some = some;
+      is = sym (written_then wide short) ∙ ap (λ (g : List ℕ). written_so_far m size id text ++ g) out;
+      taken = before;
+      failed = failed;
+    }
 
     -- where no step failed, a message has room for the piece, and the session took it
     pub room_then : 1 ≤ size → length text ≤ most_text size → feed_refusal (session_of m size id text) piece ≡ None → take (most_text size) (text ++ piece) ≡ text ++ piece

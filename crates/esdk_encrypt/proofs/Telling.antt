@@ -1,7 +1,7 @@
 -- A run over an exact and plain manager that tells its keys: what is so over any manager, and what these keys make of it.
 use Rattle.std.proofs.Common.{◌≡◌, ◌∙◌, ℕ, true, List, length, take, drop, Option, Result, OnOk, IfErr, refl, sym, subst}
 use Rattle.std.proofs.lemmas.Result.{on_ok_weaker, IfErr-weaker}
-use Rattle.esdk_base.specs.Streams.{EntropyState, SinkState, SourceState}
+use Rattle.esdk_base.specs.Streams.{EntropyState, SourceState}
 use Rattle.esdk_fields.specs.declared.refusals.Outside.TheVariants as outsides
 use Rattle.esdk_fields.specs.declared.refusals.Refusal.{Refusal}
 use Rattle.esdk_fields.specs.declared.refusals.Refusal.TheVariants as refusals
@@ -18,6 +18,7 @@ use Rattle.keyring_trait.specs.Wrapping.{WrapKeyValue, active, ivs_of, made}
 use Rattle.esdk_encrypt.specs.declared.errors.EncryptError.{EncryptError}
 use Rattle.esdk_encrypt.specs.declared.errors.EncryptError.TheVariants as errors
 use Rattle.esdk_encrypt.specs.Encrypt.{Asked, Begins, Drew, Encrypts, EndsAfter, EncryptEnds, GivesNothing, HasNoMemory, RefusesStart, StopsSo, Writes, encryption_of, drawn_id, drawn_rest}
+use Rattle.esdk_encrypt.specs.Gaining.{Gaining}
 use Rattle.esdk_encrypt.specs.Told.{asked_told, materials_of, writer_of}
 
 -- ---- runs about the same, of which one says more
@@ -41,23 +42,23 @@ begins_more a b entropy spent drawn m more started = record {
 }
 
 -- the whole input was encrypted
-pub encrypts_more : (a b : Asked) (input taken : SourceState) (output put : SinkState) (entropy spent : EntropyState) → SaysMore a b
-    → Encrypts a input taken output put entropy spent → Encrypts b input taken output put entropy spent
-encrypts_more a b input taken output put entropy spent more encrypts = record {
+pub encrypts_more : (a b : Asked) (input taken : SourceState) (gains : Gaining) (entropy spent : EntropyState) → SaysMore a b
+    → Encrypts a input taken gains entropy spent → Encrypts b input taken gains entropy spent
+encrypts_more a b input taken gains entropy spent more encrypts = record {
   drawn = encrypts.drawn;
   materials = encrypts.materials;
   started = begins_more a b entropy spent encrypts.drawn encrypts.materials more encrypts.started;
-  writes = subst (λ (n : ℕ). Writes encrypts.materials n (drawn_id encrypts.drawn) input taken output put) more.size encrypts.writes;
+  writes = subst (λ (n : ℕ). Writes encrypts.materials n (drawn_id encrypts.drawn) input taken gains) more.size encrypts.writes;
 }
 
 -- it was not, or not whole
-after_more : (a b : Asked) (input taken : SourceState) (output put : SinkState) (entropy spent : EntropyState) (error : EncryptError) → SaysMore a b
-    → EndsAfter a input taken output put entropy spent error → EndsAfter b input taken output put entropy spent error
-after_more a b input taken output put entropy spent error more ends = record {
+after_more : (a b : Asked) (input taken : SourceState) (gains : Gaining) (entropy spent : EntropyState) (error : EncryptError) → SaysMore a b
+    → EndsAfter a input taken gains entropy spent error → EndsAfter b input taken gains entropy spent error
+after_more a b input taken gains entropy spent error more ends = record {
   drawn = ends.drawn;
   materials = ends.materials;
   started = begins_more a b entropy spent ends.drawn ends.materials more ends.started;
-  stops = subst (λ (n : ℕ). StopsSo ends.materials n (drawn_id ends.drawn) input taken output put error) more.size ends.stops;
+  stops = subst (λ (n : ℕ). StopsSo ends.materials n (drawn_id ends.drawn) input taken gains error) more.size ends.stops;
 }
 
 nothing_more : (a b : Asked) (entropy spent : EntropyState) (error : ManagerError) (untouched : Type 0) → SaysMore a b
@@ -85,21 +86,21 @@ memory_more : (a b : Asked) (entropy spent : EntropyState) (untouched : Type 0) 
 memory_more a b entropy spent untouched more ends =
     record { drawn = ends.drawn; drew = drew_more a b entropy spent ends.drawn more ends.drew; same = ends.same }
 
-pub ends_more : (a b : Asked) (input taken : SourceState) (output put : SinkState) (entropy spent : EntropyState) (untouched unasked : Type 0) (error : EncryptError) → SaysMore a b
-    → EncryptEnds a input taken output put entropy spent untouched unasked error → EncryptEnds b input taken output put entropy spent untouched unasked error
-ends_more a b input taken output put entropy spent untouched unasked (errors.Outside outsides.EntropyFault) more ends = ends
-ends_more a b input taken output put entropy spent untouched unasked (errors.Outside outsides.KeyringFault) more ends =
+pub ends_more : (a b : Asked) (input taken : SourceState) (gains : Gaining) (entropy spent : EntropyState) (untouched unasked : Type 0) (error : EncryptError) → SaysMore a b
+    → EncryptEnds a input taken gains entropy spent untouched unasked error → EncryptEnds b input taken gains entropy spent untouched unasked error
+ends_more a b input taken gains entropy spent untouched unasked (errors.Outside outsides.EntropyFault) more ends = ends
+ends_more a b input taken gains entropy spent untouched unasked (errors.Outside outsides.KeyringFault) more ends =
     nothing_more a b entropy spent managers.KeyringFault untouched more ends
-ends_more a b input taken output put entropy spent untouched unasked (errors.Outside outside) more ends =
-    after_more a b input taken output put entropy spent (errors.Outside outside) more ends
-ends_more a b input taken output put entropy spent untouched unasked (errors.Refusal refusals.TooManyFrames) more ends =
-    after_more a b input taken output put entropy spent (errors.Refusal refusals.TooManyFrames) more ends
-ends_more a b input taken output put entropy spent untouched unasked (errors.Refusal (refusals.TooManyDataKeys n)) more ends =
+ends_more a b input taken gains entropy spent untouched unasked (errors.Outside outside) more ends =
+    after_more a b input taken gains entropy spent (errors.Outside outside) more ends
+ends_more a b input taken gains entropy spent untouched unasked (errors.Refusal refusals.TooManyFrames) more ends =
+    after_more a b input taken gains entropy spent (errors.Refusal refusals.TooManyFrames) more ends
+ends_more a b input taken gains entropy spent untouched unasked (errors.Refusal (refusals.TooManyDataKeys n)) more ends =
     start_more a b entropy spent (refusals.TooManyDataKeys n) untouched more ends
-ends_more a b input taken output put entropy spent untouched unasked (errors.Refusal (refusals.HeaderTooLong n)) more ends =
+ends_more a b input taken gains entropy spent untouched unasked (errors.Refusal (refusals.HeaderTooLong n)) more ends =
     start_more a b entropy spent (refusals.HeaderTooLong n) untouched more ends
-ends_more a b input taken output put entropy spent untouched unasked (errors.Refusal refusal) more ends = nothing_more a b entropy spent (managers.Refusal refusal) untouched more ends
-ends_more a b input taken output put entropy spent untouched unasked errors.Memory more ends = memory_more a b entropy spent untouched more ends
+ends_more a b input taken gains entropy spent untouched unasked (errors.Refusal refusal) more ends = nothing_more a b entropy spent (managers.Refusal refusal) untouched more ends
+ends_more a b input taken gains entropy spent untouched unasked errors.Memory more ends = memory_more a b entropy spent untouched more ends
 
 -- ---- keys that are told
 
@@ -154,24 +155,24 @@ pub is_told : (keys : List WrapKeyValue) (n : ManagerNow) → CountsWraps n → 
 is_told keys n counts told is_exact plain =
     record { told = told; is_exact = is_exact; plain = plain; fresh = counts.plain plain; count = counts.told keys told }
 
-module _ (old new : ManagerNow) (request : EncRequestValue) (now size : ℕ) (max_keys : Option ℕ) (input taken : SourceState) (output put : SinkState) (entropy spent : EntropyState) where
+module _ (old new : ManagerNow) (request : EncRequestValue) (now size : ℕ) (max_keys : Option ℕ) (input taken : SourceState) (gains : Gaining) (entropy spent : EntropyState) where
   pub writes_told : (r : Result (Unit {0}) EncryptError) → CountsWraps old
-      → OnOk r (Encrypts (asked_between old new request now size max_keys) input taken output put entropy spent)
+      → OnOk r (Encrypts (asked_between old new request now size max_keys) input taken gains entropy spent)
       → (keys : List WrapKeyValue) → old.tells keys → old.exact → old.meaning.plain ≡ true
-      → OnOk r (Encrypts (asked_told keys old.meaning new.meaning request size max_keys) input taken output put entropy spent)
+      → OnOk r (Encrypts (asked_told keys old.meaning new.meaning request size max_keys) input taken gains entropy spent)
   writes_told r counts done keys told is_exact plain =
       let a : Asked = asked_between old new request now size max_keys in
       let b : Asked = asked_told keys old.meaning new.meaning request size max_keys in
       let more : SaysMore a b = told_more keys old new request now size max_keys (is_told keys old counts told is_exact plain) in
-      on_ok_weaker r (encrypts_more a b input taken output put entropy spent more) done
+      on_ok_weaker r (encrypts_more a b input taken gains entropy spent more) done
 
   pub stops_told : (untouched unasked : Type 0) (r : Result (Unit {0}) EncryptError) → CountsWraps old
-      → IfErr r (EncryptEnds (asked_between old new request now size max_keys) input taken output put entropy spent untouched unasked)
+      → IfErr r (EncryptEnds (asked_between old new request now size max_keys) input taken gains entropy spent untouched unasked)
       → (keys : List WrapKeyValue) → old.tells keys → old.exact → old.meaning.plain ≡ true
-      → IfErr r (EncryptEnds (asked_told keys old.meaning new.meaning request size max_keys) input taken output put entropy spent untouched unasked)
+      → IfErr r (EncryptEnds (asked_told keys old.meaning new.meaning request size max_keys) input taken gains entropy spent untouched unasked)
   stops_told untouched unasked r counts ends keys told is_exact plain =
       let a : Asked = asked_between old new request now size max_keys in
       let b : Asked = asked_told keys old.meaning new.meaning request size max_keys in
       let more : SaysMore a b = told_more keys old new request now size max_keys (is_told keys old counts told is_exact plain) in
-      IfErr-weaker r (EncryptEnds a input taken output put entropy spent untouched unasked) (EncryptEnds b input taken output put entropy spent untouched unasked)
-      (λ error why. ends_more a b input taken output put entropy spent untouched unasked error more why) ends
+      IfErr-weaker r (EncryptEnds a input taken gains entropy spent untouched unasked) (EncryptEnds b input taken gains entropy spent untouched unasked)
+      (λ error why. ends_more a b input taken gains entropy spent untouched unasked error more why) ends

@@ -1,9 +1,8 @@
 -- What encrypting an input comes to. Standard: AWS Encryption SDK Specification, "Encrypt".
 use Rattle.std.specs.Prelude.{◌≡◌, ℕ, ◌+◌, ◌*◌, ◌-◌, ◌<◌, ◌≤◌, List, [], ◌++◌, length, take, drop, All, ⊤, ◌⊎◌, Option, Some, None}
-use Rattle.std.specs.Io.KnownBytes.{Appends, Consumes, Keeps}
+use Rattle.std.specs.Io.KnownBytes.{Consumes, Keeps}
 use Rattle.esdk_fields.specs.Counts.{Rose}
-use Rattle.esdk_base.specs.Sink.{AppendsFront}
-use Rattle.esdk_base.specs.Streams.{EntropyState, SinkState, SourceState}
+use Rattle.esdk_base.specs.Streams.{EntropyState, SourceState}
 use Rattle.esdk_fields.specs.declared.refusals.Outside.TheVariants as outsides
 use Rattle.esdk_fields.specs.declared.refusals.Refusal.{Refusal}
 use Rattle.esdk_fields.specs.declared.refusals.Refusal.TheVariants as refusals
@@ -19,9 +18,9 @@ use Rattle.stream_seal.specs.Feeding.{frames_given}
 use Rattle.stream_seal.specs.Start.{message_of, most_frames, most_text, start_of, start_refusal}
 use Rattle.whole_input.specs.Pieces.{APieceBehind}
 use Rattle.whole_input.specs.Taken.{Came, EndSeen, MostTaken}
-use Rattle.whole_input.specs.Written.{WritesBeyond}
 use Rattle.esdk_encrypt.specs.declared.errors.EncryptError.{EncryptError}
 use Rattle.esdk_encrypt.specs.declared.errors.EncryptError.TheVariants as errors
+use Rattle.esdk_encrypt.specs.Gaining.{Front, Gaining, Whole}
 
 -- how many bytes are drawn: 32 of message id, 32 of data key, and 12 of IV for each wrap of the data key
 abbrev pub draws : ℕ → ℕ
@@ -52,67 +51,66 @@ abbrev pub written_so_far : EncMaterialsValue → ℕ → List ℕ → List ℕ 
 written_so_far m size id text = header_and_frames m size id text (frames_given (length text) size)
 
 -- The whole input was taken, and the output gained the message of it.
-pub record Writes (m : EncMaterialsValue) (size : ℕ) (id : List ℕ) (input taken : SourceState) (output put : SinkState) : Type 0 where
+pub record Writes (m : EncMaterialsValue) (size : ℕ) (id : List ℕ) (input taken : SourceState) (gains : Gaining) : Type 0 where
   pub text : List ℕ
   pub came : Came input taken text
   pub end : EndSeen input taken text
   pub short : length text ≤ most_text size
-  pub gained : Appends output.written put.written (message_of m size id text)
+  pub gained : gains.took Whole (message_of m size id text)
 
 -- A read failed. The bytes taken before have room in a message, and the output gained what is written of them while the input goes on.
-pub record SourceFails (m : EncMaterialsValue) (size : ℕ) (id : List ℕ) (input taken : SourceState) (output put : SinkState) : Type 0 where
+pub record SourceFails (m : EncMaterialsValue) (size : ℕ) (id : List ℕ) (input taken : SourceState) (gains : Gaining) : Type 0 where
   pub text : List ℕ
   pub came : Came input taken text
   pub rose : Rose input.faults taken.faults
   pub short : length text ≤ most_text size
-  pub gained : Appends output.written put.written (written_so_far m size id text)
+  pub gained : gains.took Front (written_so_far m size id text)
 
 -- 2^62 bytes were taken, and have room in a message. The output gained what is written of them while the input goes on.
-pub record IsTooLong (m : EncMaterialsValue) (size : ℕ) (id : List ℕ) (input taken : SourceState) (output put : SinkState) : Type 0 where
+pub record IsTooLong (m : EncMaterialsValue) (size : ℕ) (id : List ℕ) (input taken : SourceState) (gains : Gaining) : Type 0 where
   pub text : List ℕ
   pub came : Came input taken text
   pub most : MostTaken input taken text
   pub short : length text ≤ most_text size
-  pub gained : Appends output.written put.written (written_so_far m size id text)
+  pub gained : gains.took Front (written_so_far m size id text)
 
 -- The last piece has a byte beyond those that have room in a message. The output gained all regular frames of the message of those that have, and no final frame.
-pub record HasTooMany (m : EncMaterialsValue) (size : ℕ) (id : List ℕ) (input taken : SourceState) (output put : SinkState) : Type 0 where
+pub record HasTooMany (m : EncMaterialsValue) (size : ℕ) (id : List ℕ) (input taken : SourceState) (gains : Gaining) : Type 0 where
   pub text : List ℕ
   pub came : Came input taken text
   pub many : most_text size < length text
   pub last : APieceBehind (λ before. length before ≤ most_text size) text
-  pub gained : Appends output.written put.written (header_and_frames m size id (take (most_text size) text) (most_frames - 1))
+  pub gained : gains.took Front (header_and_frames m size id (take (most_text size) text) (most_frames - 1))
 
--- The write of the header failed: nothing was taken, and a front of the header was written.
-pub record HeaderFails (m : EncMaterialsValue) (size : ℕ) (id : List ℕ) (output put : SinkState) (text : List ℕ) : Type 0 where
+-- The output failed at the header: nothing was taken.
+pub record HeaderFails (m : EncMaterialsValue) (size : ℕ) (id : List ℕ) (gains : Gaining) (text : List ℕ) : Type 0 where
   pub none : text ≡ []
-  pub front : AppendsFront output.written put.written (start_of m size id)
+  pub stopped : gains.stopped Front [] (start_of m size id)
 
--- Bytes that come first have room in a message, and what is written of them while the input goes on was; but only a front of what is written of all that have room.
-pub record WritesFrames (m : EncMaterialsValue) (size : ℕ) (id : List ℕ) (output put : SinkState) (text first : List ℕ) : Type 0 where
+-- Bytes that come first have room in a message, and what is written of them while the input goes on was; but not all that is written of all that have room.
+pub record WritesFrames (m : EncMaterialsValue) (size : ℕ) (id : List ℕ) (gains : Gaining) (text first : List ℕ) : Type 0 where
   pub short : length first ≤ most_text size
-  pub written : WritesBeyond output put (written_so_far m size id first) (written_so_far m size id (take (most_text size) text))
+  pub stopped : gains.stopped Front (written_so_far m size id first) (written_so_far m size id (take (most_text size) text))
 
--- The write of the final frame failed: the input's end was seen, what comes before that frame was written, and a front of it.
-pub record FinalFails (m : EncMaterialsValue) (size : ℕ) (id : List ℕ) (input taken : SourceState) (output put : SinkState) (text : List ℕ) : Type 0 where
+-- The output failed at the final frame: the input's end was seen, and what comes before that frame was written.
+pub record FinalFails (m : EncMaterialsValue) (size : ℕ) (id : List ℕ) (input taken : SourceState) (gains : Gaining) (text : List ℕ) : Type 0 where
   pub end : EndSeen input taken text
   pub short : length text ≤ most_text size
-  pub written : WritesBeyond output put (written_so_far m size id text) (message_of m size id text)
+  pub stopped : gains.stopped Whole (written_so_far m size id text) (message_of m size id text)
 
--- A write failed: the header's, or that of a frame of the last piece, or the final frame's.
-pub record SinkFails (m : EncMaterialsValue) (size : ℕ) (id : List ℕ) (input taken : SourceState) (output put : SinkState) : Type 0 where
+-- The output failed: at the header, or at a frame of the last piece, or at the final frame.
+pub record SinkFails (m : EncMaterialsValue) (size : ℕ) (id : List ℕ) (input taken : SourceState) (gains : Gaining) : Type 0 where
   pub text : List ℕ
   pub came : Came input taken text
-  pub rose : Rose output.faults put.faults
-  pub at : HeaderFails m size id output put text ⊎ (APieceBehind (WritesFrames m size id output put text) text ⊎ FinalFails m size id input taken output put text)
+  pub at : HeaderFails m size id gains text ⊎ (APieceBehind (WritesFrames m size id gains text) text ⊎ FinalFails m size id input taken gains text)
 
 -- why no more was taken or written, and what was
-abbrev pub StopsSo : EncMaterialsValue → ℕ → List ℕ → SourceState → SourceState → SinkState → SinkState → EncryptError → Type 0
-StopsSo m size id input taken output put (errors.Outside outsides.SourceFault) = SourceFails m size id input taken output put
-StopsSo m size id input taken output put (errors.Outside outsides.SinkFault) = SinkFails m size id input taken output put
-StopsSo m size id input taken output put (errors.Outside outsides.InputTooLong) = IsTooLong m size id input taken output put
-StopsSo m size id input taken output put (errors.Refusal refusals.TooManyFrames) = HasTooMany m size id input taken output put
-StopsSo m size id input taken output put error = ⊥
+abbrev pub StopsSo : EncMaterialsValue → ℕ → List ℕ → SourceState → SourceState → Gaining → EncryptError → Type 0
+StopsSo m size id input taken gains (errors.Outside outsides.SourceFault) = SourceFails m size id input taken gains
+StopsSo m size id input taken gains (errors.Outside outsides.SinkFault) = SinkFails m size id input taken gains
+StopsSo m size id input taken gains (errors.Outside outsides.InputTooLong) = IsTooLong m size id input taken gains
+StopsSo m size id input taken gains (errors.Refusal refusals.TooManyFrames) = HasTooMany m size id input taken gains
+StopsSo m size id input taken gains error = ⊥
 
 -- ---- the whole run
 
@@ -141,18 +139,18 @@ pub record Begins (asked : Asked) (entropy spent : EntropyState) (drawn : List �
   pub begins : start_refusal materials asked.max_keys (drawn_id drawn) ≡ None
 
 -- Then the whole input was taken, and the output gained the message of it.
-pub record Encrypts (asked : Asked) (input taken : SourceState) (output put : SinkState) (entropy spent : EntropyState) : Type 0 where
+pub record Encrypts (asked : Asked) (input taken : SourceState) (gains : Gaining) (entropy spent : EntropyState) : Type 0 where
   pub drawn : List ℕ
   pub materials : EncMaterialsValue
   pub started : Begins asked entropy spent drawn materials
-  pub writes : Writes materials asked.size (drawn_id drawn) input taken output put
+  pub writes : Writes materials asked.size (drawn_id drawn) input taken gains
 
 -- Then the message of the input wasn't written, or not whole.
-pub record EndsAfter (asked : Asked) (input taken : SourceState) (output put : SinkState) (entropy spent : EntropyState) (error : EncryptError) : Type 0 where
+pub record EndsAfter (asked : Asked) (input taken : SourceState) (gains : Gaining) (entropy spent : EntropyState) (error : EncryptError) : Type 0 where
   pub drawn : List ℕ
   pub materials : EncMaterialsValue
   pub started : Begins asked entropy spent drawn materials
-  pub stops : StopsSo materials asked.size (drawn_id drawn) input taken output put error
+  pub stops : StopsSo materials asked.size (drawn_id drawn) input taken gains error
 
 -- A fill failed: nothing was drawn, taken or written, and the manager wasn't asked.
 pub record EntropyFails (entropy spent : EntropyState) (untouched unasked : Type 0) : Type 0 where
@@ -186,18 +184,18 @@ pub record HasNoMemory (asked : Asked) (entropy spent : EntropyState) (untouched
 
 -- Why an input wasn't encrypted, and what that left. `untouched` says that the input and the output are as before, `unasked` that the manager is. Want of memory is free before
 -- anything is taken or written, and can't come later.
-abbrev pub EncryptEnds : Asked → SourceState → SourceState → SinkState → SinkState → EntropyState → EntropyState → Type 0 → Type 0 → EncryptError → Type 0
-EncryptEnds asked input taken output put entropy spent untouched unasked (errors.Outside outsides.EntropyFault) = EntropyFails entropy spent untouched unasked
-EncryptEnds asked input taken output put entropy spent untouched unasked (errors.Outside outsides.KeyringFault) = GivesNothing asked entropy spent managers.KeyringFault untouched
-EncryptEnds asked input taken output put entropy spent untouched unasked (errors.Outside outside) = EndsAfter asked input taken output put entropy spent (errors.Outside outside)
-EncryptEnds asked input taken output put entropy spent untouched unasked (errors.Refusal refusals.TooManyFrames) =
-    EndsAfter asked input taken output put entropy spent (errors.Refusal refusals.TooManyFrames)
-EncryptEnds asked input taken output put entropy spent untouched unasked (errors.Refusal (refusals.TooManyDataKeys n)) =
+abbrev pub EncryptEnds : Asked → SourceState → SourceState → Gaining → EntropyState → EntropyState → Type 0 → Type 0 → EncryptError → Type 0
+EncryptEnds asked input taken gains entropy spent untouched unasked (errors.Outside outsides.EntropyFault) = EntropyFails entropy spent untouched unasked
+EncryptEnds asked input taken gains entropy spent untouched unasked (errors.Outside outsides.KeyringFault) = GivesNothing asked entropy spent managers.KeyringFault untouched
+EncryptEnds asked input taken gains entropy spent untouched unasked (errors.Outside outside) = EndsAfter asked input taken gains entropy spent (errors.Outside outside)
+EncryptEnds asked input taken gains entropy spent untouched unasked (errors.Refusal refusals.TooManyFrames) =
+    EndsAfter asked input taken gains entropy spent (errors.Refusal refusals.TooManyFrames)
+EncryptEnds asked input taken gains entropy spent untouched unasked (errors.Refusal (refusals.TooManyDataKeys n)) =
     RefusesStart asked entropy spent (refusals.TooManyDataKeys n) untouched
-EncryptEnds asked input taken output put entropy spent untouched unasked (errors.Refusal (refusals.HeaderTooLong n)) =
+EncryptEnds asked input taken gains entropy spent untouched unasked (errors.Refusal (refusals.HeaderTooLong n)) =
     RefusesStart asked entropy spent (refusals.HeaderTooLong n) untouched
-EncryptEnds asked input taken output put entropy spent untouched unasked (errors.Refusal refusal) = GivesNothing asked entropy spent (managers.Refusal refusal) untouched
-EncryptEnds asked input taken output put entropy spent untouched unasked errors.Memory = HasNoMemory asked entropy spent untouched
+EncryptEnds asked input taken gains entropy spent untouched unasked (errors.Refusal refusal) = GivesNothing asked entropy spent (managers.Refusal refusal) untouched
+EncryptEnds asked input taken gains entropy spent untouched unasked errors.Memory = HasNoMemory asked entropy spent untouched
 
 -- a manager's error that is no fault of a header
 abbrev pub IsNoFault : ManagerError → Type 0

@@ -12,22 +12,24 @@ use Rattle.whole_input.specs.Taken.{Came}
 use Rattle.esdk_encrypt.specs.declared.errors.EncryptError.{EncryptError}
 use Rattle.esdk_encrypt.specs.declared.errors.EncryptError.TheVariants.{Memory}
 use Rattle.esdk_encrypt.specs.Encrypt.{Encrypts, EncryptEnds, StopsSo, draws}
+use Rattle.esdk_encrypt.specs.Gaining.{Form, KeepsFronts, Whole, gained_as}
 use Rattle.esdk_encrypt.specs.Told.{Writer, asked_by, message_by, wraps_of}
 
 -- ---- what is written
 
--- The output gained the message of this text behind what it had. It was made with the first bytes to come, where the entropy tells them.
-pub record GainsMessage (writer : Writer) (text before : List ℕ) (entropy : EntropyState) (put : SinkState) : Type 0 where
+-- The output gained the message of this text behind what it had, in this form. It was made with the first bytes to come, where the entropy tells them.
+pub record GainsMessage (form : Form) (writer : Writer) (text before : List ℕ) (entropy : EntropyState) (put : SinkState) : Type 0 where
   pub drawn : List ℕ
   pub count : length drawn ≡ draws (wraps_of writer)
   pub first : OnTold entropy.to_come (λ coming. drawn ≡ take (draws (wraps_of writer)) coming)
-  pub gained : put.written ≡ Some (before ++ message_by writer drawn text)
+  pub gained : put.written ≡ Some (before ++ form Whole (message_by writer drawn text))
 
 -- An encryption of told bytes to a told output writes their message.
 abbrev pub GainsTheMessage : Type 0
-GainsTheMessage = (writer : Writer) (refusal : Option Refusal) (old new : ℕ) (text before : List ℕ) (input taken : SourceState) (output put : SinkState) (entropy spent : EntropyState)
-    → input.left ≡ Some text → output.written ≡ Some before → Encrypts (asked_by writer refusal old new) input taken output put entropy spent
-    → GainsMessage writer text before entropy put
+GainsTheMessage = (form : Form) (writer : Writer) (refusal : Option Refusal) (old new : ℕ) (text before : List ℕ) (input taken : SourceState) (output put : SinkState)
+    (entropy spent : EntropyState) → input.left ≡ Some text → output.written ≡ Some before
+    → Encrypts (asked_by writer refusal old new) input taken (gained_as form output put) entropy spent
+    → GainsMessage form writer text before entropy put
 
 -- ---- what is encrypted
 
@@ -52,22 +54,22 @@ pub record NoObjectFails (input taken : SourceState) (output put : SinkState) (e
 -- Where the writer is within the limits, the request isn't refused, the input fits and nothing fails, the keyrings included, only want of memory ends an encryption.
 -- `⊤` stands for what the run left untouched, which plays no part.
 abbrev pub EncryptsInputsThatFit : Type 0
-EncryptsInputsThatFit = (writer : Writer) (old new : ℕ) (text : List ℕ) (input taken : SourceState) (output put : SinkState) (entropy spent : EntropyState) (error : EncryptError)
+EncryptsInputsThatFit = (form : Form) (writer : Writer) (old new : ℕ) (text : List ℕ) (input taken : SourceState) (output put : SinkState) (entropy spent : EntropyState) (error : EncryptError)
     → IsWithin writer → FitsMessage writer.size input text → Stayed old new → NoObjectFails input taken output put entropy spent
-    → EncryptEnds (asked_by writer None old new) input taken output put entropy spent ⊤ ⊤ error → error ≡ Memory
+    → EncryptEnds (asked_by writer None old new) input taken (gained_as form output put) entropy spent ⊤ ⊤ error → error ≡ Memory
 
 -- ---- what is left where it ends early
 
--- These bytes were taken, and the output gained a front of their message, as far as a message has room for them.
-pub record GainsFront (m : EncMaterialsValue) (size : ℕ) (id : List ℕ) (input taken : SourceState) (output put : SinkState) : Type 0 where
+-- These bytes were taken, and the output gained a front of their message in this form, as far as a message has room for them.
+pub record GainsFront (form : Form) (m : EncMaterialsValue) (size : ℕ) (id : List ℕ) (input taken : SourceState) (output put : SinkState) : Type 0 where
   pub text : List ℕ
   pub came : Came input taken text
-  pub front : AppendsFront output.written put.written (message_of m size id (take (most_text size) text))
+  pub front : AppendsFront output.written put.written (form Whole (message_of m size id (take (most_text size) text)))
 
 -- Whatever ends the writing of a message, a front of it is left.
 abbrev pub LeavesAFront : Type 0
-LeavesAFront = (m : EncMaterialsValue) (size : ℕ) (id : List ℕ) (input taken : SourceState) (output put : SinkState) (error : EncryptError) → 1 ≤ size
-    → StopsSo m size id input taken output put error → GainsFront m size id input taken output put
+LeavesAFront = (form : Form) (m : EncMaterialsValue) (size : ℕ) (id : List ℕ) (input taken : SourceState) (output put : SinkState) (error : EncryptError)
+    → KeepsFronts form → 1 ≤ size → StopsSo m size id input taken (gained_as form output put) error → GainsFront form m size id input taken output put
 
 -- What is written while the input goes on are m frames, m being the least number for which m frames of so many bytes and one more have room for the text.
 abbrev pub WritesAllButTheLast : Type 0

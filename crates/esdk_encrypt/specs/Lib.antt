@@ -1,4 +1,5 @@
 pub mod Encrypt
+pub mod Gaining
 pub mod Writing
 pub mod Asking
 pub mod Told

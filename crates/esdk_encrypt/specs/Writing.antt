@@ -26,19 +26,23 @@ session_of m size id text = record {
   out = [];
 }
 
--- what feeding or finishing a sealer into a sink comes to
+-- what feeding or finishing a sealer into a receiver comes to that can fail with this error
+abbrev pub FedInto : Type 0 → Type 0
+FedInto E = Result (Unit {0}) (FeedError SealError E)
+
+-- into a sink
 abbrev pub Fed : Type 0
-Fed = Result (Unit {0}) (FeedError SealError Failed)
+Fed = FedInto Failed
 
 -- where the sealer failed, it names a refusal
-abbrev pub IsNamed : Fed → Type 0
+abbrev pub IsNamed : {E : Type 0} → FedInto E → Type 0
 IsNamed (Ok done) = Unit {0}
 IsNamed (Err (feeds.Receiver failed)) = Unit {0}
 IsNamed (Err (feeds.Machine (seals.Refusal refusal))) = Unit {0}
 IsNamed (Err (feeds.Machine error)) = ⊥
 
 -- what a run answers then
-abbrev pub WritesAs : Fed → Result (Unit {0}) EncryptError → Type 0
+abbrev pub WritesAs : {E : Type 0} → FedInto E → Result (Unit {0}) EncryptError → Type 0
 WritesAs (Ok done) result = result ≡ Ok tt
 WritesAs (Err (feeds.Receiver failed)) result = result ≡ Err (errors.Outside outsides.SinkFault)
 WritesAs (Err (feeds.Machine (seals.Refusal refusal))) result =

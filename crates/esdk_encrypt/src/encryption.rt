@@ -6,6 +6,7 @@ ghost use Rattle.keyring_trait.specs.Saying.{said_last};
 ghost use Rattle.keyring_trait.specs.Wrapping.{WrapKeyValue};
 ghost use Rattle.esdk_encrypt.specs.Asking.{BearsAtMostOne};
 ghost use Rattle.esdk_encrypt.specs.Encrypt.{encryption_of, Encrypts, EncryptEnds, GivesNot, IsNoFault};
+ghost use Rattle.esdk_encrypt.specs.Gaining.{gaining};
 ghost use Rattle.esdk_encrypt.specs.Told.{asked_told};
 ghost use Rattle.esdk_encrypt.specs.Writing.{IsNamed, WritesAs};
 
@@ -13,7 +14,7 @@ use crate::beginning::begin;
 use crate::draws::draw;
 use crate::errors::EncryptError;
 use crate::options::EncryptOptions;
-use esdk_base::{Entropy, Failed, FeedError, Sink, Source};
+use esdk_base::{Entropy, FeedError, Receiver, Source};
 use esdk_fields::Outside;
 use keyring_trait::{EncRequest, Manager, ManagerError};
 use std::alloc::Global;
@@ -21,7 +22,7 @@ use stream_seal::SealError;
 use whole_input::{End, Pieces};
 
 /// Encrypts the whole input with materials of the manager, as the request asks for them, and writes
-/// the message.
+/// the message to a receiver: a sink is one, and so is what makes another text of the bytes.
 ///
 /// First 64 bytes and 12 for each of the manager's wraps are drawn by one fill: 32 are the message
 /// id, and the manager is asked with the others, at the moment of the options; it serves materials
@@ -29,8 +30,8 @@ use whole_input::{End, Pieces};
 /// keys aren't required, and its tag authenticates the others too. Then memory is reserved for one
 /// frame and for one piece of the input; want of it is answered no later. The header is written,
 /// and the input is taken in pieces of at most 65,536 bytes: a frame is written once it is full and
-/// more of the input came, and the final frame once the input's end was seen. Each of them is one
-/// put.
+/// more of the input came, and the final frame once the input's end was seen. The output takes each
+/// of them by one call.
 ///
 /// `EntropyFault` leaves the manager, the input and the output as they were, and the bytes to come
 /// undrawn. The next errors leave the input and the output as they were: `RequiredAbsent` (Q4),
@@ -43,13 +44,15 @@ use whole_input::{End, Pieces};
 /// as a message has room for them. After `TooManyFrames` (Q9), where more came than have room in
 /// 2^32 - 1 frames, `SourceFault`, where a read failed, and `InputTooLong`, where 2^62 came, these
 /// are all frames but the last, so that no input that failed is sealed as a whole message. After
-/// `SinkFault`, where a write failed, a front of what was put is left: of the header, and nothing
-/// was taken; behind all frames of the bytes before the last piece, of those that it fills; or
-/// behind all other frames, of the final one.
+/// `SinkFault`, where the output failed, it took what comes before and failed at what it was given
+/// then: at the header, and nothing was taken of the input; behind all frames of the bytes before
+/// the last piece, at those that it fills; or behind all other frames, at the final one. Its own
+/// error isn't told further. What a sink gained then is a front of what was put (law
+/// `a_sink_gains_what_it_takes`).
 ///
 /// An error ends the reading: what has no room in a message and the frame that an output fails at
 /// come with the last piece. AWS Encryption SDK Specification, "Encrypt".
-pub fn encrypt<M: Manager, S: Source, O: Sink, W: Entropy>(
+pub fn encrypt<M: Manager, S: Source, O: Receiver, W: Entropy>(
     alloc: Global,
     manager: &mut M,
     request: &EncRequest,
@@ -66,13 +69,13 @@ pub fn encrypt<M: Manager, S: Source, O: Sink, W: Entropy>(
         (encryption_of (said_last (M.state manager.old) (M.state manager.new)) request.now options.now
         options.frame_length options.max_keys)
         (S.state input.old) (S.state input.new)
-        (O.state output.old) (O.state output.new)
+        (gaining O.takes O.fails output.old output.new)
         (W.state entropy.old) (W.state entropy.new)) }
     ensures ends { IfErr result (λ error. EncryptEnds
         (encryption_of (said_last (M.state manager.old) (M.state manager.new)) request.now options.now
         options.frame_length options.max_keys)
         (S.state input.old) (S.state input.new)
-        (O.state output.old) (O.state output.new)
+        (gaining O.takes O.fails output.old output.new)
         (W.state entropy.old) (W.state entropy.new)
         ((input.new ≡ input.old) × (output.new ≡ output.old)) (manager.new ≡ manager.old) error) }
 
@@ -83,7 +86,7 @@ pub fn encrypt<M: Manager, S: Source, O: Sink, W: Entropy>(
         (asked_told keys (M.state manager.old).meaning (M.state manager.new).meaning request.now
         options.frame_length options.max_keys)
         (S.state input.old) (S.state input.new)
-        (O.state output.old) (O.state output.new)
+        (gaining O.takes O.fails output.old output.new)
         (W.state entropy.old) (W.state entropy.new)) }
     ensures stops { (keys : List WrapKeyValue) → (M.state manager.old).tells keys
         → (M.state manager.old).exact → (M.state manager.old).meaning.plain ≡ true
@@ -91,7 +94,7 @@ pub fn encrypt<M: Manager, S: Source, O: Sink, W: Entropy>(
         (asked_told keys (M.state manager.old).meaning (M.state manager.new).meaning request.now
         options.frame_length options.max_keys)
         (S.state input.old) (S.state input.new)
-        (O.state output.old) (O.state output.new)
+        (gaining O.takes O.fails output.old output.new)
         (W.state entropy.old) (W.state entropy.new)
         ((input.new ≡ input.old) × (output.new ≡ output.old)) (manager.new ≡ manager.old) error) }
 
@@ -112,7 +115,7 @@ pub fn encrypt<M: Manager, S: Source, O: Sink, W: Entropy>(
     let id = draws.message_id();
     let mut sealer = begin(alloc, &materials, options, &id)?;
     let mut pieces = Pieces::new(alloc)?;
-    let Ok(()) = output.put(sealer.header()) else {
+    let Ok(()) = output.take(sealer.header()) else {
         return Err(EncryptError::Outside(Outside::SinkFault));
     };
     'reads: loop {
@@ -140,7 +143,7 @@ fn ungiven(error: ManagerError) -> EncryptError
 }
 
 /// What a run answers where the sealer was fed or finished so.
-fn written(fed: Result<(), FeedError<SealError, Failed>>) -> Result<(), EncryptError>
+fn written<E: Drop>(fed: Result<(), FeedError<SealError, E>>) -> Result<(), EncryptError>
     requires { IsNamed fed }
     ensures { WritesAs fed result }
 {

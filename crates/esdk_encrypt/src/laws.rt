@@ -1,6 +1,9 @@
 //! Laws about encryption. A law is a function that does nothing: its contract is what is proved.
 
+ghost use Rattle.esdk_encrypt.specs.Gaining.{GainsAs, KeepsFronts, as_bytes, gained_as, gaining, sink_fails, sink_takes};
 ghost use Rattle.esdk_encrypt.specs.Laws.{EncryptsInputsThatFit, GainsTheMessage, LeavesAFront, WritesAllButTheLast};
+
+use esdk_base::Sink;
 
 /// An input that fits into a message is encrypted, unless memory runs out or a count of faults
 /// rises.
@@ -14,13 +17,22 @@ pub fn the_output_gains_the_message()
 {}
 
 /// Where the writing of a message ends early, whatever the reason, the output has gained a front of
-/// the message of the bytes taken, as far as a message has room for them.
+/// the message of the bytes taken, as far as a message has room for them: as they are, or in any
+/// form in which fronts stay fronts.
 pub fn an_early_end_leaves_a_front()
-    ensures { LeavesAFront }
+    ensures front { LeavesAFront }
+    ensures bytes { KeepsFronts as_bytes }
 {}
 
 /// While the input goes on, all frames are written but the last: so many that with one more they
 /// have room for the text, and no fewer have.
 pub fn all_frames_but_the_last_are_written()
     ensures { WritesAllButTheLast }
+{}
+
+/// What `encrypt` says of a sink as a receiver, it says of what that tells and counts: it gained
+/// the bytes; or a put failed, and it gained all of the first and a front of what comes behind.
+pub fn a_sink_gains_what_it_takes<O: Sink>()
+    ensures { (old new : O) → GainsAs (gaining (sink_takes O.state) (sink_fails O.state) old new)
+        (gained_as as_bytes (O.state old) (O.state new)) }
 {}

@@ -10,8 +10,9 @@
 //! keys: there the message is determined by the request, the keys and the bytes drawn.
 //! `specs/Laws.antt` says what follows: an input that fits is encrypted unless memory runs out or
 //! something outside fails, over bytes that are told the output has gained their message, and where
-//! a run ends early, a front of it. `specs/Writing.antt` says how the text comes to a sealer, and
-//! `specs/Asking.antt` that the manager serves one message once.
+//! a run ends early, a front of it. `specs/Gaining.antt` says what an output gains, a receiver or a
+//! sink; `specs/Writing.antt` how the text comes to a sealer, and `specs/Asking.antt` that the
+//! manager serves one message once.
 #![tactic(auto)]
 
 mod beginning;
@@ -25,7 +26,7 @@ pub use draws::{Draws, draw};
 pub use encryption::encrypt;
 pub use errors::EncryptError;
 pub use laws::{
-    all_frames_but_the_last_are_written, an_early_end_leaves_a_front, the_output_gains_the_message,
-    what_fits_is_encrypted,
+    a_sink_gains_what_it_takes, all_frames_but_the_last_are_written, an_early_end_leaves_a_front,
+    the_output_gains_the_message, what_fits_is_encrypted,
 };
 pub use options::EncryptOptions;

@@ -35,7 +35,7 @@ returns-in_err-sealer-clause-ends g c =
 
 pub returns-in_err-sealer-clause-stops : goal.returns-in_err-sealer-clause-stops
 returns-in_err-sealer-clause-stops g c =
-    stops_told (g.M.Manager.state c.args.manager.now) (g.M.Manager.state c.for_encryption.new.self) c.args.request.now c.args.options.now _ c.args.options.max_keys _ _ _ _ _ _ _ _ c.from_residual.result
+    stops_told (g.M.Manager.state c.args.manager.now) (g.M.Manager.state c.for_encryption.new.self) c.args.request.now c.args.options.now _ c.args.options.max_keys _ _ _ _ _ _ _ c.from_residual.result
     (record { told = c.wraps-wraps.ensures.told; plain = c.wraps-wraps.ensures.plain })
     (returns-in_err-sealer-clause-ends g c)
 
@@ -54,12 +54,12 @@ returns-in_default-clause-ends g c =
     let id = c.message_id-id.result in
     let wide = c.requires.some in
     let stands = c.in_ok-sealer.ensures.stands in
-    ends_stopped asked _ _ _ _ _ _ c.in-Ok.draws m id ⊤ ⊤ (Err (errors.Outside outsides.SinkFault)) (record { drew = drew; given = (given, last); begins = taken }) c.message_id-id.ensures
-    (header_fails m size id _ _ _ c.header.result.now (c.header.ensures (session_of m size id []) stands) c.in_default.ensures.bytes c.in_default.ensures.cause.failed)
+    ends_stopped asked _ _ _ _ _ c.in-Ok.draws m id ⊤ ⊤ (Err (errors.Outside outsides.SinkFault)) (record { drew = drew; given = (given, last); begins = taken }) c.message_id-id.ensures
+    (header_fails g.O.Receiver.takes g.O.Receiver.fails m size id g.met.O.Receiver.takes_none _ _ _ c.header.result.now _ (c.header.ensures (session_of m size id []) stands) c.in_default.ensures)
 
 pub returns-in_default-clause-stops : goal.returns-in_default-clause-stops
 returns-in_default-clause-stops g c =
-    stops_told (g.M.Manager.state c.args.manager.now) (g.M.Manager.state c.for_encryption.new.self) c.args.request.now c.args.options.now _ c.args.options.max_keys _ _ _ _ _ _ ⊤ ⊤ (Err (errors.Outside outsides.SinkFault))
+    stops_told (g.M.Manager.state c.args.manager.now) (g.M.Manager.state c.for_encryption.new.self) c.args.request.now c.args.options.now _ c.args.options.max_keys _ _ _ _ _ ⊤ ⊤ (Err (errors.Outside outsides.SinkFault))
     (record { told = c.wraps-wraps.ensures.told; plain = c.wraps-wraps.ensures.plain })
     (returns-in_default-clause-ends g c)
 
@@ -67,8 +67,8 @@ pub reads-init : goal.reads-init
 reads-init g c = record {
   few = omega (arith, ap (λ (p : PiecesValue). p.taken) c.in_ok-pieces.ensures);
   feeds = λ m size id wide stands.
-      feeding_none m size id wide _ _ _ _ _ c.header.result.now (c.header.ensures (session_of m size id []) stands) stands
-      c.in-Ok-put.ensures.bytes c.in-Ok-put.ensures.cause.same (ap (λ (p : PiecesValue). p.taken) c.in_ok-pieces.ensures);
+      feeding_none g.O.Receiver.takes m size id wide _ _ _ _ _ c.header.result.now (c.header.ensures (session_of m size id []) stands) stands
+      c.in-Ok-take.ensures (ap (λ (p : PiecesValue). p.taken) c.in_ok-pieces.ensures);
   most = omega arith;
 }
 
@@ -81,7 +81,7 @@ written-requires g c =
     let id = c.message_id-id.result in
     let wide = c.requires.some in
     let stands = c.in_ok-sealer.ensures.stands in
-    feeding_names m size id wide g.O.Sink.state _ _ _ _ _ _
+    feeding_names g.O.Receiver.takes m size id wide g.O.Receiver.fails _ _ _ _ _ _
     (c.reads.invariant.feeds m size id wide stands) _ _ _ c.feed.result c.feed.ensures.feeds
 
 pub reads-preserved : goal.reads-preserved
@@ -90,7 +90,7 @@ reads-preserved g c =
     record {
       few = came.2;
       feeds = λ m size id wide stands.
-          feeding_more m size id wide g.O.Sink.state _ _ _ _ _ _ (c.reads.invariant.feeds m size id wide stands) c.next.new.self.piece _ _ _ came.0
+          feeding_more g.O.Receiver.takes m size id wide g.O.Receiver.fails _ _ _ _ _ _ (c.reads.invariant.feeds m size id wide stands) c.next.new.self.piece _ _ g.met.O.Receiver.takes_more _ came.0
           c.feed.result _ came.1 c.in_ok-written-in-Ok-next.ensures (rw c.piece.ensures at c.feed.ensures.feeds);
       most = omega (arith, came.0.came.most, came.1, c.reads.invariant.most);
     }
@@ -109,15 +109,15 @@ returns-in_err-written-in-Ok-next-clause-ends g c =
     let wide = c.requires.some in
     let stands = c.in_ok-sealer.ensures.stands in
     let p = err_from_is_err_and c.from_residual-in_err-written-in-Ok-next.result c.from_residual-in_err-written-in-Ok-next.ensures.1 in
-    ends_stopped asked _ _ _ _ _ _ c.in-Ok.draws m id _ _ c.from_residual-in_err-written-in-Ok-next.result (record { drew = drew; given = (given, last); begins = taken }) c.message_id-id.ensures
+    ends_stopped asked _ _ _ _ _ c.in-Ok.draws m id _ _ c.from_residual-in_err-written-in-Ok-next.result (record { drew = drew; given = (given, last); begins = taken }) c.message_id-id.ensures
     (rw (p.1, p.2) (
-    feeding_fails m size id wide g.O.Sink.state _ _ _ _ _ _ (c.reads.invariant.feeds m size id wide stands) c.next.new.self.piece _ _ _ c.in-Ok-next.ensures.next.0
+    feeding_fails g.O.Receiver.takes m size id wide g.O.Receiver.fails _ _ _ _ _ _ (c.reads.invariant.feeds m size id wide stands) c.next.new.self.piece _ _ g.met.O.Receiver.takes_more _ c.in-Ok-next.ensures.next.0
     c.feed.result c.in_err-written-in-Ok-next.field-0.0 c.in_err-written-in-Ok-next.ensures (rw c.piece.ensures at c.feed.ensures.feeds)
     ))
 
 pub returns-in_err-written-in-Ok-next-clause-stops : goal.returns-in_err-written-in-Ok-next-clause-stops
 returns-in_err-written-in-Ok-next-clause-stops g c =
-    stops_told (g.M.Manager.state c.args.manager.now) (g.M.Manager.state c.for_encryption.new.self) c.args.request.now c.args.options.now _ c.args.options.max_keys _ _ _ _ _ _ _ _ c.from_residual-in_err-written-in-Ok-next.result
+    stops_told (g.M.Manager.state c.args.manager.now) (g.M.Manager.state c.for_encryption.new.self) c.args.request.now c.args.options.now _ c.args.options.max_keys _ _ _ _ _ _ _ c.from_residual-in_err-written-in-Ok-next.result
     (record { told = c.wraps-wraps.ensures.told; plain = c.wraps-wraps.ensures.plain })
     (returns-in_err-written-in-Ok-next-clause-ends g c)
 
@@ -131,8 +131,8 @@ written-requires-in-Err-Seen g c =
     let wide = c.requires.some in
     let stands = c.in_ok-sealer.ensures.stands in
     let next = rw c.in-Err-Seen.field-0-is at c.in-Err-Seen.ensures.next in
-    finish_names m size id g.O.Sink.state _ _ _ _ _ _ wide
-    (input_ends m size id wide g.O.Sink.state _ _ _ _ _ _ (c.reads.invariant.feeds m size id wide stands) _ next.0 next.1 next.2 next.3)
+    finish_names g.O.Receiver.takes g.O.Receiver.fails m size id _ _ _ _ _ _ wide
+    (input_ends g.O.Receiver.takes m size id wide g.O.Receiver.fails _ _ _ _ _ _ (c.reads.invariant.feeds m size id wide stands) _ next.0 next.1 next.2 next.3)
     c.finish_into.result c.finish_into.ensures.ends
 
 pub returns-in-Err-Seen-clause-done : goal.returns-in-Err-Seen-clause-done
@@ -149,10 +149,10 @@ returns-in-Err-Seen-clause-done g c =
     let wide = c.requires.some in
     let stands = c.in_ok-sealer.ensures.stands in
     let next = rw c.in-Err-Seen.field-0-is at c.in-Err-Seen.ensures.next in
-    ends_done asked _ _ _ _ _ _ c.in-Ok.draws m id c.written-in-Err-Seen.result (record { drew = drew; given = (given, last); begins = taken }) c.message_id-id.ensures
-    (ends_written m size id g.O.Sink.state _ _ _ _ _ _ wide
-    (input_ends m size id wide g.O.Sink.state _ _ _ _ _ _ (c.reads.invariant.feeds m size id wide stands) _ next.0 next.1 next.2 next.3)
-    c.finish_into.result c.written-in-Err-Seen.result c.written-in-Err-Seen.ensures c.finish_into.ensures.ends)
+    ends_done asked _ _ _ _ _ c.in-Ok.draws m id c.written-in-Err-Seen.result (record { drew = drew; given = (given, last); begins = taken }) c.message_id-id.ensures
+    (ends_written g.O.Receiver.takes g.O.Receiver.fails m size id _ _ _ _ _ _ wide
+    (input_ends g.O.Receiver.takes m size id wide g.O.Receiver.fails _ _ _ _ _ _ (c.reads.invariant.feeds m size id wide stands) _ next.0 next.1 next.2 next.3)
+    g.met.O.Receiver.takes_more c.finish_into.result c.written-in-Err-Seen.result c.written-in-Err-Seen.ensures c.finish_into.ensures.ends)
 
 pub returns-in-Err-Seen-clause-ends : goal.returns-in-Err-Seen-clause-ends
 returns-in-Err-Seen-clause-ends g c =
@@ -168,20 +168,20 @@ returns-in-Err-Seen-clause-ends g c =
     let wide = c.requires.some in
     let stands = c.in_ok-sealer.ensures.stands in
     let next = rw c.in-Err-Seen.field-0-is at c.in-Err-Seen.ensures.next in
-    ends_stopped asked _ _ _ _ _ _ c.in-Ok.draws m id _ _ c.written-in-Err-Seen.result (record { drew = drew; given = (given, last); begins = taken }) c.message_id-id.ensures
-    (ends_unwritten m size id g.O.Sink.state _ _ _ _ _ _ wide
-    (input_ends m size id wide g.O.Sink.state _ _ _ _ _ _ (c.reads.invariant.feeds m size id wide stands) _ next.0 next.1 next.2 next.3)
+    ends_stopped asked _ _ _ _ _ c.in-Ok.draws m id _ _ c.written-in-Err-Seen.result (record { drew = drew; given = (given, last); begins = taken }) c.message_id-id.ensures
+    (ends_unwritten g.O.Receiver.takes g.O.Receiver.fails m size id _ _ _ _ _ _ wide
+    (input_ends g.O.Receiver.takes m size id wide g.O.Receiver.fails _ _ _ _ _ _ (c.reads.invariant.feeds m size id wide stands) _ next.0 next.1 next.2 next.3)
     c.finish_into.result c.written-in-Err-Seen.result c.written-in-Err-Seen.ensures c.finish_into.ensures.ends)
 
 pub returns-in-Err-Seen-clause-writes : goal.returns-in-Err-Seen-clause-writes
 returns-in-Err-Seen-clause-writes g c =
-    writes_told (g.M.Manager.state c.args.manager.now) (g.M.Manager.state c.for_encryption.new.self) c.args.request.now c.args.options.now _ c.args.options.max_keys _ _ _ _ _ _ c.written-in-Err-Seen.result
+    writes_told (g.M.Manager.state c.args.manager.now) (g.M.Manager.state c.for_encryption.new.self) c.args.request.now c.args.options.now _ c.args.options.max_keys _ _ _ _ _ c.written-in-Err-Seen.result
     (record { told = c.wraps-wraps.ensures.told; plain = c.wraps-wraps.ensures.plain })
     (returns-in-Err-Seen-clause-done g c)
 
 pub returns-in-Err-Seen-clause-stops : goal.returns-in-Err-Seen-clause-stops
 returns-in-Err-Seen-clause-stops g c =
-    stops_told (g.M.Manager.state c.args.manager.now) (g.M.Manager.state c.for_encryption.new.self) c.args.request.now c.args.options.now _ c.args.options.max_keys _ _ _ _ _ _ _ _ c.written-in-Err-Seen.result
+    stops_told (g.M.Manager.state c.args.manager.now) (g.M.Manager.state c.for_encryption.new.self) c.args.request.now c.args.options.now _ c.args.options.max_keys _ _ _ _ _ _ _ c.written-in-Err-Seen.result
     (record { told = c.wraps-wraps.ensures.told; plain = c.wraps-wraps.ensures.plain })
     (returns-in-Err-Seen-clause-ends g c)
 
@@ -201,12 +201,12 @@ returns-in-Err-Failed-clause-ends g c =
     let wide = c.requires.some in
     let stands = c.in_ok-sealer.ensures.stands in
     let next = rw c.in-Err-Failed.field-0-is at c.in-Err-Failed.ensures.next in
-    ends_stopped asked _ _ _ _ _ _ c.in-Ok.draws m id ⊤ ⊤ (Err (errors.Outside outsides.SourceFault)) (record { drew = drew; given = (given, last); begins = taken }) c.message_id-id.ensures
-    (input_fails m size id wide g.O.Sink.state _ _ _ _ _ _ (c.reads.invariant.feeds m size id wide stands) _ next.0 next.1)
+    ends_stopped asked _ _ _ _ _ c.in-Ok.draws m id ⊤ ⊤ (Err (errors.Outside outsides.SourceFault)) (record { drew = drew; given = (given, last); begins = taken }) c.message_id-id.ensures
+    (input_fails g.O.Receiver.takes m size id wide g.O.Receiver.fails _ _ _ _ _ _ (c.reads.invariant.feeds m size id wide stands) _ next.0 next.1)
 
 pub returns-in-Err-Failed-clause-stops : goal.returns-in-Err-Failed-clause-stops
 returns-in-Err-Failed-clause-stops g c =
-    stops_told (g.M.Manager.state c.args.manager.now) (g.M.Manager.state c.for_encryption.new.self) c.args.request.now c.args.options.now _ c.args.options.max_keys _ _ _ _ _ _ ⊤ ⊤ (Err (errors.Outside outsides.SourceFault))
+    stops_told (g.M.Manager.state c.args.manager.now) (g.M.Manager.state c.for_encryption.new.self) c.args.request.now c.args.options.now _ c.args.options.max_keys _ _ _ _ _ ⊤ ⊤ (Err (errors.Outside outsides.SourceFault))
     (record { told = c.wraps-wraps.ensures.told; plain = c.wraps-wraps.ensures.plain })
     (returns-in-Err-Failed-clause-ends g c)
 
@@ -224,12 +224,12 @@ returns-in-Err-TooLong-clause-ends g c =
     let wide = c.requires.some in
     let stands = c.in_ok-sealer.ensures.stands in
     let next = rw c.in-Err-TooLong.field-0-is at c.in-Err-TooLong.ensures.next in
-    ends_stopped asked _ _ _ _ _ _ c.in-Ok.draws m id ⊤ ⊤ (Err (errors.Outside outsides.InputTooLong)) (record { drew = drew; given = (given, last); begins = taken }) c.message_id-id.ensures
-    (input_long m size id wide g.O.Sink.state _ _ _ _ _ _ (c.reads.invariant.feeds m size id wide stands) _ next.0 next.1)
+    ends_stopped asked _ _ _ _ _ c.in-Ok.draws m id ⊤ ⊤ (Err (errors.Outside outsides.InputTooLong)) (record { drew = drew; given = (given, last); begins = taken }) c.message_id-id.ensures
+    (input_long g.O.Receiver.takes m size id wide g.O.Receiver.fails _ _ _ _ _ _ (c.reads.invariant.feeds m size id wide stands) _ next.0 next.1)
 
 pub returns-in-Err-TooLong-clause-stops : goal.returns-in-Err-TooLong-clause-stops
 returns-in-Err-TooLong-clause-stops g c =
-    stops_told (g.M.Manager.state c.args.manager.now) (g.M.Manager.state c.for_encryption.new.self) c.args.request.now c.args.options.now _ c.args.options.max_keys _ _ _ _ _ _ ⊤ ⊤ (Err (errors.Outside outsides.InputTooLong))
+    stops_told (g.M.Manager.state c.args.manager.now) (g.M.Manager.state c.for_encryption.new.self) c.args.request.now c.args.options.now _ c.args.options.max_keys _ _ _ _ _ ⊤ ⊤ (Err (errors.Outside outsides.InputTooLong))
     (record { told = c.wraps-wraps.ensures.told; plain = c.wraps-wraps.ensures.plain })
     (returns-in-Err-TooLong-clause-ends g c)
 

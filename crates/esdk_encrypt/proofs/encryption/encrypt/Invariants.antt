@@ -1,4 +1,4 @@
--- The sealer was fed the bytes that came, and the output gained what that gave.
+-- The sealer was fed the bytes that came, and the output took what that gave.
 use Rattle.std.proofs.Common.{ℕ, ◌+◌, ◌-◌, ◌^◌, ◌≤◌, List, []}
 use Rattle.keyring_trait.specs.Materials.{EncMaterialsValue}
 use Rattle.stream_seal.specs.Stands.{Stands}
@@ -10,7 +10,7 @@ abbrev pub invariant-reads : goal.invariant-reads
 invariant-reads g l = record {
   few : l.pieces.taken ≤ 2 ^ 62;
   feeds : (m : EncMaterialsValue) (size : ℕ) (id : List ℕ) → 1 ≤ size → Stands l.initial.sealer (session_of m size id [])
-      → FeedingInput m size id (g.S.Source.state l.fn.input) (g.S.Source.state l.input) (g.O.Sink.state l.fn.output) (g.O.Sink.state l.output) l.sealer l.pieces.taken;
+      → FeedingInput g.O.Receiver.takes m size id (g.S.Source.state l.fn.input) (g.S.Source.state l.input) l.fn.output l.output l.sealer l.pieces.taken;
   most : (g.S.Source.state l.input).given ≤ (g.S.Source.state l.fn.input).given + l.pieces.taken;
 }
 

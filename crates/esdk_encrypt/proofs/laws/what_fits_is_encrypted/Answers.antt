@@ -4,5 +4,5 @@ use Rattle.esdk_encrypt.proofs.Fitting.{only_memory_ends, told_granted}
 use Rattle.esdk_encrypt.proofs.laws.what_fits_is_encrypted.Goals as goal
 
 pub returns : goal.returns
-returns c = λ writer old new text input taken output put entropy spent error within fits stayed nothing ends.
-    only_memory_ends (asked_by writer None old new) text input taken output put entropy spent ⊤ ⊤ error (told_granted writer old new within stayed) fits nothing ends
+returns c = λ form writer old new text input taken output put entropy spent error within fits stayed nothing ends.
+    only_memory_ends form (asked_by writer None old new) text input taken output put entropy spent ⊤ ⊤ error (told_granted writer old new within stayed) fits nothing ends
