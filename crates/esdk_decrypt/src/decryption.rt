@@ -91,6 +91,7 @@ pub fn decrypt<M: Manager, S: Source, O: Sink>(
     ensures went { Went (M.state manager.old) (M.state manager.new) }
     ensures bears { BearsOnce (M.state manager.old) (M.state manager.new) now }
     ensures taken { (S.state input.new).given ≤ (S.state input.old).given + 2 ^ 62 }
+    ensures lasts { S.lasts input.old input.new }
 {
     // Where the manager isn't asked, it stays as it is: `wraps` says what that keeps.
     let _wraps = manager.wraps();

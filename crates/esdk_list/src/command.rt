@@ -31,6 +31,7 @@ pub fn list<S: Source, O: Sink>(
         (S.state input.old) (S.state input.new)
         (O.state output.old) (O.state output.new) (output.new ≡ output.old)) }
     ensures taken { (S.state input.new).given ≤ (S.state input.old).given + 2 ^ 62 }
+    ensures lasts { S.lasts input.old input.new }
 {
     let reader = match take_header(alloc, input, limits_of(uncommitted)) {
         Ok(reader) => reader,

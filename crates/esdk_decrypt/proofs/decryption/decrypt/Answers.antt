@@ -61,6 +61,7 @@ reads-init g c =
       well = well_none (g.S.Source.state c.args.input.now) c.in_ok-pieces.pieces.taken (ap (λ (p : PiecesValue). p.taken) c.in_ok-pieces.ensures);
       fed = whole_none g.M.Manager.state (PutsAll g.O.Sink.state) c.args.now (new_session c.args.settings c.args.given.now) c.args.manager.now c.args.output.now c.new-opener.result goes stands
           (λ r. takes_none (g.O.Sink.state r));
+      lasts = g.met.S.Source.lasts_none _;
     }
 
 pub reads-preserved : goal.reads-preserved
@@ -79,6 +80,7 @@ reads-preserved g c =
           c.args.output.now c.feed.new.output c.feed.new.self) c.piece.ensures
           (whole_as_one g.M.Manager.state (PutsAll g.O.Sink.state) c.args.now (new_session c.args.settings c.args.given.now) bytes _ c.args.manager.now c.reads.manager c.feed.new.manager c.args.output.now
           c.reads.output c.feed.new.output c.reads.opener c.feed.new.self w f (λ r s t xs ys. takes_more (g.O.Sink.state r) (g.O.Sink.state s) (g.O.Sink.state t) xs ys));
+      lasts = g.met.S.Source.lasts_more _ _ _ before.lasts c.next.ensures.lasts;
     }
 
 -- ---- a piece isn't fed whole
@@ -116,6 +118,9 @@ returns-in-Err-feed-clause-bears g c =
     c.feed.new.output c.reads.opener c.feed.new.self (g.S.Source.state c.args.input.now) (g.S.Source.state c.next.new.input) w
     (subst (λ (p : List ℕ). Came (g.S.Source.state c.args.input.now) (g.S.Source.state c.next.new.input) (bytes ++ p)) (sym c.piece.ensures) well.came) (rw c.piece.ensures next.0.fits) c.in-Err-feed.error
     (c.in-Err-feed.ensures.fed w.fed.session w.fed.stands)
+
+pub returns-in-Err-feed-clause-lasts : goal.returns-in-Err-feed-clause-lasts
+returns-in-Err-feed-clause-lasts g c = g.met.S.Source.lasts_more _ _ _ c.reads.invariant.lasts c.next.ensures.lasts
 
 -- ---- no more pieces came
 

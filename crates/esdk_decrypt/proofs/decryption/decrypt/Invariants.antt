@@ -14,6 +14,7 @@ invariant-reads g l = record {
   bytes : List ℕ;
   well : CameWell (g.S.Source.state l.fn.input) (g.S.Source.state l.input) l.pieces.taken bytes;
   fed : FedWhole g.M.Manager.state (PutsAll g.O.Sink.state) l.now (new_session l.fn.settings l.fn.given) bytes l.fn.manager l.manager l.fn.output l.output l.opener;
+  lasts : g.S.Source.lasts l.fn.input l.input;
 }
 
 abbrev pub decreases-reads : goal.decreases-reads
