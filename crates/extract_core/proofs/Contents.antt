@@ -1,5 +1,5 @@
 -- The range of a content that is made of the contents of slots.
-use Rattle.std.proofs.Common.{◌≡◌, ℕ, zero, suc, ◌+◌, ◌-◌, ◌*◌, ◌/◌, ◌^◌, ◌<◌, ◌≤◌, min, Bool, true, false, List, [], ◌∷◌, ◌++◌, length, take, drop, Option, Some, None, refl, sym, ap, subst, ◌∙◌, arith, inl, inr, append-nil, append_assoc, mul-le-mul_right, le-div_iff_mul-le, div-mul-le_self}
+use Rattle.std.proofs.Common.{◌≡◌, ℕ, zero, suc, ◌+◌, ◌-◌, ◌*◌, ◌<◌, ◌≤◌, true, false, List, [], ◌++◌, length, take, drop, Some, None, refl, sym, ap, ◌∙◌, arith, inl, inr, append-nil}
 use Rattle.std.specs.List.{concat, flat_map, range_with_len}
 use Rattle.std.proofs.lemmas.Bool.{cases_lt}
 use Rattle.std.proofs.lemmas.List.{drop-append-le, drop-drop, drop_all, drop_at, length-append, length-take, take-append-le, take_all}
@@ -85,6 +85,11 @@ none_before range first x before = drop_all (range.at - first) (take (range.at +
 
 pub none_behind : (range : ByteRange) (first : ℕ) (x : List ℕ) → range.at + range.count ≤ first → in_range range first x ≡ []
 none_behind range first x behind = nothing_dropped (range.at - first) (take (range.at + range.count - first) x) (nothing_left (range.at + range.count - first) x (omega (arith, behind)))
+
+pub none_of_empty : (range : ByteRange) (x : List ℕ) → range.count ≡ 0 → in_range range 0 x ≡ []
+none_of_empty range x none =
+    let end : ℕ = range.at + range.count - 0 in
+    drop_all (range.at - 0) (take end x) (omega (arith, length-take end x, none))
 
 none_of_none : (range : ByteRange) (first : ℕ) → in_range range first [] ≡ []
 none_of_none range first = nothing_dropped (range.at - first) (take (range.at + range.count - first) []) (take_all (range.at + range.count - first) [] (omega arith))

@@ -95,7 +95,7 @@ taken_least b range slot before within =
 
 -- ---- of a range that isn't empty
 
-not_zero : (n : ℕ) → 1 ≤ n → (n == 0) ≡ false
+pub not_zero : (n : ℕ) → 1 ≤ n → (n == 0) ≡ false
 not_zero zero h = absurd (omega (arith, h))
 not_zero (suc n) h = ne_eqb (suc n) 0 (λ e. no_zero n e)
   where

@@ -107,7 +107,7 @@ needs_unit s want head e short fewer =
     }
 
 -- what opens is as long as its ciphertext
-length_opened : (key iv aad cipher tag text : List ℕ) → opened key iv aad cipher tag ≡ Some text → length text ≡ length cipher
+pub length_opened : (key iv aad cipher tag text : List ℕ) → opened key iv aad cipher tag ≡ Some text → length text ≡ length cipher
 length_opened key iv aad cipher tag text e =
     sym (length-sealed_cipher key iv aad text) ∙ ap (λ (s : List ℕ × List ℕ). length s.0) (sealed_from_opened key iv aad text cipher tag e)
 

@@ -8,4 +8,7 @@ pub mod Front
 pub mod Extracting
 pub mod Allowed
 pub mod Contents
+pub mod GoodSlots
+pub mod FrameSlots
+pub mod Behind
 pub mod Judged

@@ -22,8 +22,8 @@ use Rattle.extract_core.specs.declared.errors.ExtractError.{ExtractError}
 use Rattle.extract_core.specs.declared.errors.ExtractError.TheVariants as errors
 use Rattle.extract_core.specs.declared.slots.Slots.{Slots}
 use Rattle.extract_core.specs.Extracted.{ByteRange, Extraction, OpenBody, extracted_body, first_slot, in_range, slot_count, slot_part, slot_read, unit_content, unit_fault}
-use Rattle.extract_core.specs.Slots.{FindsFault, IsRead, IsSized, OnBody, RangeFails, ReadsSlot, SameBody, TakesSlot, UnitFails, WritesRange, body_in, body_reach, first_byte, unit_reach}
-use Rattle.extract_core.proofs.Definition.{AreGood, begins_part, ends_at, ends_behind, fault_ends, nothing_in_range, of_nothing, parts_before, parts_next}
+use Rattle.extract_core.specs.Slots.{FindsFault, IsRead, IsSized, OnBody, RangeFails, ReadsSlot, SameBody, TakesSlot, UnitFails, WritesRange, body_in, body_reach, first_byte, range_reach, unit_reach}
+use Rattle.extract_core.proofs.Definition.{AreGood, begins_part, ends_at, ends_behind, fault_ends, not_zero, nothing_in_range, of_nothing, parts_before, parts_next}
 use Rattle.extract_core.proofs.Taking.{fails_from, holds_same, same_same}
 
 -- all of what was gained is a front of it
@@ -49,7 +49,7 @@ pub record IsWriting (old now : Slots) (range : ByteRange) (before after : Shelf
   pub given : OnBody old before name (λ b. after.given ≤ before.given + slots_reach old.content (slot - first_slot old.content range))
   pub later : output.faults ≤ put.faults
 
-no_parts : (b : OpenBody) (range : ByteRange) → parts_before b range (first_slot b.content range) ≡ []
+pub no_parts : (b : OpenBody) (range : ByteRange) → parts_before b range (first_slot b.content range) ≡ []
 no_parts b range = let e : first_slot b.content range - first_slot b.content range ≡ 0 = omega arith in rw e refl
 
 pub begins : (s : Slots) (range : ByteRange) (shelf : ShelfState) (name : List ℕ) (output : SinkState) (slot : ℕ) → s.unit.held ≡ [] → slot ≡ first_slot s.content range
@@ -200,12 +200,19 @@ ends_reach (Framed frame) range bytes slot order within =
     let on : (m + 1) * (frame + 40) ≡ m * (frame + 40) + (frame + 40) = omega arith in
     omega (arith, on, mul-le-mul_right (frame + 40) few)
 
+-- of a range that isn't empty
+some_reach : (content : Content) (range : ByteRange) (bytes : List ℕ) → 1 ≤ range.count
+    → range_reach content range bytes ≡ body_reach content range bytes
+some_reach content range bytes some = rw (not_zero range.count some) refl
+
 pub reach_at : (old l new : Slots) (range : ByteRange) (before mid after : ShelfState) (name : List ℕ) (output put : SinkState) (slot written : ℕ)
-    → IsWriting old l range before mid name output put slot written → ReadsSlot l new mid after name → first_slot old.content range ≤ slot → slot < first_slot old.content range + slot_count old.content range
-    → OnBody old before name (λ b. after.given ≤ before.given + body_reach old.content range b.bytes)
-reach_at old l new range before mid after name output put slot written w reads order within = λ told h.
+    → IsWriting old l range before mid name output put slot written → ReadsSlot l new mid after name → 1 ≤ range.count
+    → first_slot old.content range ≤ slot → slot < first_slot old.content range + slot_count old.content range
+    → OnBody old before name (λ b. after.given ≤ before.given + range_reach old.content range b.bytes)
+reach_at old l new range before mid after name output put slot written w reads some order within = λ told h.
     let most = given_next old l new range before mid after name output put slot written w reads told h in
-    omega (arith, most, ends_reach old.content range (drop old.begin told) slot order within)
+    let all = some_reach old.content range (drop old.begin told) some in
+    omega (arith, most, all, ends_reach old.content range (drop old.begin told) slot order within)
 
 -- the last unit's part is written
 pub writes_last : (old l new : Slots) (range : ByteRange) (before mid after : ShelfState) (name : List ℕ) (output put put2 : SinkState) (slot written n : ℕ)
@@ -244,10 +251,12 @@ all_reach (Framed frame) range bytes behind single is =
     omega (arith, ap (λ (n : ℕ). n * (frame + 40)) e)
 
 pub reach_all : (old l : Slots) (range : ByteRange) (before mid : ShelfState) (name : List ℕ) (output put : SinkState) (behind written : ℕ)
-    → IsWriting old l range before mid name output put behind written → behind ≡ first_slot old.content range + slot_count old.content range
-    → OnBody old before name (λ b. mid.given ≤ before.given + body_reach old.content range b.bytes)
-reach_all old l range before mid name output put behind written w is = λ told h.
-    omega (arith, w.given told h, all_reach old.content range (drop old.begin told) behind w.single is)
+    → IsWriting old l range before mid name output put behind written → 1 ≤ range.count
+    → behind ≡ first_slot old.content range + slot_count old.content range
+    → OnBody old before name (λ b. mid.given ≤ before.given + range_reach old.content range b.bytes)
+reach_all old l range before mid name output put behind written w some is = λ told h.
+    let all = some_reach old.content range (drop old.begin told) some in
+    omega (arith, w.given told h, all, all_reach old.content range (drop old.begin told) behind w.single is)
 
 -- what was written before this slot is a front of the part
 front_before : (old l : Slots) (range : ByteRange) (before mid : ShelfState) (name : List ℕ) (output put : SinkState) (slot written : ℕ)

@@ -53,7 +53,8 @@ last_slot = 4294967294
 unfoldable pub slot_read : OpenBody → ℕ → Reading Piece
 slot_read b k =
     if nat_lt last_slot k then Wanting
-    else unit b.content b.max_unit b.key b.id (k + 1) (start (drop (k * slot_width b.content) b.bytes))
+    else unit b.content b.max_unit b.key b.id (k + 1)
+    (start (drop (k * slot_width b.content) b.bytes))
 
 -- the content of a good unit
 abbrev pub unit_content : Reading Piece → List ℕ

@@ -175,8 +175,8 @@ pub record TakesUnit (old new : Slots) (before after : ShelfState) (name : List 
   pub faults : after.faults ≡ before.faults
   pub sized : IsSized old.content last new.unit.out
 
--- Why no unit is opened: what is read there isn't a good unit, and has this fault; or a read failed.
--- Want of memory is free.
+-- Why no unit is opened: what is read there isn't a good unit, and has this fault; or a read
+-- failed. Want of memory is free.
 abbrev pub UnitFails : (List ℕ → Reading Piece) → ShelfState → ShelfState → List ℕ → ExtractError
     → Type 0
 UnitFails read before after name (errors.Fault fault) = (after.faults ≡ before.faults)
@@ -257,6 +257,11 @@ pub record AreSlotsOf (opened : Unlocked) (begin : ℕ) (max_unit : Option ℕ) 
   pub none : s.unit.held ≡ []
   pub is_content : IsContent s.content
 
+-- A front of the range's part was written.
+abbrev pub WritesFrontOf : ByteRange → SinkState → SinkState → OpenBody → Type 0
+WritesFrontOf range output put b =
+    AppendsFront output.written put.written (extracted_body b range).part
+
 -- Why the range isn't written to its end, and what was: its part before the slot that has a fault,
 -- or a front of its part. Want of memory is free.
 abbrev pub RangeFails : Slots → ByteRange → ShelfState → ShelfState → List ℕ → SinkState
@@ -265,10 +270,10 @@ RangeFails s range before after name output put (errors.Fault fault) =
     OnBody s before name (λ b. FindsFault b range output put fault)
 RangeFails s range before after name output put (errors.Outside outsides.ShelfFault) =
     FailsToRead before after name
-    × OnBody s before name (λ b. AppendsFront output.written put.written (extracted_body b range).part)
+    × OnBody s before name (WritesFrontOf range output put)
 RangeFails s range before after name output put (errors.Outside outsides.SinkFault) =
     Rose output.faults put.faults
-    × OnBody s before name (λ b. AppendsFront output.written put.written (extracted_body b range).part)
+    × OnBody s before name (WritesFrontOf range output put)
 RangeFails s range before after name output put (errors.Outside outside) = ⊥
 RangeFails s range before after name output put errors.Memory =
-    OnBody s before name (λ b. AppendsFront output.written put.written (extracted_body b range).part)
+    OnBody s before name (WritesFrontOf range output put)

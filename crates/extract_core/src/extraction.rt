@@ -25,21 +25,23 @@ const TAG: usize = 16;
 /// How many bytes a header's initialization vector and its tag have, where it has both.
 const IV_AND_TAG: usize = 28;
 
-/// Writes a range of the content of a message that stands in a file of the shelf: `count` bytes from
-/// byte `at` on, as far as there are any, and answers how many bytes that is.
+/// Writes a range of the content of a message that stands in a file of the shelf: `count` bytes
+/// from byte `at` on, as far as there are any, and answers how many bytes that is.
 ///
 /// The header is taken from the front of the file, within these limits, and unlocked: the materials
-/// manager is asked for the data key at the moment `now`, in seconds, and is told the pairs that the
-/// caller gives beside those that the header stores. Then the slots that hold the range are read,
-/// each at its own offset and opened where it lies; its part of the range is written before the next
-/// one is read. Slots before the range or behind it aren't read, and bytes behind the last slot
-/// taken aren't judged. With `count` 0 header and unlocking are judged, and no slot is read. It holds
-/// one unit and one piece of 65,536 bytes, and takes no memory for bytes that the file doesn't have.
+/// manager is asked for the data key at the moment `now`, in seconds, and is told the pairs that
+/// the caller gives beside those that the header stores. Then the slots that hold the range are
+/// read, each at its own offset and opened where it lies; its part of the range is written before
+/// the next one is read. Slots before the range or behind it aren't read, and bytes behind the last
+/// slot taken aren't judged. With `count` 0 header and unlocking are judged, and no slot is read.
+/// Of a whole message a range that begins at the end of the content or behind it has no bytes;
+/// where it begins behind the slots of the message, that is M10, or rarely M18. It holds one unit
+/// and one piece of 65,536 bytes, and takes no memory for bytes that the file doesn't have.
 ///
-/// - `Fault`: the first that applies of the header's, M10 where it isn't whole; the manager's, M11 to
-///   M15; the lock's, M16 and M17; and those of the slots, in order: M18 to M20 of a frame, M20, M21
-///   and M9 of a single block, M10 where bytes are missing or no slot has the number. What stands
-///   before the fault in the range was written.
+/// - `Fault`: the first that applies of the header's, M10 where it isn't whole; the manager's, M11
+///   to M15; the lock's, M16 and M17; and those of the slots, in order: M18 to M20 of a frame, M20,
+///   M21 and M9 of a single block, M10 where bytes are missing or no slot has the number. What
+///   stands before the fault in the range was written.
 /// - `Outside` with `ShelfFault`: a read failed, or the shelf has no file of the name; with
 ///   `SinkFault`: the output failed; then a front of the range was written. With `KeyringFault`: a
 ///   keyring failed when the manager was asked, and nothing was written.

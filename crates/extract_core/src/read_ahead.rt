@@ -10,8 +10,8 @@ use std::marker::Model;
 /// How many bytes are read at once at the most.
 const PIECE: usize = 65536;
 
-/// Bytes of a file that were read and aren't taken yet, in a buffer of 65,536 bytes. A contract sees
-/// the list of these bytes.
+/// Bytes of a file that were read and aren't taken yet, in a buffer of 65,536 bytes. A contract
+/// sees the list of these bytes.
 #[derive(Drop)]
 pub(crate) struct ReadAhead {
     buffer: Vec<u8>,
@@ -65,8 +65,8 @@ impl ReadAhead {
         self.begin = self.end;
     }
 
-    /// Reads at most so many bytes of the file from an offset on, by one read, in the place of those
-    /// that are there. Where the read fails, none are there.
+    /// Reads at most so many bytes of the file from an offset on, by one read, in the place of
+    /// those that are there. Where the read fails, none are there.
     pub(crate) fn read<F: Shelf>(
         &mut self,
         shelf: &mut F,

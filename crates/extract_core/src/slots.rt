@@ -12,7 +12,7 @@ ghost use Rattle.frame_codec.specs.UnitHead.{longest_block};
 ghost use Rattle.header_codec.specs.Header.{IsContent, frame_length};
 ghost use Rattle.extract_core.specs.declared.errors.ExtractError.TheVariants as errors;
 ghost use Rattle.extract_core.specs.Extracted.{first_slot, in_range, slot_count, slot_read, slot_width};
-ghost use Rattle.extract_core.specs.Slots.{AreSlotsOf, IsWithin, NeedsAre, OnBody, RangeFails, ReadsSlot, ReadsUnit, SameBody, TakesMore, TakesNone, TakesOn, TakesSlot, TakesUnit, UnitFails, WritesRange, body_in, body_reach, first_byte, is_last, range_reach, unit_read};
+ghost use Rattle.extract_core.specs.Slots.{AreSlotsOf, IsWithin, NeedsAre, OnBody, RangeFails, ReadsSlot, ReadsUnit, SameBody, TakesMore, TakesNone, TakesOn, TakesSlot, TakesUnit, UnitFails, WritesRange, body_in, first_byte, is_last, range_reach, unit_read};
 
 use crate::errors::ExtractError;
 use crate::read_ahead::ReadAhead;
@@ -117,8 +117,8 @@ impl Slots {
         }
     }
 
-    /// Reads more of the file, behind what is held: up to the width of a slot, or to this end of the
-    /// unit where that is further, but at most a piece.
+    /// Reads more of the file, behind what is held: up to the width of a slot, or to this end of
+    /// the unit where that is further, but at most a piece.
     ///
     /// M10 `Truncated` where the file ends there; `ShelfFault` where the read failed.
     fn read_on<F: Shelf>(
@@ -149,8 +149,8 @@ impl Slots {
         }
     }
 
-    /// Takes more bytes of the file into the open unit, up to this end of it at the most, by at most
-    /// one read.
+    /// Takes more bytes of the file into the open unit, up to this end of it at the most, by at
+    /// most one read.
     ///
     /// M10 `Truncated` where the file ends before; `ShelfFault` where the read failed; `Memory`
     /// where memory runs out.
@@ -201,8 +201,8 @@ impl Slots {
         }
     }
 
-    /// Reads the unit of this number at this offset of the file, opens it where it lies, and answers
-    /// whether it is the last one. None is held before.
+    /// Reads the unit of this number at this offset of the file, opens it where it lies, and
+    /// answers whether it is the last one. None is held before.
     ///
     /// `Fault` where it isn't a good unit: M18, M19, M21 or M9 of a field, M20 where its tag is
     /// wrong, M10 where bytes are missing. `ShelfFault` where a read failed; `Memory` where memory
@@ -296,12 +296,12 @@ impl Slots {
     }
 
     /// Writes the range of the message's content: of each slot that holds some of it the part that
-    /// lies in it, before the next slot is read. Answers how many bytes were written. No slot is read
-    /// for an empty range.
+    /// lies in it, before the next slot is read. Answers how many bytes were written. No slot is
+    /// read for an empty range.
     ///
-    /// `Fault` of the first slot that isn't good, what stands before it being written; M10 where the
-    /// range begins behind the last slot. `ShelfFault` or `SinkFault` where a call failed; `Memory`
-    /// where memory runs out. Then a front of the range was written.
+    /// `Fault` of the first slot that isn't good, what stands before it being written; so M10 where
+    /// the range begins behind the end of the bytes. `ShelfFault` or `SinkFault` where a call
+    /// failed; `Memory` where memory runs out. Then a front of the range was written.
     pub(crate) fn write_range<F: Shelf, O: Sink>(
         &mut self,
         shelf: &mut F,
@@ -331,37 +331,6 @@ impl Slots {
         if count == 0 {
             return Ok(0);
         }
-        self.write_slots(shelf, name, output, at, count)
-    }
-
-    /// Writes the range, which has at least one byte.
-    fn write_slots<F: Shelf, O: Sink>(
-        &mut self,
-        shelf: &mut F,
-        name: &str,
-        output: &mut O,
-        at: u64,
-        count: u64,
-    ) -> Result<u64, ExtractError>
-        requires none { self.old.unit.held ≡ [] }
-        requires begin { self.old.begin ≤ 2 ^ 26 }
-        requires content { IsContent self.old.content }
-        requires at { at ≤ 2 ^ 62 }
-        requires some { 1 ≤ count }
-        requires count { count ≤ 2 ^ 62 }
-        ensures done { IfOk result (λ written. OnBody self.old (F.state shelf.old) name.now
-            (λ b. WritesRange b (record { at = at; count = count })
-            (O.state output.old) (O.state output.new) written)) }
-        ensures fails { IfErr result (RangeFails self.old (record { at = at; count = count })
-            (F.state shelf.old) (F.state shelf.new) name.now
-            (O.state output.old) (O.state output.new)) }
-        ensures files { (F.state shelf.new).files ≡ (F.state shelf.old).files }
-        ensures faults { IfOk result (λ _. (F.state shelf.new).faults
-            ≡ (F.state shelf.old).faults) }
-        ensures given { OnBody self.old (F.state shelf.old) name.now (λ b. (F.state shelf.new).given
-            ≤ (F.state shelf.old).given + body_reach self.old.content
-            (record { at = at; count = count }) b.bytes) }
-    {
         let (first, behind) = slots_of(self.content, at, count);
         let frame = frame_of(self.content);
         let mut written = 0;
@@ -376,7 +345,8 @@ impl Slots {
     }
 }
 
-/// How many bytes the content of a slot has that another one follows; none, where there is one slot.
+/// How many bytes the content of a slot has that another one follows; none, where there is one
+/// slot.
 fn frame_of(content: Content) -> u64
     ensures { result ≡ frame_length content }
 {

@@ -1,5 +1,5 @@
 use Rattle.extract_core.proofs.Writing.{IsWriting}
-use Rattle.extract_core.proofs.slots.Slots.write_slots.Given as goal
+use Rattle.extract_core.proofs.slots.Slots.write_range.Given as goal
 
 abbrev pub invariant-loop-slot : goal.invariant-loop-slot
 invariant-loop-slot g l =
