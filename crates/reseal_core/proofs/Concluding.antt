@@ -96,7 +96,7 @@ module _ {A B : Type 0} (opened : A → ManagerNow) (sealed : B → ManagerNow) 
             end = rw seen at fed.ends;
             whole = ap (λ (j : Judged). j.verdict) here.judged_is ∙ whole;
             materials = m;
-            has = record { given = mine.given.given; begins = mine.given.begins };
+            has = record { given = mine.given.given; sound = mine.given.sound; begins = mine.given.begins };
             room = rw (ap content here.judged_is) (has_room opened sealed now settings given size random fed.bytes old new before after output put resealer fed.reached m e);
             gained = subst (λ (t : List ℕ). Appends output.written last.written (message_of m size (drawn_id random) t)) (sym (ap content here.judged_is))
                 (subst (λ (x : List ℕ). Appends output.written last.written x) (sym finishes.between)
@@ -119,7 +119,7 @@ module _ {A B : Type 0} (opened : A → ManagerNow) (sealed : B → ManagerNow) 
               end = rw seen at fed.ends;
               verdict = ap (λ (j : Judged). j.verdict) here.judged_is ∙ whole;
               materials = m;
-              has = record { given = mine.given.given; begins = mine.given.begins };
+              has = record { given = mine.given.given; sound = mine.given.sound; begins = mine.given.begins };
               front = subst (λ (t : List ℕ). AppendsFront output.written last.written (message_of m size (drawn_id random) t)) (sym (ap content here.judged_is))
                   (subst (λ (x : List ℕ). AppendsFront output.written last.written x) (sym failed.between)
                   (front_after output.written put.written last.written _ failed.given gained.gained failed.failed.front));

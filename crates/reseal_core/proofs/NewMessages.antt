@@ -23,15 +23,16 @@ use Rattle.esdk_encrypt.specs.Writing.{Fed, session_of}
 use Rattle.esdk_encrypt.proofs.Input.{sink_fails, sink_takes}
 use Rattle.esdk_encrypt.proofs.Sessions.{given_is, is_fed, names_frames, room_then, session_then, written_none, written_then}
 use Rattle.reseal_core.specs.declared.new_message.NewMessage.{NewMessage}
-use Rattle.reseal_core.specs.Front.{front_of, request_for}
+use Rattle.reseal_core.specs.Front.{AreSound, front_of, request_for}
 use Rattle.reseal_core.specs.NewMessage.{AreGiven, Begins, FinishesAs, GoesOnAs, HeaderFails, IsFedText, IsWritten, put_as}
 
 -- ---- the beginning
 
 pub are_given : (saying : Saying) (now : ℕ) (request : EncRequestValue) (rest id random : List ℕ) (whole only : List KeyValue) (m : EncMaterialsValue) → request ≡ request_for whole only → rest ≡ drawn_rest random
-    → id ≡ drawn_id random → saying.gives request now rest m → start_refusal m None id ≡ None → AreGiven saying now random whole only m
-are_given saying now request rest id random whole only m asked rest_is id_is gives begins = record {
+    → id ≡ drawn_id random → saying.gives request now rest m → AreSound m → start_refusal m None id ≡ None → AreGiven saying now random whole only m
+are_given saying now request rest id random whole only m asked rest_is id_is gives sound begins = record {
   given = subst (λ (r : List ℕ). saying.gives (request_for whole only) now r m) rest_is (subst (λ (r : EncRequestValue). saying.gives r now rest m) asked gives);
+  sound = sound;
   begins = ap (λ (i : List ℕ). start_refusal m None i) (sym id_is) ∙ begins;
 }
 

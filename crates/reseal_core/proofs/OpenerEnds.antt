@@ -208,7 +208,7 @@ module _ {A B : Type 0} (opened : A → ManagerNow) (sealed : B → ManagerNow) 
           front_written : (m : EncMaterialsValue) → r.materials ≡ Some m → (made : AreMade (said_last (sealed before) (sealed end)) now random w.answer m) → WritesFront asked random made.whole made.only (content (judged_now w)) output put
           front_written m is made = record {
             materials = m;
-            has = record { given = made.given.given; begins = made.given.begins };
+            has = record { given = made.given.given; sound = made.given.sound; begins = made.given.begins };
             room = has_room opened sealed now settings given size random bytes old new before after output put resealer r m is;
             gained = (has_gained opened sealed now settings given size random bytes old new before after output put resealer r m is).gained;
           }

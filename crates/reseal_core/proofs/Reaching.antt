@@ -142,7 +142,7 @@ module _ {A B : Type 0} (opened : A → ManagerNow) (sealed : B → ManagerNow) 
         let made : AreMade (said_last (sealed before) (sealed after)) now random w.answer m =
         subst (λ (x : Option EncMaterialsValue). IsMade (said_last (sealed before) (sealed after)) now random w.answer (after ≡ before) x) is r.made in
         let front_is : WritesFront (asked old new before after) random made.whole made.only (content (judged_now w)) output put =
-        record { materials = m; has = record { given = made.given.given; begins = made.given.begins }; room = has_room m is; gained = (has_gained m is).gained } in
+        record { materials = m; has = record { given = made.given.given; sound = made.given.sound; begins = made.given.begins }; room = has_room m is; gained = (has_gained m is).gained } in
         subst (λ (b : Bool). WritesBy (asked old new before after) random answer (content (judged_now w)) b output put) (sym unlocked)
         (subst (λ (a : Unlocking). WritesBy (asked old new before after) random a (content (judged_now w)) true output put) (sym (answer_kept_is (Unlocks made.whole made.only made.key) made.answer_is)) front_is)
 
@@ -177,7 +177,7 @@ module _ {A B : Type 0} (opened : A → ManagerNow) (sealed : B → ManagerNow) 
             unlocked = ap (λ (j : Judged). j.unlocked) same_is ∙ unlocked;
           };
           front = subst (λ (t : List ℕ). WritesFront (asked old new before after) random made.whole made.only t output put) (sym (ap content same_is))
-              (record { materials = m; has = record { given = made.given.given; begins = made.given.begins }; room = has_room m is; gained = (has_gained m is).gained });
+              (record { materials = m; has = record { given = made.given.given; sound = made.given.sound; begins = made.given.begins }; room = has_room m is; gained = (has_gained m is).gained });
         }))
 
     -- ---- the step
@@ -307,7 +307,7 @@ module _ {A B : Type 0} (opened : A → ManagerNow) (sealed : B → ManagerNow) 
                 key = made.key;
                 opens = opens_first made.whole made.only made.key made.answer_is open_z input taken came few;
                 materials = m;
-                has = record { given = made.given.given; begins = made.given.begins };
+                has = record { given = made.given.given; sound = made.given.sound; begins = made.given.begins };
                 many = subst (λ (t : List ℕ). most_text size < length t) text many.many;
                 gained = subst (λ (t : List ℕ). Appends output.written now_put.written (written_so_far m size (drawn_id random) (take (most_text size) t))) text
                     (gains_all output now_put _ (gains_more output put now_put [] (front (gone_on v0 w r.materials)) _ r.gained many.gained)).gained;
@@ -326,7 +326,7 @@ module _ {A B : Type 0} (opened : A → ManagerNow) (sealed : B → ManagerNow) 
                 key = made.key;
                 opens = opens_first made.whole made.only made.key made.answer_is open_z input taken came few;
                 materials = m;
-                has = record { given = made.given.given; begins = made.given.begins };
+                has = record { given = made.given.given; sound = made.given.sound; begins = made.given.begins };
                 front = subst (λ (t : List ℕ). AppendsFront output.written now_put.written (written_so_far m size (drawn_id random) (take (most_text size) t))) text
                     (subst (λ (x : List ℕ). AppendsFront output.written now_put.written x) (sym failed.between)
                     (front_after output.written put.written now_put.written (front (gone_on v0 w r.materials)) failed.given before_it.gained failed.failed.front));
@@ -370,7 +370,7 @@ module _ {A B : Type 0} (opened : A → ManagerNow) (sealed : B → ManagerNow) 
                   key = open_is.key;
                   opens = opens_z;
                   materials = m;
-                  has = record { given = given_then.given; begins = given_then.begins };
+                  has = record { given = given_then.given; sound = given_then.sound; begins = given_then.begins };
                   front = front_after output.written put.written now_put.written [] (written_so_far m size (drawn_id random) text) nothing_put.gained
                       (front_longer put.written now_put.written (start_of m size (drawn_id random)) _ (subst (λ (x : List ℕ). AppendsFront put.written now_put.written x) header h.failed.failed.front));
                 }),
@@ -406,7 +406,7 @@ module _ {A B : Type 0} (opened : A → ManagerNow) (sealed : B → ManagerNow) 
                   why = inr (record {
                     materials = starts.materials;
                     given = subst (λ (b : B). (said_last (sealed b) (sealed end)).gives (request_for whole only) now (drawn_rest random) starts.materials) first_asked starts.given;
-                    each = starts.each;
+                    sound = starts.sound;
                     refused = starts.refused;
                   });
                   nothing = nothing_now;

@@ -53,7 +53,7 @@ module _ (from to : Answering) (settings : Settings) (given : List KeyValue) (fi
   b = run_of to settings given second size
 
   has_more : (drawn : List ℕ) (whole only : List KeyValue) (m : EncMaterialsValue) → HasMaterials a drawn whole only m → HasMaterials b drawn whole only m
-  has_more drawn whole only m has = record { given = more.gives (request_for whole only) (drawn_rest drawn) m has.given; begins = has.begins }
+  has_more drawn whole only m has = record { given = more.gives (request_for whole only) (drawn_rest drawn) m has.given; sound = has.sound; begins = has.begins }
 
   front_more : (drawn : List ℕ) (whole only : List KeyValue) (text : List ℕ) (output put : SinkState) → WritesFront a drawn whole only text output put → WritesFront b drawn whole only text output put
   front_more drawn whole only text output put front = record { materials = front.materials; has = has_more drawn whole only front.materials front.has; room = front.room; gained = front.gained }
@@ -99,7 +99,7 @@ module _ (from to : Answering) (settings : Settings) (given : List KeyValue) (fi
   fails_more input taken f = record { bytes = f.bytes; came = f.came; failed = failing_allowed from to given f.bytes (header settings (start f.bytes)) allows f.failed; last = f.last }
 
   starts_more : (drawn : List ℕ) (whole only : List KeyValue) (refusal : Refusal) → StartsNot a drawn whole only refusal → StartsNot b drawn whole only refusal
-  starts_more drawn whole only refusal s = record { materials = s.materials; given = more.gives (request_for whole only) (drawn_rest drawn) s.materials s.given; each = s.each; refused = s.refused }
+  starts_more drawn whole only refusal s = record { materials = s.materials; given = more.gives (request_for whole only) (drawn_rest drawn) s.materials s.given; sound = s.sound; refused = s.refused }
 
   pub ends_more : (drawn : List ℕ) (input taken : SourceState) (output put : SinkState) (error : InputError) → EndsSo a drawn input taken output put error → EndsSo b drawn input taken output put error
   ends_more drawn input taken output put (errors.Fault fault) e =

@@ -3,10 +3,10 @@
 use Rattle.std.specs.Prelude.{◌≡◌, ℕ, List, [], ◌++◌, Option, Some, None}
 use Rattle.esdk_base.specs.Receiver.{SinkFails, SinkTakes}
 use Rattle.esdk_base.specs.Streams.{SinkState}
-use Rattle.context_codec.specs.Context.{KeyValue}
+use Rattle.context_codec.specs.Context.{IsContext, KeyValue}
 use Rattle.context_codec.specs.Parts.{keys_of}
 use Rattle.edk_codec.specs.Entry.{Entry}
-use Rattle.keyring_trait.specs.Materials.{EncMaterialsValue}
+use Rattle.keyring_trait.specs.Materials.{AreEncMaterials, EncMaterialsValue}
 use Rattle.keyring_trait.specs.Requests.{EncRequestValue}
 use Rattle.message_format.specs.Judgement.{Judged, content}
 use Rattle.message_format.specs.Message.{message}
@@ -18,6 +18,12 @@ abbrev pub resealed : Judged → List KeyValue → List KeyValue → ℕ → Lis
     → List ℕ
 resealed j whole only size key entries id = message (content j) whole (keys_of only) size key
     entries id
+
+-- What all materials keep: the context is one and holds the required keys, and there are 1 to 64
+-- entries, each of which can be one.
+pub record AreSound (m : EncMaterialsValue) : Type 0 where
+  pub context : IsContext m.context
+  pub parts : AreEncMaterials m.context m.required m.entries
 
 -- what is asked of the manager of the new message; no length is declared
 abbrev pub request_for : List KeyValue → List KeyValue → EncRequestValue

@@ -1,5 +1,6 @@
 pub mod Errors
 pub mod Front
+pub mod Laws
 pub mod NewMessage
 pub mod Reseal
 pub mod Session

@@ -1,6 +1,7 @@
 -- The new message while it is written: which one stands for which materials and text, and what each
 -- call of it comes to.
-use Rattle.std.specs.Prelude.{◌≡◌, ◌⊎◌, ℕ, ◌<◌, ◌≤◌, List, [], length, take, All, ⊤, Option, Some, None, Result, Ok, Err}
+use Rattle.std.specs.Prelude.{◌≡◌, ◌⊎◌, ℕ, ◌<◌, ◌≤◌, List, [], length, take, ⊤}
+use Rattle.std.specs.Prelude.{Option, Some, None, Result, Ok, Err}
 use Rattle.esdk_fields.specs.declared.refusals.Refusal.{Refusal}
 use Rattle.esdk_fields.specs.declared.refusals.Refusal.TheVariants.{TooManyFrames}
 use Rattle.esdk_base.specs.declared.receiver.FeedError.{FeedError}
@@ -8,7 +9,6 @@ use Rattle.esdk_base.specs.declared.receiver.FeedError.TheVariants as feeds
 use Rattle.esdk_base.specs.declared.source.Failed.{Failed}
 use Rattle.esdk_base.specs.Streams.{SinkState}
 use Rattle.context_codec.specs.Context.{KeyValue}
-use Rattle.edk_codec.specs.Entry.{IsEntry}
 use Rattle.keyring_trait.specs.declared.manager_errors.ManagerError.{ManagerError}
 use Rattle.keyring_trait.specs.Materials.{EncMaterialsValue}
 use Rattle.keyring_trait.specs.Saying.{Saying}
@@ -23,7 +23,7 @@ use Rattle.reseal_core.specs.declared.errors.ResealError.{ResealError}
 use Rattle.reseal_core.specs.declared.errors.ResealError.TheVariants as errors
 use Rattle.reseal_core.specs.declared.new_message.NewMessage.{NewMessage}
 use Rattle.reseal_core.specs.Errors.{given_as}
-use Rattle.reseal_core.specs.Front.{Gains, GainsNotAll, front_of, request_for}
+use Rattle.reseal_core.specs.Front.{AreSound, Gains, GainsNotAll, front_of, request_for}
 
 -- a sealer with these materials was fed this text, for which a message has room; or there is none
 -- yet, and no text
@@ -49,6 +49,7 @@ pub record IsWritten (message : NewMessage) (size : ℕ) (random : List ℕ)
 pub record AreGiven (saying : Saying) (now : ℕ) (random : List ℕ) (whole only : List KeyValue)
     (m : EncMaterialsValue) : Type 0 where
   pub given : saying.gives (request_for whole only) now (drawn_rest random) m
+  pub sound : AreSound m
   pub begins : start_refusal m None (drawn_id random) ≡ None
 
 -- The manager gave no materials.
@@ -64,7 +65,7 @@ pub record StartsNot (saying : Saying) (now : ℕ) (random : List ℕ) (whole on
   pub materials : EncMaterialsValue
   pub refusal : Refusal
   pub given : saying.gives (request_for whole only) now (drawn_rest random) materials
-  pub each : All IsEntry materials.entries
+  pub sound : AreSound materials
   pub refused : start_refusal materials None (drawn_id random) ≡ Some refusal
   pub named : error ≡ errors.Refusal refusal
 

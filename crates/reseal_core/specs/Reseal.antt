@@ -1,6 +1,7 @@
 -- What resealing an input comes to. Standard: AWS Encryption SDK Specification, "Decrypt" and
 -- "Encrypt".
-use Rattle.std.specs.Prelude.{◌≡◌, ◌⊎◌, ℕ, ◌<◌, ◌≤◌, List, [], ◌++◌, length, take, All, Bool, true, Some, None}
+use Rattle.std.specs.Prelude.{◌≡◌, ◌⊎◌, ℕ, ◌<◌, ◌≤◌, List, [], ◌++◌, length, take}
+use Rattle.std.specs.Prelude.{Bool, true, Some, None}
 use Rattle.std.specs.Io.KnownBytes.{Appends}
 use Rattle.esdk_fields.specs.Counts.{Rose}
 use Rattle.esdk_base.specs.Receiver.{SinkTakes}
@@ -11,7 +12,6 @@ use Rattle.esdk_fields.specs.declared.refusals.Outside.TheVariants as outsides
 use Rattle.esdk_fields.specs.declared.refusals.Refusal.{Refusal}
 use Rattle.esdk_fields.specs.declared.refusals.Refusal.TheVariants.{TooManyFrames}
 use Rattle.context_codec.specs.Context.{KeyValue}
-use Rattle.edk_codec.specs.Entry.{IsEntry}
 use Rattle.header_codec.specs.declared.settings.Settings.{Settings}
 use Rattle.keyring_trait.specs.declared.manager_errors.ManagerError.{ManagerError}
 use Rattle.keyring_trait.specs.declared.manager_errors.ManagerError.TheVariants as managers
@@ -26,10 +26,11 @@ use Rattle.stream_seal.specs.Start.{message_of, most_text, start_refusal}
 use Rattle.whole_input.specs.Pieces.{APieceBehind, most_piece}
 use Rattle.whole_input.specs.Taken.{Came, EndSeen, MostTaken}
 use Rattle.esdk_encrypt.specs.Encrypt.{Drew, EntropyFails, drawn_id, drawn_rest, written_so_far}
-use Rattle.esdk_decrypt.specs.Decrypt.{Asked, AnswersTo, ManagerFails, asked_from, fault_at_end, fault_of}
+use Rattle.esdk_decrypt.specs.Decrypt.{Asked, AnswersTo, ManagerFails, asked_from}
+use Rattle.esdk_decrypt.specs.Decrypt.{fault_at_end, fault_of}
 use Rattle.reseal_core.specs.declared.errors.InputError.{InputError}
 use Rattle.reseal_core.specs.declared.errors.InputError.TheVariants as errors
-use Rattle.reseal_core.specs.Front.{request_for}
+use Rattle.reseal_core.specs.Front.{AreSound, request_for}
 
 -- What a run is about: the opening of the old message; how many wraps the manager of the new one
 -- makes, what it gives to a request with these random bytes, and why it gives nothing; and the new
@@ -64,6 +65,7 @@ resealing_from opened opening sealed sealing now settings given size = resealing
 pub record HasMaterials (asked : Resealing) (drawn : List ℕ) (whole only : List KeyValue)
     (m : EncMaterialsValue) : Type 0 where
   pub given : asked.gives (request_for whole only) (drawn_rest drawn) m
+  pub sound : AreSound m
   pub begins : start_refusal m None (drawn_id drawn) ≡ None
 
 -- The output gained the header of a message with such materials, and all frames of the text but the
@@ -168,7 +170,7 @@ pub record StartsNot (asked : Resealing) (drawn : List ℕ) (whole only : List K
     (refusal : Refusal) : Type 0 where
   pub materials : EncMaterialsValue
   pub given : asked.gives (request_for whole only) (drawn_rest drawn) materials
-  pub each : All IsEntry materials.entries
+  pub sound : AreSound materials
   pub refused : start_refusal materials None (drawn_id drawn) ≡ Some refusal
 
 -- The old message was unlocked, and the new one is refused, by the manager or for its header:

@@ -1,5 +1,6 @@
 -- When a resealer stands for a session, and what each call comes to.
-use Rattle.std.specs.Prelude.{◌≡◌, ◌⊎◌, ℕ, List, true, false, is_some, Option, Some, None, Result, Ok, Err}
+use Rattle.std.specs.Prelude.{◌≡◌, ◌⊎◌, ℕ, List, true, false, is_some}
+use Rattle.std.specs.Prelude.{Option, Some, None, Result, Ok, Err}
 use Rattle.esdk_base.specs.Streams.{SinkState}
 use Rattle.context_codec.specs.Context.{KeyValue}
 use Rattle.keyring_trait.specs.Manager.{ManagerNow}
@@ -18,8 +19,10 @@ use Rattle.reseal_core.specs.declared.new_message.NewMessage.{NewMessage}
 use Rattle.reseal_core.specs.declared.resealer.Resealer.{Resealer}
 use Rattle.reseal_core.specs.Errors.{opened_as}
 use Rattle.reseal_core.specs.Front.{Gains, front_of}
-use Rattle.reseal_core.specs.NewMessage.{AreGiven, FinishesAs, GoesNotOn, HeaderFails, IsNotBegun, IsWritten}
-use Rattle.reseal_core.specs.Session.{HoldsOnly, ResealingValue, front, gone_on, stopped_at, text_so_far}
+use Rattle.reseal_core.specs.NewMessage.{AreGiven, FinishesAs, GoesNotOn, HeaderFails}
+use Rattle.reseal_core.specs.NewMessage.{IsNotBegun, IsWritten}
+use Rattle.reseal_core.specs.Session.{HoldsOnly, ResealingValue, front, gone_on}
+use Rattle.reseal_core.specs.Session.{stopped_at, text_so_far}
 
 -- The session goes on: so does the opener's, and the new message is begun exactly where the old one
 -- is unlocked, and has the text that was released.

@@ -1,6 +1,7 @@
 //! An input that is resealed.
 
-ghost use Rattle.std.specs.Prelude.{◌≡◌, ◌≢◌, ◌+◌, ◌*◌, ◌≤◌, ◌^◌, ℕ, true, false, List, length, IfOk, IfErr};
+ghost use Rattle.std.specs.Prelude.{◌≡◌, ◌≢◌, ◌+◌, ◌*◌, ◌≤◌, ◌^◌, ℕ, true, false};
+ghost use Rattle.std.specs.Prelude.{List, length, IfOk, IfErr};
 ghost use Rattle.esdk_fields.specs.Counts.{Stayed};
 ghost use Rattle.context_codec.specs.Context.{KeyValue};
 ghost use Rattle.header_codec.specs.declared.settings.Settings.{Settings};
@@ -12,7 +13,8 @@ ghost use Rattle.reseal_core.specs.Reseal.{EndsSo, ResealEnds, ResealsInput, res
 ghost use Rattle.reseal_core.specs.Session.{ResealingValue, new_session};
 ghost use Rattle.reseal_core.specs.Stands.{Stands};
 ghost use Rattle.reseal_core.specs.Told.{resealing_told};
-ghost use Rattle.reseal_core.specs.Underway.{Begins, Concludes, ConcludesWhole, IsCalled, IsFedInput, IsUnstopped, UnfedAs};
+ghost use Rattle.reseal_core.specs.Underway.{Begins, Concludes, ConcludesWhole, IsCalled};
+ghost use Rattle.reseal_core.specs.Underway.{IsFedInput, IsUnstopped, UnfedAs};
 
 use crate::errors::{InputError, ResealError};
 use crate::resealer::Resealer;
@@ -43,9 +45,9 @@ pub struct ResealOptions {
 ///
 /// First 64 bytes and 12 for each wrap of `sealing` are drawn by one fill: 32 are the new message's
 /// id, and `sealing` is asked with the others. The old message is judged in order: the first fault
-/// ends the run. Once it is unlocked the new header is written, and then a frame once it is full and
-/// more of the text was released, before more is read; the final frame once the input's end was seen
-/// and the old message is whole.
+/// ends the run. Once it is unlocked the new header is written, and then a frame once it is full
+/// and more of the text was released, before more is read; the final frame once the input's end was
+/// seen and the old message is whole.
 ///
 /// Ok: the input is a whole message, the new one was written, and this is its whole context. Else:
 ///
@@ -84,8 +86,8 @@ pub fn reseal<A: Manager, B: Manager, S: Source, O: Sink, W: Entropy>(
         (W.state entropy.old) (W.state entropy.new)
         ((input.new ≡ input.old) × (output.new ≡ output.old))
         ((opening.new ≡ opening.old) × (sealing.new ≡ sealing.old))) }
-    // Over managers that are exact and tell their keys, that of the old message not failing and that
-    // of the new one plain.
+    // Over managers that are exact and tell their keys, that of the old message not failing and
+    // that of the new one plain.
     ensures reads { (keys others : List WrapKeyValue) → (A.state opening.old).tells keys
         → (A.state opening.old).exact
         → Stayed (A.state opening.old).meaning.faults (A.state opening.new).meaning.faults
@@ -156,9 +158,10 @@ fn feed_input<A: Manager, B: Manager, S: Source, O: Sink>(
     requires begins { Begins (B.state sealing.old).meaning.wraps resealer.old }
     ensures fed { (settings : Settings) (given : List KeyValue) (size : ℕ) (random : List ℕ)
         → Stands resealer.old (new_session settings given size random)
-        → IfOk result (λ end. IsFedInput A.state B.state now (new_session settings given size random)
-        (S.state input.old) (S.state input.new) opening.old opening.new sealing.old sealing.new
-        (O.state output.old) (O.state output.new) end resealer.new) }
+        → IfOk result (λ end. IsFedInput A.state B.state now
+        (new_session settings given size random) (S.state input.old) (S.state input.new)
+        opening.old opening.new sealing.old sealing.new (O.state output.old)
+        (O.state output.new) end resealer.new) }
     ensures ends { (settings : Settings) (given : List KeyValue) (size : ℕ) (random : List ℕ)
         → Stands resealer.old (new_session settings given size random)
         → IfErr result (EndsSo (resealing_from (A.state opening.old) (A.state opening.new)
@@ -184,8 +187,8 @@ fn feed_input<A: Manager, B: Manager, S: Source, O: Sink>(
     }
 }
 
-/// Where the bytes begin in the piece that aren't fed yet, of which there are some: the next piece is
-/// taken where all of this one was fed. Else why there is none.
+/// Where the bytes begin in the piece that aren't fed yet, of which there are some: the next piece
+/// is taken where all of this one was fed. Else why there is none.
 fn unfed<S: Source>(pieces: &mut Pieces, fed: usize, input: &mut S) -> Result<usize, End>
     requires { fed ≤ length pieces.old.piece }
     ensures { UnfedAs pieces.old fed (S.state input.old) (S.state input.new) pieces.new result }

@@ -9,14 +9,20 @@
 //! `specs/Front.antt` says what is written of the new message, `specs/Session.antt` what a session
 //! is worth, `specs/Stands.antt` which resealer stands for it and what each call comes to.
 //! `specs/Reseal.antt` says what resealing an input comes to over any managers, and
-//! `specs/Told.antt` over managers that tell their keys.
+//! `specs/Told.antt` over managers that tell their keys, and `specs/Laws.antt` what follows where
+//! the input tells its bytes: which inputs are resealed, and who reads what they are resealed to.
 #![tactic(auto)]
 
 mod errors;
 mod input;
+mod laws;
 mod new_message;
 mod resealer;
 
 pub use errors::{InputError, ResealError};
 pub use input::{ResealOptions, reseal};
+pub use laws::{
+    a_front_is_no_message, random_bytes_are_kept, the_first_fault_is_named,
+    whole_inputs_are_resealed, written_messages_are_rotated,
+};
 pub use resealer::Resealer;

@@ -1,8 +1,8 @@
 //! The new message of a resealer.
 
-ghost use Rattle.std.specs.Prelude.{◌≡◌, ◌≢◌, ◌+◌, ◌*◌, ◌≤◌, ℕ, [], ◌++◌, length, All, is_some, None, Some, List, Option, IfErr, IfOk, OnOk};
+ghost use Rattle.std.specs.Prelude.{◌≡◌, ◌≢◌, ◌+◌, ◌*◌, ◌≤◌, ℕ, [], ◌++◌, length, is_some};
+ghost use Rattle.std.specs.Prelude.{None, Some, List, Option, IfErr, IfOk, OnOk};
 ghost use Rattle.context_codec.specs.Parts.{keys_of};
-ghost use Rattle.edk_codec.specs.Entry.{IsEntry};
 ghost use Rattle.keyring_trait.specs.Manager.{Went};
 ghost use Rattle.keyring_trait.specs.Materials.{EncMaterialsValue};
 ghost use Rattle.keyring_trait.specs.Requests.{AllHeld};
@@ -11,8 +11,9 @@ ghost use Rattle.stream_seal.specs.Stands.{Stands};
 ghost use Rattle.stream_seal.specs.Start.{start_refusal};
 ghost use Rattle.esdk_encrypt.specs.Writing.{session_of};
 ghost use Rattle.reseal_core.specs.declared.errors.ResealError.TheVariants.{Memory};
-ghost use Rattle.reseal_core.specs.Front.{request_for};
-ghost use Rattle.reseal_core.specs.NewMessage.{BeginsAs, FinishesAs, GoesOnAs, IsRefused, IsWritten, put_as};
+ghost use Rattle.reseal_core.specs.Front.{AreSound, request_for};
+ghost use Rattle.reseal_core.specs.NewMessage.{BeginsAs, FinishesAs, GoesOnAs};
+ghost use Rattle.reseal_core.specs.NewMessage.{IsRefused, IsWritten, put_as};
 
 use crate::errors::{ResealError, given_as};
 use context_codec::{Context, PairError};
@@ -77,10 +78,11 @@ impl NewMessage {
         requires random { length self.old.random
             ≡ 64 + 12 * (B.state sealing.old).meaning.wraps }
         requires manager { Went (B.state sealing.old) (B.state sealing.old) }
-        ensures begins { (size : ℕ) (random text : List ℕ) → IsWritten self.old size random None text
-            → BeginsAs (said_last (B.state sealing.old) (B.state sealing.new)) now whole.now only.now
-            size random (O.state output.old) (O.state output.new) (output.new ≡ output.old) self.new
-            result }
+        ensures begins { (size : ℕ) (random text : List ℕ)
+            → IsWritten self.old size random None text
+            → BeginsAs (said_last (B.state sealing.old) (B.state sealing.new)) now whole.now
+            only.now size random (O.state output.old) (O.state output.new)
+            (output.new ≡ output.old) self.new result }
         ensures went { Went (B.state sealing.old) (B.state sealing.new) }
     {
         let request = request_for(alloc, whole, only)?;
@@ -165,10 +167,11 @@ fn started(
         (session_of materials.now frame_length message_id.now [])) }
     ensures taken { OnOk result (start_refusal materials.now None message_id.now ≡ None) }
     ensures cause { IfErr result (IsRefused (start_refusal materials.now None message_id.now)) }
-    ensures each { All IsEntry materials.now.entries }
+    ensures sound { AreSound materials.now }
 {
-    // Called for its clause alone, which says what the type keeps of the entries.
+    // Called for their clauses alone, which say what the types keep.
     let _entries = materials.entries();
+    let _pairs = materials.context().pairs();
     match Sealer::begin(alloc, materials, None, frame_length, None, message_id) {
         Ok(sealer) => Ok(sealer),
         Err(SealError::Refusal(refusal)) => Err(ResealError::Refusal(refusal)),

@@ -1,6 +1,7 @@
 //! A message that is resealed piece by piece.
 
-ghost use Rattle.std.specs.Prelude.{◌≡◌, ◌+◌, ◌*◌, ◌≤◌, ℕ, [], ◌++◌, length, false, true, None, Some, List, Option, Err, IfOk, IfErr};
+ghost use Rattle.std.specs.Prelude.{◌≡◌, ◌+◌, ◌*◌, ◌≤◌, ℕ, [], ◌++◌, length, false, true};
+ghost use Rattle.std.specs.Prelude.{None, Some, List, Option, Err, IfOk, IfErr};
 ghost use Rattle.std.specs.Option.{option_copied};
 ghost use Rattle.keyring_trait.specs.Manager.{Went};
 ghost use Rattle.keyring_trait.specs.Materials.{EncMaterialsValue};
@@ -9,8 +10,10 @@ ghost use Rattle.stream_open.specs.Session.{OpeningValue, asked_header, whole_co
 ghost use Rattle.stream_open.specs.Stands.{Stands as Opens};
 ghost use Rattle.reseal_core.specs.declared.errors.ResealError.TheVariants.{Stopped};
 ghost use Rattle.reseal_core.specs.NewMessage.{IsWritten};
-ghost use Rattle.reseal_core.specs.Session.{HoldsOnly, IsLocked, ResealingValue, finished, new_session};
-ghost use Rattle.reseal_core.specs.Stands.{BeginsNot, BeginsWhereDue, Finishes, HasSession, Stands, Steps};
+ghost use Rattle.reseal_core.specs.Session.{HoldsOnly, IsLocked, ResealingValue};
+ghost use Rattle.reseal_core.specs.Session.{finished, new_session};
+ghost use Rattle.reseal_core.specs.Stands.{BeginsNot, BeginsWhereDue, Finishes, HasSession};
+ghost use Rattle.reseal_core.specs.Stands.{Stands, Steps};
 
 use crate::errors::{ResealError, opened_as};
 use crate::new_message::NewMessage;
@@ -190,8 +193,8 @@ impl Resealer {
         }
     }
 
-    /// The whole context, once the message was unlocked: the pairs that its header stores, and those
-    /// that are only authenticated.
+    /// The whole context, once the message was unlocked: the pairs that its header stores, and
+    /// those that are only authenticated.
     pub fn context(&self) -> Option<&Context>
         ensures { (v : ResealingValue) → Stands self.now v
             → option_copied result ≡ whole_context v.opening }

@@ -11,7 +11,7 @@ returns-in_default-clause-begins g c = λ size random text written.
     let given : AreGiven saying c.args.now c.args.self.now.random c.args.whole.now c.args.only.now c.in-Ok.materials =
     are_given saying c.args.now c.in_ok-request.request _ c.array_of-id.result c.args.self.now.random c.args.whole.now c.args.only.now c.in-Ok.materials c.in_ok-request.ensures.request
     (c.split_at.ensures.back ∙ ap (drop 32) c.bytes.ensures) id_is
-    (c.in-Ok.ensures.gives, c.in-Ok.ensures.gave) c.in_ok-sealer.ensures.taken in
+    (c.in-Ok.ensures.gives, c.in-Ok.ensures.gave) c.in_ok-sealer.ensures.sound c.in_ok-sealer.ensures.taken in
     inl (
       refl,
       header_fails saying c.args.now c.args.whole.now c.args.only.now c.args.self.now size random text c.in-Ok.materials written given c.array_of-id.result c.header.result.now id_is
@@ -25,6 +25,6 @@ returns-clause-begins g c = λ size random text written.
     let given : AreGiven saying c.args.now c.args.self.now.random c.args.whole.now c.args.only.now c.in-Ok.materials =
     are_given saying c.args.now c.in_ok-request.request _ c.array_of-id.result c.args.self.now.random c.args.whole.now c.args.only.now c.in-Ok.materials c.in_ok-request.ensures.request
     (c.split_at.ensures.back ∙ ap (drop 32) c.bytes.ensures) id_is
-    (c.in-Ok.ensures.gives, c.in-Ok.ensures.gave) c.in_ok-sealer.ensures.taken in
+    (c.in-Ok.ensures.gives, c.in-Ok.ensures.gave) c.in_ok-sealer.ensures.sound c.in_ok-sealer.ensures.taken in
     begins saying c.args.now c.args.whole.now c.args.only.now c.args.self.now size random text c.in-Ok.materials written given c.array_of-id.result c.header.result.now id_is
     (c.header.ensures _ c.in_ok-sealer.ensures.stands) (g.O.Sink.state c.args.output.now) (g.O.Sink.state c.put.new.self) c.in_ok-sealer.sealer c.in_ok-sealer.ensures.stands c.in-Ok-put.ensures.bytes c.in-Ok-put.ensures.cause.same
