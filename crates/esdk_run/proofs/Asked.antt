@@ -7,12 +7,13 @@ use Rattle.esdk_args.specs.declared.request.EncryptWords.{EncryptWords}
 use Rattle.esdk_args.specs.declared.request.ExtractWords.{ExtractWords}
 use Rattle.esdk_args.specs.declared.request.MigrateWords.{MigrateWords}
 use Rattle.esdk_args.specs.declared.request.Request.{Request}
+use Rattle.esdk_args.specs.declared.request.ResealWords.{ResealWords}
 use Rattle.esdk_args.specs.declared.request.Request.TheVariants as requests
 use Rattle.esdk_args.specs.declared.request.WordsFault.{WordsFault}
 use Rattle.esdk_run.specs.AuditTold.{AuditsWhatIsHeld, SaysTheOpeners}
 use Rattle.esdk_run.specs.EachJob.{DoesWhatItMust, SaysEachJudgement}
 use Rattle.esdk_run.specs.Objects.{Objects, Unchanged, without_entropy}
-use Rattle.esdk_run.specs.Run.{AuditRuns, BatchRuns, DecryptRuns, EncryptRuns, ExtractRuns, GenRuns, MigrateRuns, RunsAs}
+use Rattle.esdk_run.specs.Run.{AuditRuns, BatchRuns, DecryptRuns, EncryptRuns, ExtractRuns, GenRuns, MigrateRuns, ResealRuns, RunsAs}
 use Rattle.esdk_run.specs.Served.{Generates, KeepsLimits, KeepsOtherFiles, RunsWhatIsHeld}
 use Rattle.esdk_run.specs.Told.{ComesBack, DecryptsWholeMessages, MigratesWhatIsHeld, ReadsBack, SaysTheJudgement, SaysWhatItReads, keyring_asked}
 use Rattle.esdk_run.specs.Trees.{Trees}
@@ -53,6 +54,11 @@ gen_asked : (trees : Trees) (words : Result Request WordsFault) (seed size : ℕ
     → words ≡ Ok (requests.Gen seed size) → RunsAs trees words before after unchanged code → GenRuns seed size before after unchanged code
 gen_asked trees words seed size before after unchanged code is runs =
     (subst (λ (w : Result Request WordsFault). RunsAs trees w before after unchanged code) is runs).1
+
+pub reseal_asked : (trees : Trees) (words : Result Request WordsFault) (asked : ResealWords) (before after : Objects) (unchanged : Unchanged) (code : ℕ)
+    → words ≡ Ok (requests.Reseal asked) → RunsAs trees words before after unchanged code → ResealRuns trees asked before after unchanged code
+reseal_asked trees words asked before after unchanged code is runs =
+    subst (λ (w : Result Request WordsFault). RunsAs trees w before after unchanged code) is runs
 
 pub extract_asked : (trees : Trees) (words : Result Request WordsFault) (asked : ExtractWords) (before after : Objects) (unchanged : Unchanged) (code : ℕ)
     → words ≡ Ok (requests.Extract asked) → RunsAs trees words before after unchanged code → ExtractRuns trees asked before after unchanged code

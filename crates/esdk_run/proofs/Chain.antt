@@ -1,6 +1,6 @@
 -- The chain of managers over a tree: what it gives and what it finds is what the tree does.
 use Rattle.std.proofs.Common.{◌≡◌, ◌∙◌, List, ℕ, [], None, Some, Ok, Err, refl, sym, subst, arith, take, drop}
-use Rattle.std.specs.Prelude.{filter, map, IfErr, IfOk, IfSome, ⊤}
+use Rattle.std.specs.Prelude.{filter, map, IfErr, IfSome, ⊤}
 use Rattle.std.specs.declared.option.Option.{Option}
 use Rattle.std.specs.declared.result.Result.{Result}
 use Rattle.esdk_fields.specs.declared.faults.Fault.{Fault}
@@ -11,7 +11,6 @@ use Rattle.esdk_args.specs.declared.pair_words.PairWord.{PairWord}
 use Rattle.esdk_args.specs.declared.request.EncryptWords.{EncryptWords}
 use Rattle.esdk_base.specs.Streams.{EntropyState, SinkState, SourceState}
 use Rattle.context_codec.specs.Context.{KeyValue}
-use Rattle.header_codec.specs.declared.settings.Settings.{Settings}
 use Rattle.context_codec.specs.KeySet.{AreAscendingKeys, with_keys}
 use Rattle.context_codec.proofs.KeySets.{AreAscendingKeys-with_keys, with_keys-from_nil}
 use Rattle.keyring_trait.specs.declared.manager_errors.ManagerError.{ManagerError}
@@ -29,11 +28,11 @@ use Rattle.cmm_required.specs.RequiredCmm.{required_now}
 use Rattle.esdk_encrypt.specs.declared.errors.EncryptError.{EncryptError}
 use Rattle.esdk_encrypt.specs.declared.errors.EncryptError.TheVariants as errors
 use Rattle.esdk_encrypt.specs.Encrypt.{Asked, EncryptEnds, encryption_of}
+use Rattle.esdk_encrypt.specs.Gaining.{Gaining}
 use Rattle.esdk_encrypt.specs.Told.{NoneFor}
 use Rattle.esdk_encrypt.proofs.Telling.{SaysMore, ends_more}
-use Rattle.esdk_decrypt.specs.declared.errors.DecryptError.{DecryptError}
-use Rattle.esdk_decrypt.specs.Decrypt.{Answering, Decrypts, DecryptEnds, answering_of}
-use Rattle.esdk_decrypt.proofs.Told.{Allows, asked_of, decrypts_allowed, ends_allowed}
+use Rattle.esdk_decrypt.specs.Decrypt.{Answering, answering_of}
+use Rattle.esdk_decrypt.proofs.Told.{Allows}
 use Rattle.esdk_run.specs.Decrypt.{TreeFinds, TreeFindsNone}
 use Rattle.esdk_run.specs.Encrypt.{TreeGives, encrypt_asked, refusal_asked}
 use Rattle.esdk_run.specs.Pairs.{required_in}
@@ -144,23 +143,23 @@ chain_goes {N} meaning p q keys node left is_p is_left went =
     subst (λ (l : N). TreeGoes (meaning node) (meaning l)) (sym is_left) (subst (λ (v : N × List (List ℕ)). TreeGoes (meaning v.0) (meaning q.0)) is_p on)
 
 -- what an encryption leaves of its manager plays no part
-ends_unasked : (asked : Asked) (input taken : SourceState) (output put : SinkState) (entropy spent : EntropyState) (untouched unasked : Type 0) (error : EncryptError)
-    → EncryptEnds asked input taken output put entropy spent untouched unasked error → EncryptEnds asked input taken output put entropy spent untouched ⊤ error
-ends_unasked asked input taken output put entropy spent untouched unasked (errors.Outside outsides.EntropyFault) ends =
+ends_unasked : (asked : Asked) (input taken : SourceState) (gains : Gaining) (entropy spent : EntropyState) (untouched unasked : Type 0) (error : EncryptError)
+    → EncryptEnds asked input taken gains entropy spent untouched unasked error → EncryptEnds asked input taken gains entropy spent untouched ⊤ error
+ends_unasked asked input taken gains entropy spent untouched unasked (errors.Outside outsides.EntropyFault) ends =
     record { rose = ends.rose; kept = ends.kept; same = ends.same; manager = tt }
-ends_unasked asked input taken output put entropy spent untouched unasked (errors.Outside outsides.KeyringFault) ends = ends
-ends_unasked asked input taken output put entropy spent untouched unasked (errors.Outside outside) ends = ends
-ends_unasked asked input taken output put entropy spent untouched unasked (errors.Refusal refusals.TooManyFrames) ends = ends
-ends_unasked asked input taken output put entropy spent untouched unasked (errors.Refusal (refusals.TooManyDataKeys n)) ends = ends
-ends_unasked asked input taken output put entropy spent untouched unasked (errors.Refusal (refusals.HeaderTooLong n)) ends = ends
-ends_unasked asked input taken output put entropy spent untouched unasked (errors.Refusal refusal) ends = ends
-ends_unasked asked input taken output put entropy spent untouched unasked errors.Memory ends = ends
+ends_unasked asked input taken gains entropy spent untouched unasked (errors.Outside outsides.KeyringFault) ends = ends
+ends_unasked asked input taken gains entropy spent untouched unasked (errors.Outside outside) ends = ends
+ends_unasked asked input taken gains entropy spent untouched unasked (errors.Refusal refusals.TooManyFrames) ends = ends
+ends_unasked asked input taken gains entropy spent untouched unasked (errors.Refusal (refusals.TooManyDataKeys n)) ends = ends
+ends_unasked asked input taken gains entropy spent untouched unasked (errors.Refusal (refusals.HeaderTooLong n)) ends = ends
+ends_unasked asked input taken gains entropy spent untouched unasked (errors.Refusal refusal) ends = ends
+ends_unasked asked input taken gains entropy spent untouched unasked errors.Memory ends = ends
 
-pub errs_more : (a b : Asked) (input taken : SourceState) (output put : SinkState) (entropy spent : EntropyState) (untouched unasked : Type 0) (r : Result (Unit {0}) EncryptError) → SaysMore a b
-    → IfErr r (λ error. EncryptEnds a input taken output put entropy spent untouched unasked error) → IfErr r (EncryptEnds b input taken output put entropy spent untouched ⊤)
-errs_more a b input taken output put entropy spent untouched unasked (Ok done) more ends = tt
-errs_more a b input taken output put entropy spent untouched unasked (Err error) more ends =
-    ends_unasked b input taken output put entropy spent untouched unasked error (ends_more a b input taken output put entropy spent untouched unasked error more ends)
+pub errs_more : (a b : Asked) (input taken : SourceState) (gains : Gaining) (entropy spent : EntropyState) (untouched unasked : Type 0) (r : Result (Unit {0}) EncryptError) → SaysMore a b
+    → IfErr r (λ error. EncryptEnds a input taken gains entropy spent untouched unasked error) → IfErr r (EncryptEnds b input taken gains entropy spent untouched ⊤)
+errs_more a b input taken gains entropy spent untouched unasked (Ok done) more ends = tt
+errs_more a b input taken gains entropy spent untouched unasked (Err error) more ends =
+    ends_unasked b input taken gains entropy spent untouched unasked error (ends_more a b input taken gains entropy spent untouched unasked error more ends)
 
 -- ---- materials to decrypt with
 
@@ -211,15 +210,3 @@ chain_allows {N} now meaning p q required node left is_p is_left =
     } in
     subst (λ (l : N). Allows (answering_of (chain (meaning p.0) p.1) (chain (meaning q.0) q.1) now) (tree_answers required (meaning node) (meaning l))) (sym is_left)
     (subst (λ (v : N × List (List ℕ)). Allows (answering_of (chain (meaning v.0) v.1) (chain (meaning q.0) q.1) now) (tree_answers required (meaning node) (meaning q.0))) (sym is_p) allows)
-
-pub decrypts_more : {E : Type 0} (from to : Answering) (settings : Settings) (given : List KeyValue) (input taken : SourceState) (output put : SinkState) (r : Result (List KeyValue) E)
-    → Allows from to → IfOk r (λ context. Decrypts (asked_of from settings given) input taken output put context)
-    → IfOk r (λ context. Decrypts (asked_of to settings given) input taken output put context)
-decrypts_more from to settings given input taken output put (Ok context) allows done = decrypts_allowed allows done
-decrypts_more from to settings given input taken output put (Err error) allows done = tt
-
-pub stops_more : {T : Type 0} (from to : Answering) (settings : Settings) (given : List KeyValue) (input taken : SourceState) (output put : SinkState) (unwritten : Type 0)
-    (r : Result T DecryptError) → Allows from to → IfErr r (λ error. DecryptEnds (asked_of from settings given) input taken output put unwritten error)
-    → IfErr r (DecryptEnds (asked_of to settings given) input taken output put unwritten)
-stops_more from to settings given input taken output put unwritten (Ok done) allows ends = tt
-stops_more from to settings given input taken output put unwritten (Err error) allows ends = ends_allowed from to settings given input taken output put unwritten error allows ends

@@ -14,6 +14,7 @@ use Rattle.keyring_trait.specs.Wrapping.{WrapKeyValue, first_some}
 use Rattle.esdk_encrypt.specs.declared.errors.EncryptError.{EncryptError}
 use Rattle.esdk_encrypt.specs.declared.errors.EncryptError.TheVariants as errors
 use Rattle.esdk_encrypt.specs.Encrypt.{Asked, Encrypts, EncryptEnds}
+use Rattle.esdk_encrypt.specs.Gaining.{Gaining}
 use Rattle.esdk_encrypt.specs.Laws.{FitsMessage, GainsMessage}
 use Rattle.esdk_encrypt.specs.Told.{asked_by}
 use Rattle.esdk_encrypt.proofs.Fitting.{only_memory_ends}
@@ -21,6 +22,7 @@ use Rattle.esdk_encrypt.proofs.Gaining.{gains_message}
 use Rattle.esdk_encrypt.proofs.Telling.{encrypts_more}
 use Rattle.esdk_report.specs.declared.failure.Failure.{Failure}
 use Rattle.esdk_report.specs.declared.failure.Failure.TheVariants as failures
+use Rattle.esdk_run.specs.ArmouredMessage.{form_of, output_gains}
 use Rattle.esdk_run.specs.Encrypt.{EncryptFails, encrypt_asked, refusal_asked, run_writer}
 use Rattle.esdk_run.specs.Failures.{encryption_failure}
 use Rattle.esdk_run.specs.Objects.{Objects, Unchanged, same_streams}
@@ -38,18 +40,18 @@ use Rattle.esdk_run.proofs.TreesBack.{gives_held, left_is, none_is_some, one_lef
 -- ---- how the encryption ended, where a tree is given back
 
 -- how an encryption ended, and what was said of it
-abbrev Ending : Asked → Objects → Objects → Type 0 → ℕ → Type 0
-Ending asked before after untouched code =
-    (IsDone code before.report after.report × Encrypts asked before.input after.input before.output after.output before.entropy after.entropy)
-    ⊎ ((error : EncryptError) × EncryptEnds asked before.input after.input before.output after.output before.entropy after.entropy untouched ⊤ error × Reports (encryption_failure error) code before.report after.report)
+abbrev pub Ending : Asked → Gaining → Objects → Objects → Type 0 → ℕ → Type 0
+Ending asked gains before after untouched code =
+    (IsDone code before.report after.report × Encrypts asked before.input after.input gains before.entropy after.entropy)
+    ⊎ ((error : EncryptError) × EncryptEnds asked before.input after.input gains before.entropy after.entropy untouched ⊤ error × Reports (encryption_failure error) code before.report after.report)
 
 -- The run read a tree, and the encryption under it ended so.
-record HadTree (trees : Trees) (asked : EncryptWords) (before after : Objects) (untouched : Type 0) (code : ℕ) : Type 0 where
-  context : List KeyValue
-  tree : KeyringMeaning
-  left : KeyringMeaning
-  has : HasTree trees asked.pairs asked.keyring before.shelf after.shelf context tree left
-  ended : Ending (encrypt_asked asked context tree left) before after untouched code
+pub record HadTree (trees : Trees) (asked : EncryptWords) (before after : Objects) (untouched : Type 0) (code : ℕ) : Type 0 where
+  pub context : List KeyValue
+  pub tree : KeyringMeaning
+  pub left : KeyringMeaning
+  pub has : HasTree trees asked.pairs asked.keyring before.shelf after.shelf context tree left
+  pub ended : Ending (encrypt_asked asked context tree left) (output_gains asked.armour before.output after.output) before after untouched code
 
 failed_with : (trees : Trees) (asked : EncryptWords) (before after : Objects) (unchanged : Unchanged) (code : ℕ)
     (left : KeyringMeaning) (failure : Failure) → trees.kept ≡ Some left → EncryptFails trees asked before after unchanged failure
@@ -71,7 +73,7 @@ failed_with trees asked before after unchanged code left failures.Memory kept (i
 failed_with trees asked before after unchanged code left failures.Memory kept (inr fails) said =
     record { context = fails.context; tree = fails.tree; left = fails.left; has = fails.has; ended = inr (errors.Memory, fails.ended, said) }
 
-had_tree : (trees : Trees) (asked : EncryptWords) (before after : Objects) (unchanged : Unchanged) (code : ℕ)
+pub had_tree : (trees : Trees) (asked : EncryptWords) (before after : Objects) (unchanged : Unchanged) (code : ℕ)
     (left : KeyringMeaning) → trees.kept ≡ Some left → EncryptRuns trees asked before after unchanged code
     → HadTree trees asked before after (same_streams unchanged) code
 had_tree trees asked before after unchanged code left kept (inl done) = record {
@@ -146,13 +148,13 @@ must_of_left {asked} {before} {after} {context} {left} {text} other is must =
 memory_ends : (trees : Trees) (asked : EncryptWords) (before after : Objects) (untouched : Type 0) (code : ℕ)
     (context : List KeyValue) (tree left : KeyringMeaning) (text : List ℕ) → HasTree trees asked.pairs asked.keyring before.shelf after.shelf context tree left
     → MustEncrypt asked before after context left text → Stayed tree.faults left.faults
-    → Ending (encrypt_asked asked context tree left) before after untouched code → IsDoneOrMemory code
+    → Ending (encrypt_asked asked context tree left) (output_gains asked.armour before.output after.output) before after untouched code → IsDoneOrMemory code
 memory_ends trees asked before after untouched code context tree left text has must stayed (inl done) = inl done.0.status
 memory_ends trees asked before after untouched code context tree left text has must stayed (inr (error, ends, said)) =
     let unrefused : refusal_asked asked context tree ≡ None = same_refusal asked context tree left has.goes.refuses ∙ must.unrefused in
     let allowed : IfSome asked.max_keys (λ most. tree.wraps ≤ most) = subst (λ (w : ℕ). IfSome asked.max_keys (λ most. w ≤ most)) has.goes.wraps must.allowed in
     let memory : error ≡ errors.Memory =
-    only_memory_ends (encrypt_asked asked context tree left) text before.input after.input before.output after.output before.entropy after.entropy untouched ⊤ error
+    only_memory_ends (form_of asked.armour) (encrypt_asked asked context tree left) text before.input after.input before.output after.output before.entropy after.entropy untouched ⊤ error
     (tree_grants asked context tree left has.given.is has.lawful unrefused allowed stayed) must.fits
     (record { source = must.nothing.reading; sink = must.nothing.writing; drawing = must.drawing }) ends in
     inr (memory_status (encryption_failure error) code before.report after.report (ap encryption_failure memory) said)
@@ -179,14 +181,14 @@ encrypts_what_fits trees asked before after unchanged code runs context left tex
 message_gained : (trees : Trees) (asked : EncryptWords) (before after : Objects) (untouched : Type 0) (code : ℕ)
     (context : List KeyValue) (tree left : KeyringMeaning) (keys : List WrapKeyValue) (text written : List ℕ) → HasTree trees asked.pairs asked.keyring before.shelf after.shelf context tree left
     → tree.keys ≡ Some keys → before.input.left ≡ Some text → before.output.written ≡ Some written → code ≡ 0
-    → Ending (encrypt_asked asked context tree left) before after untouched code
-    → GainsMessage (run_writer asked context keys) text written before.entropy after.output
+    → Ending (encrypt_asked asked context tree left) (output_gains asked.armour before.output after.output) before after untouched code
+    → GainsMessage (form_of asked.armour) (run_writer asked context keys) text written before.entropy after.output
 message_gained trees asked before after untouched code context tree left keys text written has told is had zero (inl done) =
     let encrypts : Encrypts (asked_by (run_writer asked context keys) (refusal_asked asked context tree) tree.faults left.faults)
-    before.input after.input before.output after.output before.entropy after.entropy =
-    encrypts_more (encrypt_asked asked context tree left) _ before.input after.input before.output after.output before.entropy after.entropy
+    before.input after.input (output_gains asked.armour before.output after.output) before.entropy after.entropy =
+    encrypts_more (encrypt_asked asked context tree left) _ before.input after.input (output_gains asked.armour before.output after.output) before.entropy after.entropy
     (told_says_more asked context tree left keys has.lawful told) done.1 in
-    gains_message (run_writer asked context keys) (refusal_asked asked context tree) tree.faults left.faults text written
+    gains_message (form_of asked.armour) (run_writer asked context keys) (refusal_asked asked context tree) tree.faults left.faults text written
     before.input after.input before.output after.output before.entropy after.entropy is had encrypts
 message_gained trees asked before after untouched code context tree left keys text written has told is had zero (inr (error, ends, said)) =
     absurd (not_done (encryption_failure error) code before.report after.report said zero)
@@ -195,6 +197,6 @@ pub writes_the_message : (trees : Trees) (asked : EncryptWords) (before after : 
     → EncryptRuns trees asked before after unchanged code → WritesTheMessage trees asked before after code
 writes_the_message trees asked before after unchanged code runs context left keys text written given kept told is had_written zero =
     let had = had_tree trees asked before after unchanged code left kept runs in
-    subst (λ (c : List KeyValue). GainsMessage (run_writer asked c keys) text written before.entropy after.output) (one_context asked.pairs had.context context had.has.given.made given)
+    subst (λ (c : List KeyValue). GainsMessage (form_of asked.armour) (run_writer asked c keys) text written before.entropy after.output) (one_context asked.pairs had.context context had.has.given.made given)
     (message_gained trees asked before after (same_streams unchanged) code had.context had.tree had.left keys text written had.has
     (told_then trees had.tree had.left left keys had.has.goes had.has.kept kept told) is had_written zero had.ended)

@@ -9,17 +9,19 @@ use Rattle.context_codec.specs.Context.{KeyValue}
 use Rattle.keyring_trait.specs.Keyring.{KeyringMeaning}
 use Rattle.esdk_decrypt.specs.declared.errors.DecryptError.{DecryptError}
 use Rattle.esdk_decrypt.specs.declared.errors.DecryptError.TheVariants as decrypting
-use Rattle.esdk_decrypt.specs.Decrypt.{Decrypts, DecryptEnds}
 use Rattle.esdk_encrypt.specs.declared.errors.EncryptError.{EncryptError}
 use Rattle.esdk_encrypt.specs.declared.errors.EncryptError.TheVariants as encrypting
 use Rattle.esdk_encrypt.specs.Encrypt.{Encrypts, EncryptEnds}
 use Rattle.esdk_report.specs.Report.{Reports}
+use Rattle.esdk_run.specs.ArmouredMessage.{output_gains}
 use Rattle.esdk_run.specs.Decrypt.{DecryptFails, DecryptionFails, decrypt_asked}
 use Rattle.esdk_run.specs.Encrypt.{EncryptFails, EncryptionFails, encrypt_asked}
 use Rattle.esdk_run.specs.Failures.{decryption_failure, encryption_failure}
 use Rattle.esdk_run.specs.Objects.{Objects, Unchanged, same_streams}
 use Rattle.esdk_run.specs.Run.{DecryptRuns, EncryptRuns, IsDone, TellsOrLacksMemory}
 use Rattle.esdk_run.specs.Trees.{HasTree, Trees}
+use Rattle.esdk_run.specs.UnarmouredDecrypt.{DecryptsAs, DecryptEndsAs}
+use Rattle.esdk_run.proofs.UnarmouredReaders.{never_shelf}
 
 -- ---- `encrypt`
 
@@ -36,8 +38,8 @@ encryption_fails trees asked before after unchanged encrypting.Memory fails = in
 pub encryption_ran : (trees : Trees) (asked : EncryptWords) (before after : Objects) (unchanged : Unchanged) (code : ℕ)
     (context : List KeyValue) (tree left : KeyringMeaning) (r : Result (Unit {0}) EncryptError)
     → HasTree trees asked.pairs asked.keyring before.shelf after.shelf context tree left
-    → OnOk r (Encrypts (encrypt_asked asked context tree left) before.input after.input before.output after.output before.entropy after.entropy)
-    → IfErr r (EncryptEnds (encrypt_asked asked context tree left) before.input after.input before.output after.output before.entropy after.entropy (same_streams unchanged) ⊤)
+    → OnOk r (Encrypts (encrypt_asked asked context tree left) before.input after.input (output_gains asked.armour before.output after.output) before.entropy after.entropy)
+    → IfErr r (EncryptEnds (encrypt_asked asked context tree left) before.input after.input (output_gains asked.armour before.output after.output) before.entropy after.entropy (same_streams unchanged) ⊤)
     → OnOk r (IsDone code before.report after.report) → IfErr r (λ error. Reports (encryption_failure error) code before.report after.report)
     → EncryptRuns trees asked before after unchanged code
 encryption_ran trees asked before after unchanged code context tree left (Ok done) has encrypts ends is said =
@@ -54,15 +56,15 @@ decryption_fails : (trees : Trees) (asked : DecryptWords) (before after : Object
     → DecryptionFails trees asked before after unchanged.output error
     → DecryptFails trees asked before after unchanged (decryption_failure error)
 decryption_fails trees asked before after unchanged (decrypting.Fault fault) fails = fails
-decryption_fails trees asked before after unchanged (decrypting.Outside outsides.ShelfFault) fails = absurd fails.ended
+decryption_fails trees asked before after unchanged (decrypting.Outside outsides.ShelfFault) fails = absurd (never_shelf asked.armour _ before.input after.input before.output after.output unchanged.output fails.ended)
 decryption_fails trees asked before after unchanged (decrypting.Outside outside) fails = fails
 decryption_fails trees asked before after unchanged decrypting.Memory fails = inr fails
 
 pub decryption_ran : (trees : Trees) (asked : DecryptWords) (before after : Objects) (unchanged : Unchanged) (code : ℕ)
     (given : List KeyValue) (tree left : KeyringMeaning) (r : Result (List KeyValue) DecryptError)
     → HasTree trees asked.pairs asked.keyring before.shelf after.shelf given tree left
-    → IfOk r (λ context. Decrypts (decrypt_asked asked given tree left) before.input after.input before.output after.output context)
-    → IfErr r (DecryptEnds (decrypt_asked asked given tree left) before.input after.input before.output after.output unchanged.output)
+    → IfOk r (DecryptsAs asked.armour (decrypt_asked asked given tree left) before.input after.input before.output after.output)
+    → IfErr r (DecryptEndsAs asked.armour (decrypt_asked asked given tree left) before.input after.input before.output after.output unchanged.output)
     → IfOk r (λ context. TellsOrLacksMemory context code before.report after.report)
     → IfErr r (λ error. Reports (decryption_failure error) code before.report after.report)
     → DecryptRuns trees asked before after unchanged code

@@ -1,5 +1,5 @@
 -- What `extract` comes to, and what it says over the tree that it gives back.
-use Rattle.std.proofs.Common.{◌≡◌, ◌⊎◌, ◌∙◌, ℕ, ◌+◌, ◌≤◌, List, None, Some, Result, Ok, Err, inl, inr, refl, sym, ap, subst, arith}
+use Rattle.std.proofs.Common.{◌≡◌, ◌⊎◌, ◌∙◌, ℕ, zero, suc, ◌+◌, ◌≤◌, List, None, Some, Result, Ok, Err, inl, inr, refl, sym, ap, subst, arith}
 use Rattle.std.specs.Prelude.{IfErr, IfOk, OnOk}
 use Rattle.std.specs.Io.KnownBytes.{Appends}
 use Rattle.std.specs.declared.option.Option.{Option}
@@ -14,15 +14,17 @@ use Rattle.keyring_trait.specs.Keyring.{KeyringMeaning}
 use Rattle.keyring_trait.specs.Unlocking.{Unlocking}
 use Rattle.keyring_trait.specs.Wrapping.{WrapKeyValue}
 use Rattle.esdk_fields.specs.Bytes.{AreBytes}
-use Rattle.message_format.specs.Judgement.{content}
+use Rattle.body_format.specs.declared.verdicts.Verdict.TheVariants.{Whole}
+use Rattle.message_format.specs.Judgement.{Judged}
 use Rattle.message_format.specs.Reading.{read, unlocking}
 use Rattle.esdk_decrypt.specs.Decrypt.{AnswersTo, Asked}
 use Rattle.esdk_decrypt.specs.Told.{Reader, answering_by, asked_by, judged_by}
 use Rattle.esdk_decrypt.proofs.Readers.{answers_unlocking, never_fails}
 use Rattle.extract_core.specs.declared.errors.ExtractError.{ExtractError}
 use Rattle.extract_core.specs.declared.errors.ExtractError.TheVariants as errors
-use Rattle.extract_core.specs.Extracted.{ByteRange, Extraction, extracted, in_range}
+use Rattle.extract_core.specs.Extracted.{ByteRange, Extraction, extracted}
 use Rattle.extract_core.specs.Extract.{ExtractEnds, Extracts, OnFile, UnlessMemory, most_read}
+use Rattle.extract_core.specs.Laws.{EndsAsItBegins, ExtractsOfWhole}
 use Rattle.extract_core.proofs.Judged.{extracts_whole}
 use Rattle.extract_core.proofs.Allowed.{extract_ends_allowed, extracts_allowed}
 use Rattle.whole_input.specs.File.{most_file}
@@ -31,7 +33,7 @@ use Rattle.esdk_report.specs.Report.{Reports}
 use Rattle.esdk_report.specs.declared.failure.Failure.{Failure}
 use Rattle.esdk_report.specs.declared.failure.Failure.TheVariants as failures
 use Rattle.esdk_run.specs.Extract.{ExtractFails, ExtractionFails, ExtractsRange, HasTreeFor, ReadsOfFile, as_decryption, extract_asked, extract_reader, no_limits, range_asked}
-use Rattle.esdk_run.specs.ExtractTold.{ComesBackBefore, ExtractsOfContent, ExtractsSoundRanges, GainsRange, IsWholeRange, NamesExtractFault, WritesOfContent, NothingFailsOf, ReadsFile, ReadsNoMore, SaysWhatItExtracts, extracted_by}
+use Rattle.esdk_run.specs.ExtractTold.{ComesBackBefore, ExtractsOfContent, ExtractsSoundRanges, GainsRange, NamesExtractFault, NothingFailsOf, ReadsFile, ReadsNoMore, SaysWhatItExtracts, WritesOfContent, extracted_by}
 use Rattle.esdk_run.specs.Failures.{extraction_failure}
 use Rattle.esdk_run.specs.FileReading.{FileFails}
 use Rattle.esdk_run.specs.Objects.{Objects, Unchanged}
@@ -192,14 +194,14 @@ held_then before middle name bytes same held = subst (λ (f : Option Files). Hol
 
 range_gained : (reader : Reader) (asked : ExtractWords) (middle : ShelfState) (before after : Objects) (unwritten : Type 0) (code : ℕ) (bytes : List ℕ) → Holds middle.files asked.from bytes → code ≡ 0
     → Ended (asked_by reader) asked middle before after unwritten code → GainsRange reader asked bytes before after
-range_gained reader asked middle before after unwritten code bytes held zero (inl (done, (written, extracts))) =
+range_gained reader asked middle before after unwritten code bytes held is_zero (inl (done, (written, extracts))) =
     let w = extracts.writes bytes held in
     let is = by_reader reader bytes (range_asked asked) w.answer w.answered in
     record {
       sound = sym (ap (λ (x : Extraction). x.fault) is) ∙ w.sound;
       gained = subst (λ (x : Extraction). Appends before.output.written after.output.written x.part) is w.gained;
     }
-range_gained reader asked middle before after unwritten code bytes held zero (inr (error, (ends, said))) = absurd (not_done (extraction_failure error) code before.report after.report said zero)
+range_gained reader asked middle before after unwritten code bytes held is_zero (inr (error, (ends, said))) = absurd (not_done (extraction_failure error) code before.report after.report said is_zero)
 
 -- an end that is called a fault is that fault
 fault_ended : (reader : Reader) (asked : ExtractWords) (middle : ShelfState) (before after : Objects) (unwritten : Type 0) (bytes : List ℕ) (fault : Fault) (error : ExtractError) → Holds middle.files asked.from bytes
@@ -226,7 +228,7 @@ pub says_what_it_extracts : (trees : Trees) (asked : ExtractWords) (before after
 says_what_it_extracts trees asked before after unchanged code runs given keys bytes reads =
     over_reader _ trees asked before after unchanged code given keys bytes runs reads
     (λ middle files faults ended. (
-      λ zero. range_gained (extract_reader asked given keys) asked middle before after unchanged.output code bytes (held_then before middle asked.from bytes files reads.held) zero ended,
+      λ is_zero. range_gained (extract_reader asked given keys) asked middle before after unchanged.output code bytes (held_then before middle asked.from bytes files reads.held) is_zero ended,
       λ one. fault_named (extract_reader asked given keys) asked middle before after unchanged.output code bytes (held_then before middle asked.from bytes files reads.held) one ended,
     ))
 
@@ -261,29 +263,62 @@ extracts_sound_ranges trees asked before after unchanged code runs given keys by
 
 -- ---- of a whole message
 
-content_is : (reader : Reader) (bytes : List ℕ) (range : ByteRange) → AreBytes bytes → IsWholeRange reader bytes range
-    → extracted_by reader bytes range ≡ record { part = in_range range 0 (content (judged_by reader bytes)); fault = None }
+whole_extracted : (reader : Reader) (bytes : List ℕ) (range : ByteRange) → AreBytes bytes
+    → (judged_by reader bytes).verdict ≡ Whole → ExtractsOfWhole bytes reader.settings
+    (unlocking bytes reader.settings reader.given reader.required reader.keys) range
 unfolding read
-content_is reader bytes range fits is =
-    extracts_whole bytes reader.settings (unlocking bytes reader.settings reader.given reader.required reader.keys) range fits is.some is.whole is.within
+whole_extracted reader bytes range fits whole =
+    extracts_whole bytes reader.settings
+    (unlocking bytes reader.settings reader.given reader.required reader.keys) range fits whole
 
-of_content : (reader : Reader) (asked : ExtractWords) (bytes : List ℕ) (before after : Objects) (code : ℕ) → AreBytes bytes → IsWholeRange reader bytes (range_asked asked)
-    → (code ≡ 0 → GainsRange reader asked bytes before after) × (code ≡ 1 → NamesExtractFault reader asked bytes before after) → WritesOfContent reader asked bytes before after code
-of_content reader asked bytes before after code fits is says =
-    let same = content_is reader bytes (range_asked asked) fits is in
+of_content : (reader : Reader) (asked : ExtractWords) (bytes : List ℕ) (before after : Objects)
+    (code : ℕ) → AreBytes bytes → (judged_by reader bytes).verdict ≡ Whole
+    → (code ≡ 0 → GainsRange reader asked bytes before after)
+    × (code ≡ 1 → NamesExtractFault reader asked bytes before after)
+    → WritesOfContent reader asked bytes before after code
+unfolding read
+of_content reader asked bytes before after code fits whole says =
+    let range : ByteRange = range_asked asked in
+    let j : Judged = judged_by reader bytes in
+    let w = whole_extracted reader bytes range fits whole in
     record {
-      writes = λ zero. subst (Appends before.output.written after.output.written) (ap (λ (x : Extraction). x.part) same) (says.0 zero).gained;
-      names = λ one. let named = says.1 one in no_fault named.fault (sym (ap (λ (x : Extraction). x.fault) same) ∙ named.cause);
+      header = w.header;
+      stands = w.stands;
+      written = λ few. subst (Appends before.output.written after.output.written) w.part
+          (gained code few says);
+      done = λ is_zero. subst (EndsAsItBegins w.header.content range j.units) (says.0 is_zero).sound w.ends;
+      named = λ one.
+          let named = says.1 one in
+          record {
+            fault = named.fault;
+            ends = subst (EndsAsItBegins w.header.content range j.units) named.cause w.ends;
+            line = named.line;
+          };
     }
   where
-    no_fault : (fault : Fault) → None ≡ Some fault → ⊥
-    no_fault fault e = cc
+    gained : (code : ℕ) → code ≤ 1 → (code ≡ 0 → GainsRange reader asked bytes before after)
+        × (code ≡ 1 → NamesExtractFault reader asked bytes before after)
+        → Appends before.output.written after.output.written
+        (extracted_by reader bytes (range_asked asked)).part
+    gained zero few says = (says.0 refl).gained
+    gained (suc zero) few says = (says.1 refl).gained
+    gained (suc (suc code)) few says = absurd (omega (arith, few))
 
-pub extracts_of_content : (trees : Trees) (asked : ExtractWords) (before after : Objects) (unchanged : Unchanged) (code : ℕ) → ExtractRuns trees asked before after unchanged code
+pub extracts_of_content : (trees : Trees) (asked : ExtractWords) (before after : Objects)
+    (unchanged : Unchanged) (code : ℕ) → ExtractRuns trees asked before after unchanged code
     → ExtractsOfContent trees asked before after code
-extracts_of_content trees asked before after unchanged code runs given keys bytes reads fits is =
-    let said = says_what_it_extracts trees asked before after unchanged code runs given keys bytes reads in
-    (said.0, record { left = said.1.left; kept = said.1.kept; is = said.1.is; so = λ stayed. of_content (extract_reader asked given keys) asked bytes before after code fits is (said.1.so stayed) })
+extracts_of_content trees asked before after unchanged code runs given keys bytes reads fits whole =
+    let said = says_what_it_extracts trees asked before after unchanged code runs given keys bytes
+    reads in (
+      said.0,
+      record {
+        left = said.1.left;
+        kept = said.1.kept;
+        is = said.1.is;
+        so = λ stayed. of_content (extract_reader asked given keys) asked bytes before after code
+            fits whole (said.1.so stayed);
+      },
+    )
 
 -- ---- how much is read
 

@@ -21,6 +21,7 @@ use Rattle.esdk_run.specs.Failures.{words_failure}
 use Rattle.esdk_run.specs.Objects.{Objects, Unchanged}
 use Rattle.esdk_run.specs.Promises.{On, Ticks, Words}
 use Rattle.esdk_run.specs.Run.{AgreesWith, draws, reads_clock, reads_input, reads_shelf, writes_shelf}
+use Rattle.esdk_run.specs.Unarmoured.{outlook_of}
 use Rattle.esdk_run.proofs.Ages.{no_ages}
 use Rattle.esdk_run.proofs.Statuses.{memory_status}
 
@@ -32,7 +33,7 @@ pub record Keeps (words : Words) (before after : Objects) (unchanged : Unchanged
   pub entropy : draws words ≡ false → unchanged.entropy
   pub clock : reads_clock words ≡ false → time.same
   pub taken : after.input.given ≤ before.input.given + 2 ^ 62
-  pub judged : On requests.List words (λ asked. OnTold before.input.left (λ bytes. AgreesWith code (input_fault asked.uncommitted bytes)))
+  pub judged : On requests.List words (λ asked. OnTold before.input.left (λ bytes. AgreesWith code (input_fault asked.uncommitted (outlook_of asked.armour bytes).bytes)))
   pub ages : On requests.Batch words (λ name. KeepsAges name before.shelf before.output after.output time.before time.after code)
 
 never : true ≡ false → ⊥
@@ -44,7 +45,7 @@ none_taken before after same = omega (arith, same)
 
 pub list_keeps : (words : Words) (asked : ListWords) (before after : Objects) (unchanged : Unchanged) (time : Ticks) (code : ℕ)
     → words ≡ Ok (requests.List asked) → after.shelf.files ≡ before.shelf.files → unchanged.shelf → unchanged.entropy → time.same
-    → after.input.given ≤ before.input.given + 2 ^ 62 → OnTold before.input.left (λ bytes. AgreesWith code (input_fault asked.uncommitted bytes))
+    → after.input.given ≤ before.input.given + 2 ^ 62 → OnTold before.input.left (λ bytes. AgreesWith code (input_fault asked.uncommitted (outlook_of asked.armour bytes).bytes))
     → Keeps words before after unchanged time code
 list_keeps words asked before after unchanged time code is files shelf entropy clock taken judged =
     subst (λ (w : Words). Keeps w before after unchanged time code) (sym is) (record {
@@ -57,7 +58,7 @@ list_keeps words asked before after unchanged time code is files shelf entropy c
       judged = λ other same.
           let both : Ok (requests.List asked) ≡ Ok (requests.List other) = same in
           let one : asked ≡ other = cc in
-          subst (λ (a : ListWords). OnTold before.input.left (λ bytes. AgreesWith code (input_fault a.uncommitted bytes))) one judged;
+          subst (λ (a : ListWords). OnTold before.input.left (λ bytes. AgreesWith code (input_fault a.uncommitted (outlook_of a.armour bytes).bytes))) one judged;
       ages = λ name no. absurd cc;
     })
 
@@ -191,18 +192,19 @@ five_agrees : (code : ℕ) (found : Option Fault) → code ≡ 5 → AgreesWith 
 five_agrees code None five = λ one. absurd (omega (arith, five, one))
 five_agrees code (Some fault) five = λ zero. absurd (omega (arith, five, zero))
 
-five_agrees_told : (code : ℕ) (uncommitted : Bool) (left : Option (List ℕ)) → code ≡ 5 → OnTold left (λ bytes. AgreesWith code (input_fault uncommitted bytes))
-five_agrees_told code uncommitted None five = tt
-five_agrees_told code uncommitted (Some bytes) five = five_agrees code (input_fault uncommitted bytes) five
+five_agrees_told : (code : ℕ) (asked : ListWords) (left : Option (List ℕ)) → code ≡ 5
+    → OnTold left (λ bytes. AgreesWith code (input_fault asked.uncommitted (outlook_of asked.armour bytes).bytes))
+five_agrees_told code asked None five = tt
+five_agrees_told code asked (Some bytes) five = five_agrees code (input_fault asked.uncommitted (outlook_of asked.armour bytes).bytes) five
 
 refused_judged : (words : Words) (asked : ListWords) (fault : WordsFault) (code : ℕ) (left : Option (List ℕ)) (report reported : SinkState)
     → AnswersWords (Err fault) words → Reports (words_failure fault) code report reported → words ≡ Ok (requests.List asked)
-    → OnTold left (λ bytes. AgreesWith code (input_fault asked.uncommitted bytes))
+    → OnTold left (λ bytes. AgreesWith code (input_fault asked.uncommitted (outlook_of asked.armour bytes).bytes))
 refused_judged words asked unread.NotRead code left report reported answers said is = absurd cc
 refused_judged words asked (unread.BadNumber name) code left report reported answers said is = absurd cc
 refused_judged words asked (unread.BadPair number) code left report reported answers said is = absurd cc
 refused_judged words asked unread.Memory code left report reported answers said is =
-    five_agrees_told code asked.uncommitted left (memory_status failures.Memory code report reported refl said)
+    five_agrees_told code asked left (memory_status failures.Memory code report reported refl said)
 
 pub refused_keeps : (words : Words) (fault : WordsFault) (before after : Objects) (unchanged : Unchanged) (time : Ticks) (code : ℕ)
     → AnswersWords (Err fault) words → Reports (words_failure fault) code before.report after.report

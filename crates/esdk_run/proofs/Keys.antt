@@ -30,7 +30,7 @@ use Rattle.esdk_run.specs.Trees.{IsLawful}
 
 -- ---- to encrypt with
 
-keys_wrap : (tree : KeyringMeaning) (keys : List WrapKeyValue) → IsLawful tree → tree.keys ≡ Some keys → tree.wraps ≡ length (active keys)
+pub keys_wrap : (tree : KeyringMeaning) (keys : List WrapKeyValue) → IsLawful tree → tree.keys ≡ Some keys → tree.wraps ≡ length (active keys)
 keys_wrap tree keys lawful told = sym (subst (λ (o : Option (List WrapKeyValue)). IfSome o (λ ws. length (active ws) ≡ tree.wraps)) told lawful.told)
 
 -- its materials are those of the keys

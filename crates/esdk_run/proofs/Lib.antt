@@ -1,3 +1,4 @@
+pub mod ArmouredMessage
 pub mod Asked
 pub mod Given
 pub mod Auditing
@@ -6,11 +7,19 @@ pub mod Chain
 pub mod Keys
 pub mod Endings
 pub mod Files
+pub mod FormatFaults
 pub mod Preparing
 pub mod Statuses
 pub mod Reading
 pub mod TreesBack
+pub mod Unarmouring
+pub mod UnarmouredDecryption
+pub mod UnarmouredListing
+pub mod UnarmouredMaps
+pub mod UnarmouredReaders
+pub mod UnarmouredTelling
 pub mod Encryption
+pub mod EarlyEnds
 pub mod Migration
 pub mod Decryption
 pub mod Extraction
@@ -25,3 +34,4 @@ mod Ages
 mod Keeping
 mod Promising
 pub mod Resealing
+pub mod ResealTold

@@ -1,10 +1,11 @@
 -- What a run promises, by its course and by what it keeps.
-use Rattle.std.proofs.Common.{◌≡◌, ℕ, None, Ok, Err, inl, inr, sym, subst}
+use Rattle.std.proofs.Common.{◌≡◌, ℕ, Bool, true, false, None, Ok, Err, inl, inr, sym, subst}
 use Rattle.esdk_args.specs.declared.request.Request.{Request}
 use Rattle.esdk_args.specs.declared.request.Request.TheVariants as requests
 use Rattle.esdk_args.specs.declared.request.WordsFault.{WordsFault}
 use Rattle.esdk_args.specs.declared.request.WordsFault.TheVariants as unread
 use Rattle.esdk_args.specs.Faults.{AnswersWords}
+use Rattle.esdk_base.specs.Streams.{SinkState, SourceState}
 use Rattle.esdk_report.specs.Report.{Reports}
 use Rattle.esdk_report.specs.declared.failure.Failure.TheVariants as failures
 use Rattle.esdk_run.specs.Failures.{words_failure}
@@ -12,11 +13,15 @@ use Rattle.esdk_run.specs.Objects.{Objects, Unchanged, same_streams}
 use Rattle.esdk_run.specs.Promises.{Promises, Ticks, Words}
 use Rattle.esdk_run.specs.Run.{RunsAs}
 use Rattle.esdk_run.specs.Trees.{IsUntouched, Trees}
-use Rattle.esdk_run.proofs.Asked.{audited_asked, comes_back, done_asked, encrypt_asked, extract_asked, judgement_asked, judgements_asked, jobs_asked, limits_asked, line_asked, migration_asked, openers_asked, others_asked, reads_asked, round_trip_asked, whole_asked}
+use Rattle.esdk_run.specs.UnarmouredList.{ListEndsAs}
+use Rattle.esdk_run.proofs.Asked.{audited_asked, comes_back, done_asked, encrypt_asked, extract_asked, judgement_asked, judgements_asked, jobs_asked, limits_asked, line_asked, migration_asked, openers_asked, others_asked, reads_asked, reseal_asked, round_trip_asked, whole_asked}
+use Rattle.esdk_run.proofs.EarlyEnds.{leaves_a_front}
 use Rattle.esdk_run.proofs.Encryption.{encrypts_what_fits, writes_the_message}
 use Rattle.esdk_run.proofs.Extraction.{extract_comes_back, extracts_of_content, extracts_sound_ranges, reads_no_more, says_what_it_extracts}
 use Rattle.esdk_run.proofs.Keeping.{Keeps}
+use Rattle.esdk_run.proofs.ResealTold.{gives_back_first, reseals_whole_messages, rotates_what_is_written, says_what_it_reseals}
 use Rattle.esdk_run.proofs.TreesBack.{none_is_some}
+use Rattle.esdk_run.proofs.Unarmouring.{unread_text}
 
 pub promised : (trees : Trees) (words : Words) (before after : Objects) (unchanged : Unchanged) (time : Ticks) (code : ℕ)
     → (unchanged.output → after.output ≡ before.output) → (unchanged.shelf → after.shelf ≡ before.shelf) → RunsAs trees words before after unchanged code → Keeps words before after unchanged time code
@@ -32,6 +37,7 @@ promised trees words before after unchanged time code same unread runs keeps = r
   judged = keeps.judged;
   message = λ asked is. writes_the_message trees asked before after unchanged code (encrypt_asked trees words asked before after unchanged code is runs);
   fits = λ asked is. encrypts_what_fits trees asked before after unchanged code (encrypt_asked trees words asked before after unchanged code is runs);
+  front = λ asked is. leaves_a_front trees asked before after unchanged code (encrypt_asked trees words asked before after unchanged code is runs);
   reads = λ asked is. reads_asked trees words asked before after unchanged code same is runs;
   judgement = λ asked is. judgement_asked trees words asked before after unchanged code is runs;
   whole = λ asked is. whole_asked trees words asked before after unchanged code is runs;
@@ -49,6 +55,10 @@ promised trees words before after unchanged time code same unread runs keeps = r
   sound_range = λ asked is. extracts_sound_ranges trees asked before after unchanged code (extract_asked trees words asked before after unchanged code is runs);
   range_of_content = λ asked is. extracts_of_content trees asked before after unchanged code (extract_asked trees words asked before after unchanged code is runs);
   extract_reads = λ asked is. reads_no_more trees asked before after unchanged code unread (extract_asked trees words asked before after unchanged code is runs);
+  reseal_tree = λ asked is. gives_back_first trees asked before after unchanged code (reseal_asked trees words asked before after unchanged code is runs);
+  resealing = λ asked is. says_what_it_reseals trees asked before after unchanged code (reseal_asked trees words asked before after unchanged code is runs);
+  resealed_whole = λ asked is. reseals_whole_messages trees asked before after unchanged code (reseal_asked trees words asked before after unchanged code is runs);
+  rotation = λ asked is. rotates_what_is_written trees asked before after unchanged code (reseal_asked trees words asked before after unchanged code is runs);
   audit = λ name is. openers_asked trees words name before after unchanged code is runs;
   audited = λ name is. audited_asked trees words name before after unchanged code is runs;
 }
@@ -68,44 +78,52 @@ fault_runs : (trees : Trees) (words : Words) (fault : WordsFault) (before after 
 fault_runs trees words fault before after unchanged code is untouched said =
     subst (λ (w : Words). RunsAs trees w before after unchanged code) (sym is) (untouched, inl said)
 
+-- Nothing is listed of an input that wasn't read.
+unlisted : (armour uncommitted : Bool) (before after : SourceState) (output put : SinkState) (unwritten : Type 0) → after ≡ before → unwritten
+    → ListEndsAs armour uncommitted before after output put unwritten failures.Memory
+unlisted false uncommitted before after output put unwritten is same = (tt, same)
+unlisted true uncommitted before after output put unwritten is same =
+    subst (λ (taken : SourceState). ListEndsAs true uncommitted before taken output put unwritten failures.Memory) (sym is)
+    (unread_text before _ (λ seen. (tt, same)))
+
 -- of words that memory didn't suffice to read
 memory_runs : (trees : Trees) (words : Words) (before after : Objects) (unchanged : Unchanged) (code : ℕ)
-    → trees.kept ≡ None → unchanged.input → unchanged.output → unchanged.entropy → after.shelf.files ≡ before.shelf.files
+    → trees.kept ≡ None → after.input ≡ before.input → unchanged.input → unchanged.output → unchanged.entropy → after.shelf.files ≡ before.shelf.files
     → Reports failures.Memory code before.report after.report → RunsAs trees words before after unchanged code
-memory_runs trees (Ok (requests.List asked)) before after unchanged code none input output entropy files said =
-    (none, inr (record { failure = failures.Memory; because = (tt, output); said = said }))
-memory_runs trees (Ok (requests.Encrypt asked)) before after unchanged code none input output entropy files said =
+memory_runs trees (Ok (requests.List asked)) before after unchanged code none is input output entropy files said =
+    (none, inr (record { failure = failures.Memory; because = unlisted asked.armour asked.uncommitted before.input after.input before.output after.output unchanged.output is output; said = said }))
+memory_runs trees (Ok (requests.Encrypt asked)) before after unchanged code none is input output entropy files said =
     inr (record { failure = failures.Memory; because = inl (record { same = ((input, output), entropy); none = none }); said = said })
-memory_runs trees (Ok (requests.Decrypt asked)) before after unchanged code none input output entropy files said =
+memory_runs trees (Ok (requests.Decrypt asked)) before after unchanged code none is input output entropy files said =
     inr (record { failure = failures.Memory; because = inl (record { same = (input, output); none = none }); said = said })
-memory_runs trees (Ok (requests.Migrate asked)) before after unchanged code none input output entropy files said =
+memory_runs trees (Ok (requests.Migrate asked)) before after unchanged code none is input output entropy files said =
     (none, inr (record { failure = failures.Memory; because = (tt, output); said = said }))
-memory_runs trees (Ok (requests.Batch name)) before after unchanged code none input output entropy files said =
+memory_runs trees (Ok (requests.Batch name)) before after unchanged code none is input output entropy files said =
     inr (record {
       failure = failures.Memory;
       because = ((λ left kept. absurd (none_is_some trees left kept none), inl files), output);
       said = said;
     })
-memory_runs trees (Ok (requests.Gen seed size)) before after unchanged code none input output entropy files said =
+memory_runs trees (Ok (requests.Gen seed size)) before after unchanged code none is input output entropy files said =
     (none, inr (record { failure = failures.Memory; because = output; said = said }))
-memory_runs trees (Ok (requests.Extract asked)) before after unchanged code none input output entropy files said =
+memory_runs trees (Ok (requests.Extract asked)) before after unchanged code none is input output entropy files said =
     inr (record { failure = failures.Memory; because = inl (record { same = output; none = none }); said = said })
-memory_runs trees (Ok (requests.Audit name)) before after unchanged code none input output entropy files said =
+memory_runs trees (Ok (requests.Audit name)) before after unchanged code none is input output entropy files said =
     inr (record { failure = failures.Memory; because = (λ left kept. absurd (none_is_some trees left kept none), output); said = said })
-memory_runs trees (Ok (requests.Reseal asked)) before after unchanged code none input output entropy files said =
+memory_runs trees (Ok (requests.Reseal asked)) before after unchanged code none is input output entropy files said =
     inr (record { failure = failures.Memory; because = inl (record { same = ((input, output), entropy); none = none }); said = said })
-memory_runs trees (Err fault) before after unchanged code none input output entropy files said =
+memory_runs trees (Err fault) before after unchanged code none is input output entropy files said =
     (record { same = (input, output); none = none }, inr said)
 
 pub refused_runs : (trees : Trees) (words : Words) (fault : WordsFault) (before after : Objects) (unchanged : Unchanged) (code : ℕ)
-    → AnswersWords (Err fault) words → trees.kept ≡ None → unchanged.input → unchanged.output → unchanged.entropy
+    → AnswersWords (Err fault) words → trees.kept ≡ None → after.input ≡ before.input → unchanged.input → unchanged.output → unchanged.entropy
     → after.shelf.files ≡ before.shelf.files → Reports (words_failure fault) code before.report after.report
     → RunsAs trees words before after unchanged code
-refused_runs trees words unread.NotRead before after unchanged code answers none input output entropy files said =
+refused_runs trees words unread.NotRead before after unchanged code answers none is input output entropy files said =
     fault_runs trees words unread.NotRead before after unchanged code answers (record { same = (input, output); none = none }) said
-refused_runs trees words (unread.BadNumber name) before after unchanged code answers none input output entropy files said =
+refused_runs trees words (unread.BadNumber name) before after unchanged code answers none is input output entropy files said =
     fault_runs trees words (unread.BadNumber name) before after unchanged code answers (record { same = (input, output); none = none }) said
-refused_runs trees words (unread.BadPair number) before after unchanged code answers none input output entropy files said =
+refused_runs trees words (unread.BadPair number) before after unchanged code answers none is input output entropy files said =
     fault_runs trees words (unread.BadPair number) before after unchanged code answers (record { same = (input, output); none = none }) said
-refused_runs trees words unread.Memory before after unchanged code answers none input output entropy files said =
-    memory_runs trees words before after unchanged code none input output entropy files said
+refused_runs trees words unread.Memory before after unchanged code answers none is input output entropy files said =
+    memory_runs trees words before after unchanged code none is input output entropy files said

@@ -1,6 +1,8 @@
 -- What is read of the bytes that a decryption took, with a reader's keys.
-use Rattle.std.proofs.Common.{◌≡◌, ◌⊎◌, ◌∙◌, ℕ, List, inl, inr, sym, ap, subst}
+use Rattle.std.proofs.Common.{◌≡◌, ◌⊎◌, ◌∙◌, ℕ, Bool, List, inl, inr, sym, ap, subst}
+use Rattle.std.specs.Prelude.{⊤}
 use Rattle.std.specs.Io.KnownBytes.{Appends}
+use Rattle.whole_input.specs.Taken.{EndSeen}
 use Rattle.whole_input.specs.Written.{WritesBeyond}
 use Rattle.esdk_fields.specs.declared.faults.Fault.{Fault}
 use Rattle.esdk_fields.specs.declared.refusals.Outside.TheVariants as outsides
@@ -13,16 +15,18 @@ use Rattle.esdk_decrypt.specs.Decrypt.{Asked, Decrypts, DecryptEnds, HasFault, R
 use Rattle.esdk_decrypt.specs.Told.{Reader, asked_by, judged_by}
 use Rattle.esdk_decrypt.proofs.Readers.{answers_unlocking, judged_first, judged_reader, never_fails}
 use Rattle.esdk_run.specs.Failures.{decryption_failure}
-use Rattle.esdk_run.specs.Objects.{Objects}
-use Rattle.esdk_run.specs.Read.{EndsAsRead, GainsFront, GainsRead, ReadsFault, ReadsWhole, SaysWhatIsRead}
+use Rattle.esdk_run.specs.Objects.{Objects, with_input}
+use Rattle.esdk_run.specs.Read.{EndsAsRead, GainsFront, GainsRead, ReadsFault, ReadsNoFault, ReadsWhole, SaysWhatIsReadAs}
 use Rattle.esdk_report.specs.Report.{Reports}
 use Rattle.esdk_run.specs.Run.{TellsOrLacksMemory}
+use Rattle.esdk_run.specs.UnarmouredDecrypt.{DecryptsAs, DecryptEndsAs, ReleasesSound}
+use Rattle.esdk_run.proofs.UnarmouredMaps.{all_then, ends_then}
 
 -- how a decryption ended, and what was said of it
-abbrev pub Ending : Asked → Objects → Objects → Type 0 → ℕ → Type 0
-Ending asked before after unwritten code =
-    ((context : List KeyValue) × Decrypts asked before.input after.input before.output after.output context × TellsOrLacksMemory context code before.report after.report)
-    ⊎ ((error : DecryptError) × DecryptEnds asked before.input after.input before.output after.output unwritten error × Reports (decryption_failure error) code before.report after.report)
+abbrev pub Ending : (armour : Bool) → Asked → Objects → Objects → Type 0 → ℕ → Type 0
+Ending armour asked before after unwritten code =
+    ((context : List KeyValue) × DecryptsAs armour asked before.input after.input before.output after.output context × TellsOrLacksMemory context code before.report after.report)
+    ⊎ ((error : DecryptError) × DecryptEndsAs armour asked before.input after.input before.output after.output unwritten error × Reports (decryption_failure error) code before.report after.report)
 
 -- ---- what was released is what is read
 
@@ -120,8 +124,25 @@ ends_as_read reader before after unwritten errors.Memory same lost = record {
   unwritten = same lost.1;
 }
 
-pub says_what_is_read : (reader : Reader) (before after : Objects) (unwritten : Type 0) (code : ℕ) → (unwritten → after.output ≡ before.output)
-    → Ending (asked_by reader) before after unwritten code → SaysWhatIsRead reader before after code
-says_what_is_read reader before after unwritten code same (inl (context, done, told)) = inl (reads_whole reader before after code context done told)
-says_what_is_read reader before after unwritten code same (inr (error, ends, said)) =
-    inr (record { failure = decryption_failure error; because = ends_as_read reader before after unwritten error same ends; said = said })
+-- of bytes that have no fault
+sound_as_read : (reader : Reader) (before after : Objects) (cause : List ℕ → Type 0) → ReleasesSound (asked_by reader) before.input after.input before.output after.output cause
+    → ReadsNoFault reader before after cause
+sound_as_read reader before after cause x = record {
+  bytes = x.bytes;
+  gains = gains_read reader before after x.bytes x.answer x.releases;
+  sound = ap (λ (j : Judged). fault_of j.verdict) (sym (judged_reader reader x.bytes x.answer x.releases.answered)) ∙ x.sound;
+  because = x.because;
+}
+
+pub says_what_is_read : (armour : Bool) (reader : Reader) (before after : Objects) (unwritten : Type 0) (code : ℕ) → (unwritten → after.output ≡ before.output)
+    → Ending armour (asked_by reader) before after unwritten code → SaysWhatIsReadAs armour reader before after code
+says_what_is_read armour reader before after unwritten code same (inl (context, done, told)) =
+    inl (all_then armour before.input after.input _ _ (λ seen read so. reads_whole reader (with_input before seen) (with_input after read) code context so told) done)
+says_what_is_read armour reader before after unwritten code same (inr (error, ends, said)) = inr (record {
+  failure = decryption_failure error;
+  because = ends_then armour (decryption_failure error) before.input after.input _ _ _ _ _ _
+      (λ seen read so. ends_as_read reader (with_input before seen) (with_input after read) unwritten error same so)
+      (λ seen read all. sound_as_read reader (with_input before seen) (with_input after read) (EndSeen seen read) all)
+      (λ seen read sound. sound_as_read reader (with_input before seen) (with_input after read) (λ bytes. ⊤) sound) ends;
+  said = said;
+})

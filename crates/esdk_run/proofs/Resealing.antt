@@ -37,7 +37,7 @@ use Rattle.esdk_run.proofs.Chain.{same_keys, where_some}
 
 -- ---- the second tree
 
-seal_refusal : (context : List KeyValue) (tree : KeyringMeaning) → request_refusal (default_now tree).meaning context ≡ refusal_sealing context tree
+pub seal_refusal : (context : List KeyValue) (tree : KeyringMeaning) → request_refusal (default_now tree).meaning context ≡ refusal_sealing context tree
 unfolding request_refusal refusal_sealing
 seal_refusal context tree = refl
 
@@ -72,7 +72,7 @@ giving old new = record {
   gives_none = GivesNone old new;
 }
 
-abbrev tree_giving : KeyringMeaning → KeyringMeaning → Giving
+abbrev pub tree_giving : KeyringMeaning → KeyringMeaning → Giving
 tree_giving tree later = record {
   wraps = tree.wraps;
   gives = TreeSeals tree;

@@ -55,7 +55,7 @@ pub record HadTree (trees : Trees) (asked : DecryptWords) (before after : Object
   pub tree : KeyringMeaning
   pub left : KeyringMeaning
   pub has : HasTree trees asked.pairs asked.keyring before.shelf after.shelf given tree left
-  pub ended : Ending (decrypt_asked asked given tree left) before after unwritten code
+  pub ended : Ending asked.armour (decrypt_asked asked given tree left) before after unwritten code
 
 failed_with : (trees : Trees) (asked : DecryptWords) (before after : Objects) (unchanged : Unchanged) (code : ℕ) (left : KeyringMeaning)
     (failure : Failure) → trees.kept ≡ Some left → DecryptFails trees asked before after unchanged failure → Reports failure code before.report after.report

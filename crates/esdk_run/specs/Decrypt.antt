@@ -16,13 +16,14 @@ use Rattle.keyring_trait.specs.Unlocking.{pair_offence}
 use Rattle.keyring_trait.specs.Wrapping.{WrapKeyValue, unwrapped}
 use Rattle.esdk_decrypt.specs.declared.errors.DecryptError.{DecryptError}
 use Rattle.esdk_decrypt.specs.declared.errors.DecryptError.TheVariants as errors
-use Rattle.esdk_decrypt.specs.Decrypt.{Asked, Decrypts, DecryptEnds}
+use Rattle.esdk_decrypt.specs.Decrypt.{Asked}
 use Rattle.esdk_decrypt.specs.Told.{Reader}
 use Rattle.esdk_report.specs.declared.failure.Failure.{Failure}
 use Rattle.esdk_report.specs.declared.failure.Failure.TheVariants as failures
 use Rattle.esdk_run.specs.Objects.{Objects, Unchanged, same_streams}
 use Rattle.esdk_run.specs.Pairs.{RefusesWordPairs, required_in}
 use Rattle.esdk_run.specs.Trees.{HasNoTree, HasTree, IsUntouched, Trees}
+use Rattle.esdk_run.specs.UnarmouredDecrypt.{DecryptsAs, DecryptEndsAs}
 
 -- the limits that the words set, and whether they allow a message without a commitment
 abbrev pub limits_of : DecryptWords → Settings
@@ -71,13 +72,13 @@ reader_of asked given keys = record {
 
 -- ---- how it ends
 
--- The words give these pairs, the keyring file is read as a tree, the whole input is a whole message to them, and the output gained its content. This is its whole context.
+-- The words give these pairs, the keyring file is read as a tree, the whole input, which may be read as armour, is a whole message to them, and the output gained its content. This is its whole context.
 pub record DecryptsInput (trees : Trees) (asked : DecryptWords) (before after : Objects) (context : List KeyValue) : Type 0 where
   pub given : List KeyValue
   pub tree : KeyringMeaning
   pub left : KeyringMeaning
   pub has : HasTree trees asked.pairs asked.keyring before.shelf after.shelf given tree left
-  pub done : Decrypts (decrypt_asked asked given tree left) before.input after.input before.output after.output context
+  pub done : DecryptsAs asked.armour (decrypt_asked asked given tree left) before.input after.input before.output after.output context
 
 -- The words give these pairs, the keyring file is read as a tree, and the decryption ended with this error.
 pub record DecryptionFails (trees : Trees) (asked : DecryptWords) (before after : Objects) (unwritten : Type 0) (error : DecryptError) : Type 0 where
@@ -85,7 +86,7 @@ pub record DecryptionFails (trees : Trees) (asked : DecryptWords) (before after 
   pub tree : KeyringMeaning
   pub left : KeyringMeaning
   pub has : HasTree trees asked.pairs asked.keyring before.shelf after.shelf given tree left
-  pub ended : DecryptEnds (decrypt_asked asked given tree left) before.input after.input before.output after.output unwritten error
+  pub ended : DecryptEndsAs asked.armour (decrypt_asked asked given tree left) before.input after.input before.output after.output unwritten error
 
 -- Why an input wasn't decrypted, and what that left. Want of memory is free.
 abbrev pub DecryptFails : Trees → DecryptWords → Objects → Objects → Unchanged → Failure → Type 0

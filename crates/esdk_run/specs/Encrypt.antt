@@ -16,6 +16,7 @@ use Rattle.esdk_encrypt.specs.Encrypt.{Asked, Encrypts, EncryptEnds}
 use Rattle.esdk_encrypt.specs.Told.{NoneFor, Writer}
 use Rattle.esdk_report.specs.declared.failure.Failure.{Failure}
 use Rattle.esdk_report.specs.declared.failure.Failure.TheVariants as failures
+use Rattle.esdk_run.specs.ArmouredMessage.{output_gains}
 use Rattle.esdk_run.specs.Objects.{Objects, Unchanged, same_streams}
 use Rattle.esdk_run.specs.Pairs.{RefusesWordPairs, required_in}
 use Rattle.esdk_run.specs.Trees.{HasNoTree, HasTree, IsUntouched, Trees}
@@ -60,13 +61,13 @@ run_writer asked context keys = record {
 
 -- ---- how it ends
 
--- The words give a context, the keyring file is read as a tree, and the output gained the message of the whole input.
+-- The words give a context, the keyring file is read as a tree, and the output gained the message of the whole input, in the form that the words ask for.
 pub record EncryptsInput (trees : Trees) (asked : EncryptWords) (before after : Objects) : Type 0 where
   pub context : List KeyValue
   pub tree : KeyringMeaning
   pub left : KeyringMeaning
   pub has : HasTree trees asked.pairs asked.keyring before.shelf after.shelf context tree left
-  pub done : Encrypts (encrypt_asked asked context tree left) before.input after.input before.output after.output before.entropy after.entropy
+  pub done : Encrypts (encrypt_asked asked context tree left) before.input after.input (output_gains asked.armour before.output after.output) before.entropy after.entropy
 
 -- The words give a context, the keyring file is read as a tree, and the encryption ended with this error.
 pub record EncryptionFails (trees : Trees) (asked : EncryptWords) (before after : Objects) (untouched : Type 0) (error : EncryptError) : Type 0 where
@@ -74,7 +75,7 @@ pub record EncryptionFails (trees : Trees) (asked : EncryptWords) (before after 
   pub tree : KeyringMeaning
   pub left : KeyringMeaning
   pub has : HasTree trees asked.pairs asked.keyring before.shelf after.shelf context tree left
-  pub ended : EncryptEnds (encrypt_asked asked context tree left) before.input after.input before.output after.output before.entropy after.entropy untouched ⊤ error
+  pub ended : EncryptEnds (encrypt_asked asked context tree left) before.input after.input (output_gains asked.armour before.output after.output) before.entropy after.entropy untouched ⊤ error
 
 -- Why an input wasn't encrypted, and what that left. Want of memory is free.
 abbrev pub EncryptFails : Trees → EncryptWords → Objects → Objects → Unchanged → Failure → Type 0

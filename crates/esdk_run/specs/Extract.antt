@@ -28,6 +28,7 @@ as_decryption asked = record {
   max_keys = None;
   max_unit = None;
   uncommitted = false;
+  armour = false;
   pairs = asked.pairs;
 }
 

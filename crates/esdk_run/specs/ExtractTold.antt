@@ -1,13 +1,15 @@
 -- What `extract` says over the tree that it gives back, where the shelf tells the message's file.
-use Rattle.std.specs.Prelude.{◌≡◌, ◌≢◌, ℕ, ◌+◌, ◌<◌, ◌≤◌, ◌⊎◌, List, length, None, Some, Ok}
+use Rattle.std.specs.Prelude.{◌≡◌, ◌≢◌, ℕ, ◌+◌, ◌≤◌, ◌⊎◌, List, None, Some, Ok}
 use Rattle.std.specs.Io.KnownBytes.{Appends}
 use Rattle.esdk_args.specs.declared.request.ExtractWords.{ExtractWords}
 use Rattle.esdk_fields.specs.Bytes.{AreBytes}
 use Rattle.esdk_fields.specs.Counts.{Stayed}
+use Rattle.esdk_fields.specs.declared.contents.Content.{Content}
 use Rattle.esdk_fields.specs.declared.faults.Fault.{Fault}
 use Rattle.esdk_base.specs.Shelf.{Holds}
 use Rattle.esdk_base.specs.Streams.{ShelfState}
 use Rattle.context_codec.specs.Context.{KeyValue}
+use Rattle.header_codec.specs.Header.{HeaderValue}
 use Rattle.keyring_trait.specs.Keyring.{KeyringMeaning}
 use Rattle.keyring_trait.specs.Wrapping.{WrapKeyValue}
 use Rattle.body_format.specs.declared.verdicts.Verdict.TheVariants.{Whole}
@@ -15,7 +17,8 @@ use Rattle.message_format.specs.Judgement.{content}
 use Rattle.message_format.specs.Reading.{unlocking}
 use Rattle.esdk_decrypt.specs.Told.{Reader, judged_by}
 use Rattle.extract_core.specs.Extracted.{ByteRange, Extraction, extracted, in_range}
-use Rattle.extract_core.specs.Extract.{most_read}
+use Rattle.extract_core.specs.Extract.{IsHeaderOf, most_read}
+use Rattle.extract_core.specs.Laws.{BeginsWithin, EndsAsItBegins}
 use Rattle.whole_input.specs.File.{most_file}
 use Rattle.whole_input.specs.Pieces.{most_piece}
 use Rattle.esdk_report.specs.Lines.{fault_line, printed_line}
@@ -98,27 +101,36 @@ ExtractsSoundRanges trees asked before after code =
     → NothingFailsOf before after
     → IfNoneFailedBefore trees asked before.shelf (IsDoneOrMemory code)
 
--- This reader reads a whole message, and the range isn't empty and begins within its content.
-pub record IsWholeRange (reader : Reader) (bytes : List ℕ) (range : ByteRange) : Type 0 where
-  pub whole : (judged_by reader bytes).verdict ≡ Whole
-  pub some : 1 ≤ range.count
-  pub within : range.at < length (content (judged_by reader bytes))
+-- This fault of a range that begins behind the slots of a whole message is named.
+pub record NamesRangeBehind (content : Content) (range : ByteRange) (units : List (List ℕ))
+    (before after : Objects) : Type 0 where
+  pub fault : Fault
+  pub ends : EndsAsItBegins content range units (Some fault)
+  pub line : Gains (printed_line (fault_line fault)) before.report after.report
 
--- The output gained the bytes of the range, as far as there are any, of what `decrypt` writes, and
--- no fault is named.
+-- At status 0 and 1 the output gained the bytes of the range, as far as there are any, of what
+-- `decrypt` writes: none, where the range begins at their end or behind it. Status 0 comes where
+-- the range is empty or begins within the message's slots, and status 1 where it begins behind
+-- them, with M10, or with M18 where the end of the last tag stands in the range's first slot.
 pub record WritesOfContent (reader : Reader) (asked : ExtractWords) (bytes : List ℕ)
     (before after : Objects) (code : ℕ) : Type 0 where
-  pub writes : code ≡ 0 → Appends before.output.written after.output.written
+  pub header : HeaderValue
+  pub stands : IsHeaderOf reader.settings header bytes
+  pub written : code ≤ 1 → Appends before.output.written after.output.written
       (in_range (range_asked asked) 0 (content (judged_by reader bytes)))
-  pub names : code ≢ 1
+  pub done : code ≡ 0
+      → BeginsWithin header.content (range_asked asked) (judged_by reader bytes).units
+  pub named : code ≡ 1
+      → NamesRangeBehind header.content (range_asked asked) (judged_by reader bytes).units
+      before after
 
 -- Of a whole message the bytes of the range are written, as far as there are any, of those that
--- `decrypt` writes by the same words.
+-- `decrypt` writes by the same words; whatever the range.
 abbrev pub ExtractsOfContent : Trees → ExtractWords → Objects → Objects → ℕ → Type 0
 ExtractsOfContent trees asked before after code =
     (given : List KeyValue) (keys : List WrapKeyValue) (bytes : List ℕ)
     → ReadsFile trees asked before given keys bytes → AreBytes bytes
-    → IsWholeRange (extract_reader asked given keys) bytes (range_asked asked)
+    → (judged_by (extract_reader asked given keys) bytes).verdict ≡ Whole
     → IfNoneFailedBefore trees asked before.shelf
     (WritesOfContent (extract_reader asked given keys) asked bytes before after code)
 

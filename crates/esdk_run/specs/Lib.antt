@@ -1,4 +1,6 @@
+pub mod ArmouredMessage
 pub mod Decrypt
+pub mod EarlyEnd
 pub mod Encrypt
 pub mod Failures
 pub mod FileReading
@@ -22,3 +24,9 @@ pub mod Ages
 pub mod AuditTold
 pub mod Promises
 pub mod Reseal
+pub mod ResealTold
+pub mod Unarmoured
+pub mod UnarmouredDecrypt
+pub mod UnarmouredEnd
+pub mod UnarmouredList
+pub mod UnarmouredTold

@@ -19,6 +19,10 @@ objects input output shelf entropy report = record {
   report = report;
 }
 
+-- these objects, but for the input
+abbrev pub with_input : Objects → SourceState → Objects
+with_input objects input = record objects { input = input }
+
 -- What says of an object that it is as before, itself and not only what it tells.
 pub record Unchanged : Type 1 where
   pub input : Type 0

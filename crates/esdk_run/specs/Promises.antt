@@ -13,7 +13,10 @@ use Rattle.esdk_run.specs.ExtractTold.{ComesBackBefore, ExtractsOfContent, Extra
 use Rattle.esdk_run.specs.ExtractTold.{SaysWhatItExtracts}
 use Rattle.esdk_run.specs.AuditTold.{AuditsWhatIsHeld, SaysTheOpeners}
 use Rattle.esdk_run.specs.EachJob.{DoesWhatItMust, SaysEachJudgement}
+use Rattle.esdk_run.specs.EarlyEnd.{LeavesAFront}
 use Rattle.esdk_run.specs.Objects.{Objects, Unchanged}
+use Rattle.esdk_run.specs.ResealTold.{GivesBackFirst, ResealsWholeMessages, RotatesWhatIsWritten}
+use Rattle.esdk_run.specs.ResealTold.{SaysWhatItReseals}
 use Rattle.esdk_run.specs.Run.{AgreesWith, draws, reads_clock, reads_input, reads_shelf}
 use Rattle.esdk_run.specs.Run.{writes_shelf}
 use Rattle.esdk_run.specs.Served.{Generates, KeepsLimits, KeepsOtherFiles, RunsWhatIsHeld}
@@ -21,6 +24,7 @@ use Rattle.esdk_run.specs.Told.{ComesBack, DecryptsWholeMessages, EncryptsWhatFi
 use Rattle.esdk_run.specs.Told.{MigratesWhatIsHeld, ReadsBack, SaysTheJudgement, SaysWhatItReads}
 use Rattle.esdk_run.specs.Told.{WritesTheMessage, keyring_asked}
 use Rattle.esdk_run.specs.Trees.{Trees}
+use Rattle.esdk_run.specs.Unarmoured.{outlook_of}
 
 -- what the words ask for, or why they are refused
 abbrev pub Words : Type 0
@@ -62,15 +66,20 @@ pub record Promises (trees : Trees) (words : Words) (before after : Objects)
   pub tree : IfSome (keyring_asked words)
       (λ asked. ComesBack trees asked.0 asked.1 before.shelf after.shelf code)
   -- `list`: no input that begins with a header and its tag is refused for a fault, and no other is
-  -- done.
+  -- done. Of an armoured input that is said of the bytes that its text gives.
   pub judged : On requests.List words (λ asked. OnTold before.input.left
-      (λ bytes. AgreesWith code (input_fault asked.uncommitted bytes)))
-  -- `encrypt`: the output gains the message of the input.
+      (λ bytes. AgreesWith code
+      (input_fault asked.uncommitted (outlook_of asked.armour bytes).bytes)))
+  -- `encrypt`: the output gains the message of the input, as it is or as armour text.
   pub message : On requests.Encrypt words
       (λ asked. WritesTheMessage trees asked before after code)
   -- `encrypt`: an input that fits into a message is done, unless memory runs out or an object
   -- fails.
   pub fits : On requests.Encrypt words (λ asked. EncryptsWhatFits trees asked before after code)
+  -- `encrypt`: where it ends early, the output gains no more than a front of the message of the bytes
+  -- taken, in the same form.
+  pub front : On requests.Encrypt words
+      (λ asked. LeavesAFront trees asked before after unchanged code)
   -- `decrypt`: of the bytes taken, what the keys of the tree read of them decides, whatever the
   -- objects tell.
   pub reads : On requests.Decrypt words (λ asked. SaysWhatItReads trees asked before after code)
@@ -123,6 +132,22 @@ pub record Promises (trees : Trees) (words : Words) (before after : Objects)
       (λ asked. ExtractsOfContent trees asked before after code)
   -- `extract`: no more of the message's file is read than its header and the slots of the range.
   pub extract_reads : On requests.Extract words (λ asked. ReadsNoMore asked before after code)
+  -- `reseal`: the first tree is given back, only where its keyring file was read as one; and where
+  -- a shelf tells that it holds one, and doesn't fail, that is given back, unless memory runs out.
+  pub reseal_tree : On requests.Reseal words
+      (λ asked. GivesBackFirst trees asked before.shelf after.shelf code)
+  -- `reseal`: the judgement of all bytes of the input is said. Of a whole message the output gains
+  -- the new one, under the second tree's keys and over the same whole context; of one with a fault
+  -- all frames but the last of what is released before it.
+  pub resealing : On requests.Reseal words
+      (λ asked. SaysWhatItReseals trees asked before after code)
+  -- `reseal`: a whole message is done, unless it is refused, memory runs out or an object fails.
+  pub resealed_whole : On requests.Reseal words
+      (λ asked. ResealsWholeMessages trees asked before after code)
+  -- `reseal`: of a message that was written, the new one is read under any tree with one of the new
+  -- keys, its text and its whole context.
+  pub rotation : On requests.Reseal words
+      (λ asked. RotatesWhatIsWritten trees asked before after code)
   -- `audit`: of files that the shelf tells the lines say which leaves of a tree that tells its keys
   -- open which messages, and which messages a leaf is needed for.
   pub audit : On requests.Audit words (λ name. SaysTheOpeners trees name before after code)

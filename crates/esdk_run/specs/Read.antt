@@ -1,5 +1,5 @@
 -- What a run of `decrypt` says of the bytes that it took: what a reader reads of them, where the run had the reader's keys and none of its keyrings failed.
-use Rattle.std.specs.Prelude.{◌≡◌, ◌⊎◌, ℕ, ◌≤◌, List, ◌++◌, length, true, false, Some, None}
+use Rattle.std.specs.Prelude.{◌≡◌, ◌⊎◌, ℕ, ◌≤◌, Bool, List, ◌++◌, length, true, false, Some, None, ⊤}
 use Rattle.std.specs.Io.KnownBytes.{Appends}
 use Rattle.esdk_fields.specs.Counts.{Rose}
 use Rattle.esdk_base.specs.Streams.{SinkState}
@@ -18,8 +18,9 @@ use Rattle.esdk_decrypt.specs.Decrypt.{HasContext, fault_at_end, fault_of}
 use Rattle.esdk_decrypt.specs.Told.{Reader, judged_by}
 use Rattle.esdk_report.specs.declared.failure.Failure.{Failure}
 use Rattle.esdk_report.specs.declared.failure.Failure.TheVariants as failures
-use Rattle.esdk_run.specs.Objects.{Objects}
+use Rattle.esdk_run.specs.Objects.{Objects, with_input}
 use Rattle.esdk_run.specs.Run.{Fails, TellsOrLacksMemory}
+use Rattle.esdk_run.specs.Unarmoured.{InputEnds, ReadsAll}
 
 -- These bytes were taken, and the output gained what is read of them.
 pub record GainsRead (reader : Reader) (before after : Objects) (bytes : List ℕ) : Type 0 where
@@ -80,7 +81,13 @@ EndsAsRead reader before after (failures.Outside outsides.SinkFault) = GainsFron
 EndsAsRead reader before after failures.Memory = ReadsNothing reader before after
 EndsAsRead reader before after failure = ⊥
 
--- All was decrypted, or a failure ended the run: a fault (status 1), X1, X2 or X6 (4), or want of memory (5); each as is read.
-abbrev pub SaysWhatIsRead : Reader → Objects → Objects → ℕ → Type 0
-SaysWhatIsRead reader before after code =
-    ReadsWhole reader before after code ⊎ Fails (EndsAsRead reader before after) code before.report after.report
+-- All was decrypted, or a failure ended the run: a fault (status 1), X1, X2 or X6 (4), or want of memory (5); each as is read of the input, or of what its text gives.
+abbrev pub SaysWhatIsReadAs : (armour : Bool) → Reader → Objects → Objects → ℕ → Type 0
+SaysWhatIsReadAs armour reader before after code =
+    ReadsAll armour before.input after.input
+    (λ seen read. ReadsWhole reader (with_input before seen) (with_input after read) code)
+    ⊎ Fails (λ failure. InputEnds armour failure before.input after.input
+    (λ seen read. EndsAsRead reader (with_input before seen) (with_input after read) failure)
+    (λ seen read. ReadsNoFault reader (with_input before seen) (with_input after read) (EndSeen seen read))
+    (λ seen read. ReadsNoFault reader (with_input before seen) (with_input after read) (λ bytes. ⊤)))
+    code before.report after.report

@@ -9,7 +9,7 @@ use Rattle.esdk_args.specs.declared.request.Request.{Request}
 use Rattle.esdk_args.specs.declared.request.ResealWords.{ResealWords}
 use Rattle.esdk_args.specs.declared.request.Request.TheVariants as requests
 use Rattle.esdk_args.specs.declared.request.WordsFault.{WordsFault}
-use Rattle.esdk_base.specs.Streams.{ShelfState, SinkState, SourceState}
+use Rattle.esdk_base.specs.Streams.{ShelfState, SinkState}
 use Rattle.esdk_fields.specs.declared.faults.Fault.{Fault}
 use Rattle.context_codec.specs.Context.{KeyValue}
 use Rattle.esdk_report.specs.declared.failure.Failure.{Failure}
@@ -21,13 +21,13 @@ use Rattle.esdk_run.specs.Decrypt.{DecryptFails, DecryptsInput}
 use Rattle.esdk_run.specs.Encrypt.{EncryptFails, EncryptsInput}
 use Rattle.esdk_run.specs.Extract.{ExtractFails, ExtractsRange}
 use Rattle.esdk_run.specs.Failures.{words_failure}
-use Rattle.esdk_list.specs.List.{IsListCause, LeavesOutput, Lists}
 use Rattle.esdk_run.specs.Migrate.{MigrateFails, WritesMigrated}
 use Rattle.esdk_run.specs.Generate.{GenFails, WritesLine}
 use Rattle.esdk_run.specs.Objects.{Objects, Unchanged, same_streams, without_entropy}
 use Rattle.esdk_run.specs.Reseal.{ResealFails, Reseals}
 use Rattle.esdk_report.specs.Report.{Reports, TellsContext}
 use Rattle.esdk_run.specs.Trees.{IsUntouched, Trees}
+use Rattle.esdk_run.specs.UnarmouredList.{ListEndsAs, ListsAs}
 
 -- the statuses with which a run may end
 abbrev pub is_status : ℕ → Bool
@@ -93,16 +93,11 @@ RefusesWords fault code report reported =
 abbrev pub EndsBy : Type 0 → (Failure → Type 0) → ℕ → SinkState → SinkState → Type 0
 EndsBy done cause code report reported = (IsDone code report reported × done) ⊎ Fails cause code report reported
 
--- why nothing was listed; `unwritten` says that the output is as before
-abbrev pub ListFails : ListWords → SourceState → SourceState → SinkState → SinkState → Type 0 → Failure → Type 0
-ListFails asked input taken output put unwritten failure =
-    IsListCause asked.uncommitted failure input taken output put × LeavesOutput asked.uncommitted failure input taken output put unwritten
-
 -- of `list`
 abbrev pub ListRuns : ListWords → Objects → Objects → Unchanged → ℕ → Type 0
 ListRuns asked before after unchanged code =
-    EndsBy (Lists asked.uncommitted before.input after.input before.output.written after.output.written)
-    (ListFails asked before.input after.input before.output after.output unchanged.output) code before.report after.report
+    EndsBy (ListsAs asked.armour asked.uncommitted before.input after.input before.output.written after.output.written)
+    (ListEndsAs asked.armour asked.uncommitted before.input after.input before.output after.output unchanged.output) code before.report after.report
 
 -- of `encrypt`
 abbrev pub EncryptRuns : Trees → EncryptWords → Objects → Objects → Unchanged → ℕ → Type 0

@@ -1,5 +1,5 @@
 -- What a run comes to over the tree that it gives back, where its objects tell what they hold: when it must be done, and what of the input's bytes it says.
-use Rattle.std.specs.Prelude.{◌≡◌, ◌⊎◌, ℕ, ◌^◌, ◌<◌, ◌≤◌, List, [], ◌∷◌, length, None, Option, Some, Result, Ok, Err, IfSome}
+use Rattle.std.specs.Prelude.{◌≡◌, ◌⊎◌, ℕ, ◌≤◌, List, [], ◌∷◌, length, None, Option, Some, Result, Ok, Err, IfSome}
 use Rattle.std.specs.Io.KnownBytes.{Appends}
 use Rattle.serde_json.specs.Data.{Data}
 use Rattle.esdk_args.specs.declared.pair_words.PairWord.{PairWord}
@@ -18,19 +18,23 @@ use Rattle.context_codec.specs.Context.{KeyValue}
 use Rattle.keyring_trait.specs.Keyring.{KeyringMeaning}
 use Rattle.keyring_trait.specs.Wrapping.{WrapKeyValue}
 use Rattle.whole_input.specs.File.{most_file}
+use Rattle.armour_core.specs.Outlook.{Outlook}
+use Rattle.armour_core.specs.declared.text_end.TextEnd.TheVariants.{Whole}
 use Rattle.message_format.specs.Judgement.{content}
 use Rattle.esdk_encrypt.specs.Laws.{FitsMessage, GainsMessage}
-use Rattle.esdk_decrypt.specs.Decrypt.{fault_at_end}
-use Rattle.esdk_decrypt.specs.Laws.{IsWholeInput, IsWholeMessage, IsWrittenFor, Written, written_message}
+use Rattle.esdk_decrypt.specs.Laws.{IsWholeMessage, IsWrittenFor, Written, written_message}
 use Rattle.esdk_decrypt.specs.Told.{judged_by}
+use Rattle.esdk_run.specs.ArmouredMessage.{form_of}
 use Rattle.esdk_run.specs.Decrypt.{reader_of}
 use Rattle.esdk_run.specs.Encrypt.{refusal_asked, run_writer}
 use Rattle.esdk_run.specs.Migrate.{value_asked}
 use Rattle.esdk_run.specs.Objects.{Objects}
 use Rattle.esdk_run.specs.Pairs.{context_in}
-use Rattle.esdk_run.specs.Read.{SaysWhatIsRead}
+use Rattle.esdk_run.specs.Read.{SaysWhatIsReadAs}
 use Rattle.esdk_report.specs.Report.{Gains, ShowsContext}
 use Rattle.esdk_run.specs.Trees.{TreeGoes, TreeIs, Trees}
+use Rattle.esdk_run.specs.Unarmoured.{outlook_of}
+use Rattle.esdk_run.specs.UnarmouredTold.{IsWholeAs, TellsAs, input_fault}
 
 -- ---- the tree that is given back
 
@@ -92,12 +96,13 @@ EncryptsWhatFits trees asked before after code = (context : List KeyValue) (left
     → NothingFails before after → Stayed before.entropy.faults after.entropy.faults
     → IfNoneFailed trees asked.keyring before.shelf after.shelf (IsDoneOrMemory code)
 
--- Once `encrypt` is done, an output that tells its bytes gained the message of the input's bytes, over the context of the words, under the keys that the tree tells.
+-- Once `encrypt` is done, an output that tells its bytes gained the message of the input's bytes, over the context of the words, under the keys that the tree tells; with
+-- `--armour`, its armour text.
 abbrev pub WritesTheMessage : Trees → EncryptWords → Objects → Objects → ℕ → Type 0
 WritesTheMessage trees asked before after code = (context : List KeyValue) (left : KeyringMeaning) (keys : List WrapKeyValue) (text written : List ℕ)
     → context_in asked.pairs ≡ Ok context → trees.kept ≡ Some left → left.keys ≡ Some keys
     → before.input.left ≡ Some text → before.output.written ≡ Some written → code ≡ 0
-    → GainsMessage (run_writer asked context keys) text written before.entropy after.output
+    → GainsMessage (form_of asked.armour) (run_writer asked context keys) text written before.entropy after.output
 
 -- ---- `decrypt`, where the tree tells its keys and no keyring of it failed
 
@@ -111,25 +116,26 @@ pub record Reads (trees : Trees) (asked : DecryptWords) (given : List KeyValue) 
 -- `decrypt` says what is read of the bytes that it took, whatever the input and the output tell.
 abbrev pub SaysWhatItReads : Trees → DecryptWords → Objects → Objects → ℕ → Type 0
 SaysWhatItReads trees asked before after code = (given : List KeyValue) (keys : List WrapKeyValue) → Reads trees asked given keys
-    → IfNoneFailed trees asked.keyring before.shelf after.shelf (SaysWhatIsRead (reader_of asked given keys) before after code)
+    → IfNoneFailed trees asked.keyring before.shelf after.shelf (SaysWhatIsReadAs asked.armour (reader_of asked given keys) before after code)
 
--- An input that is a whole message is decrypted, unless memory runs out or an object fails.
+-- An input that is a whole message, or a whole text of one, is decrypted, unless memory runs out or an object fails.
 abbrev pub DecryptsWholeMessages : Trees → DecryptWords → Objects → Objects → ℕ → Type 0
 DecryptsWholeMessages trees asked before after code = (given : List KeyValue) (keys : List WrapKeyValue) (bytes : List ℕ)
-    → Reads trees asked given keys → IsWholeInput (reader_of asked given keys) before.input bytes → NothingFails before after
+    → Reads trees asked given keys → IsWholeAs asked.armour (reader_of asked given keys) before.input bytes → NothingFails before after
     → IfNoneFailed trees asked.keyring before.shelf after.shelf (IsDoneOrMemory code)
 
--- All of the input's bytes have this fault, the output gained what their judgement releases, and the report gained the fault's line.
-pub record NamesFault (asked : DecryptWords) (given : List KeyValue) (keys : List WrapKeyValue) (bytes : List ℕ) (before after : Objects) : Type 0 where
+-- All of the input's bytes, or what they give as armour, have this fault, the output gained what their judgement releases, and the report gained the fault's line.
+pub record NamesFault (asked : DecryptWords) (given : List KeyValue) (keys : List WrapKeyValue) (input : Outlook) (before after : Objects) : Type 0 where
   pub fault : Fault
-  pub cause : fault_at_end (judged_by (reader_of asked given keys) bytes).verdict ≡ Some fault
-  pub gained : Appends before.output.written after.output.written (content (judged_by (reader_of asked given keys) bytes))
+  pub cause : input_fault input.end (judged_by (reader_of asked given keys) input.bytes).verdict ≡ Some fault
+  pub gained : Appends before.output.written after.output.written (content (judged_by (reader_of asked given keys) input.bytes))
   pub line : Gains (printed_line (fault_line fault)) before.report after.report
 
--- All of the input's bytes are a whole message, the output gained its content, and the report the line of its whole context.
-pub record ShowsWhole (asked : DecryptWords) (given : List KeyValue) (keys : List WrapKeyValue) (bytes : List ℕ) (before after : Objects) (code : ℕ) : Type 0 where
+-- All of the input's bytes, or what they give as armour, are a whole message, the output gained its content, and the report the line of its whole context.
+pub record ShowsWhole (asked : DecryptWords) (given : List KeyValue) (keys : List WrapKeyValue) (input : Outlook) (before after : Objects) (code : ℕ) : Type 0 where
   pub context : List KeyValue
-  pub message : IsWholeMessage (reader_of asked given keys) bytes before.output after.output context
+  pub end : input.end ≡ Whole
+  pub message : IsWholeMessage (reader_of asked given keys) input.bytes before.output after.output context
   pub shown : ShowsContext context code before.report after.report
 
 -- `decrypt` says of the input what the judgement of all its bytes is, however little of it was taken: a verdict that is a fault stays when bytes follow.
@@ -137,18 +143,18 @@ abbrev pub SaysTheJudgement : Trees → DecryptWords → Objects → Objects →
 SaysTheJudgement trees asked before after code = (given : List KeyValue) (keys : List WrapKeyValue) (bytes : List ℕ)
     → Reads trees asked given keys → before.input.left ≡ Some bytes
     → IfNoneFailed trees asked.keyring before.shelf after.shelf
-    ((code ≡ 0 → ShowsWhole asked given keys bytes before after code) × (code ≡ 1 → NamesFault asked given keys bytes before after))
+    ((code ≡ 0 → ShowsWhole asked given keys (outlook_of asked.armour bytes) before after code) × (code ≡ 1 → NamesFault asked given keys (outlook_of asked.armour bytes) before after))
 
 -- The output gained this text, and the report the line of this context.
 pub record GivesBack (text : List ℕ) (context : List KeyValue) (before after : Objects) (code : ℕ) : Type 0 where
   pub gained : Appends before.output.written after.output.written text
   pub shown : ShowsContext context code before.report after.report
 
--- A message that was written for one of the keys and for the pairs is decrypted to its text and its whole context, unless memory runs out or an object fails.
+-- A message that was written for one of the keys and for the pairs, or the armour text of one, is decrypted to its text and its whole context, unless memory runs out or an object fails.
 abbrev pub ReadsBack : Trees → DecryptWords → Objects → Objects → ℕ → Type 0
 ReadsBack trees asked before after code = (given : List KeyValue) (keys writers : List WrapKeyValue) (m : Written)
     → Reads trees asked given keys → IsWrittenFor (reader_of asked given keys) writers m
-    → before.input.left ≡ Some (written_message m) → length (written_message m) < 2 ^ 62
+    → TellsAs asked.armour before.input (written_message m)
     → IfNoneFailed trees asked.keyring before.shelf after.shelf
     ((code ≡ 0 → GivesBack m.text m.context before after code) × (NothingFails before after → IsDoneOrMemory code))
 

@@ -6,19 +6,21 @@ ghost use Rattle.esdk_run.specs.Objects.{as_before, objects};
 ghost use Rattle.esdk_run.specs.Run.{EncryptRuns, IsDone, is_status};
 ghost use Rattle.esdk_run.specs.Trees.{trees_of};
 
+use crate::armoured_message::write_message;
 use crate::failures::encryption_failure;
 use crate::outcome::Ended;
 use crate::prepared::{Prepared, prepare};
 use esdk_args::EncryptWords;
 use esdk_base::{Entropy, Shelf, Sink, Source};
-use esdk_encrypt::{EncryptError, EncryptOptions, encrypt};
+use esdk_encrypt::{EncryptError, EncryptOptions};
 use esdk_report::{Status, report_failure};
 use keyring_file::Plug;
 use keyring_trait::{EncRequest, Keyring};
 use std::alloc::Global;
 
 /// Writes the message of the whole input under the tree that the keyring file is read as, over the
-/// context of the words. The tree is given back as it is left, also after an error.
+/// context of the words: as it is or, where the words ask for it, as armour text. The tree is given
+/// back as it is left, also after an error.
 ///
 /// The pairs are read first, then the keyring file; then the random bytes are drawn; then the
 /// request is judged; then the message is written, the header before the input is read, and each
@@ -65,8 +67,9 @@ pub fn run_encrypt<P: Keyring, S: Source, O: Sink, R: Sink, F: Shelf, W: Entropy
         max_keys: asked.max_keys,
         now: 0,
     };
-    let ended = encrypt(
+    let ended = write_message(
         alloc,
+        asked.armour,
         &mut manager,
         &request,
         options,

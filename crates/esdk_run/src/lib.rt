@@ -2,6 +2,7 @@
 //! outputs, a shelf of files, an entropy, a clock and the keyrings that a keyring file may name.
 #![tactic(auto)]
 
+mod armoured_message;
 mod audit;
 mod batch;
 mod decrypt;
@@ -17,6 +18,7 @@ mod pair_input;
 mod prepared;
 mod reseal;
 mod top_call;
+mod unarmoured;
 
 pub use outcome::Ended;
 pub use top_call::run;

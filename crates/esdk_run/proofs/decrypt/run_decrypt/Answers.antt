@@ -6,34 +6,35 @@ use Rattle.esdk_run.specs.Decrypt.{limits_of}
 use Rattle.esdk_run.specs.Objects.{as_before}
 use Rattle.esdk_run.specs.Pairs.{required_in}
 use Rattle.esdk_run.specs.Trees.{trees_of}
-use Rattle.esdk_run.proofs.Chain.{chain_allows, chain_goes, decrypts_more, stops_more}
+use Rattle.esdk_run.proofs.Chain.{chain_allows, chain_goes}
 use Rattle.esdk_run.proofs.Endings.{decryption_ran}
 use Rattle.esdk_run.proofs.Preparing.{decrypt_not_begun}
+use Rattle.esdk_run.proofs.UnarmouredReaders.{decrypts_as_more, stops_as_more}
 use Rattle.esdk_run.proofs.decrypt.run_decrypt.Goals as goal
 
 pub returns-clause-runs : goal.returns-clause-runs
 returns-clause-runs g c = λ entropy.
     let input : SourceState = g.S.Source.state c.args.input.now in
-    let taken : SourceState = g.S.Source.state c.decrypt-ended.new.input in
+    let taken : SourceState = g.S.Source.state c.decrypt_input-ended.new.input in
     let output : SinkState = g.O.Sink.state c.args.output.now in
-    let put : SinkState = g.O.Sink.state c.decrypt-ended.new.output in
+    let put : SinkState = g.O.Sink.state c.decrypt_input-ended.new.output in
     let manager = c.in-Ok.prepared.manager in
     let has = c.in-Ok.ensures.prepared in
     let back = c.into_ring.ensures ∙ c.into_inner.ensures in
-    let allows = chain_allows 0 (tree_meaning g.P.Keyring.meaning) manager c.decrypt-ended.new.manager
+    let allows = chain_allows 0 (tree_meaning g.P.Keyring.meaning) manager c.decrypt_input-ended.new.manager
     (required_in c.args.asked.now.pairs) manager.0 c.into_ring.result (ap (λ (keys : List (List ℕ)). (manager.0, keys)) has.keys) back in
     decryption_ran (trees_of g.P.Keyring.meaning c.args.plugs.items (Some c.into_ring.result)) c.args.asked.now _ _
-    (as_before _ _ _ ⊤) _ c.in-Ok.prepared.context _ _ c.decrypt-ended.result
+    (as_before _ _ _ ⊤) _ c.in-Ok.prepared.context _ _ c.decrypt_input-ended.result
     (record {
       given = has.given;
       file = has.file;
       lawful = has.lawful;
       kept = refl;
-      goes = chain_goes (tree_meaning g.P.Keyring.meaning) manager c.decrypt-ended.new.manager manager.1 manager.0 c.into_ring.result refl back
-          c.decrypt-ended.ensures.went;
+      goes = chain_goes (tree_meaning g.P.Keyring.meaning) manager c.decrypt_input-ended.new.manager manager.1 manager.0 c.into_ring.result refl back
+          c.decrypt_input-ended.ensures.went;
     })
-    (decrypts_more _ _ (limits_of c.args.asked.now) c.in-Ok.prepared.context input taken output put c.decrypt-ended.result allows c.decrypt-ended.ensures.done)
-    (stops_more _ _ (limits_of c.args.asked.now) c.in-Ok.prepared.context input taken output put (c.decrypt-ended.new.output ≡ c.args.output.now) c.decrypt-ended.result allows c.decrypt-ended.ensures.ends)
+    (decrypts_as_more c.args.asked.now.armour _ _ (limits_of c.args.asked.now) c.in-Ok.prepared.context input taken output put c.decrypt_input-ended.result allows c.decrypt_input-ended.ensures.done)
+    (stops_as_more c.args.asked.now.armour _ _ (limits_of c.args.asked.now) c.in-Ok.prepared.context input taken output put (c.decrypt_input-ended.new.output ≡ c.args.output.now) c.decrypt_input-ended.result allows c.decrypt_input-ended.ensures.ends)
     c.report_end.ensures.told c.report_end.ensures.said
 
 pub returns-in-Err-clause-runs : goal.returns-in-Err-clause-runs

@@ -1,8 +1,10 @@
 use Rattle.std.proofs.Common.{◌≡◌, ◌∙◌, List, ℕ, Some, None, inr, refl, ap}
 use Rattle.std.proofs.lemmas.Result.{on_ok_weaker}
-use Rattle.esdk_base.specs.Streams.{EntropyState, SinkState, SourceState}
+use Rattle.esdk_base.specs.Streams.{EntropyState, SourceState}
+use Rattle.esdk_encrypt.specs.Gaining.{Gaining}
 use Rattle.esdk_encrypt.proofs.Telling.{encrypts_more}
 use Rattle.multi_keyring.specs.Tree.{tree_meaning}
+use Rattle.esdk_run.specs.ArmouredMessage.{output_gains}
 use Rattle.esdk_run.specs.Encrypt.{encrypt_asked}
 use Rattle.esdk_run.specs.Trees.{trees_of}
 use Rattle.esdk_run.proofs.Chain.{chain_goes, chain_says_more, errs_more}
@@ -13,31 +15,30 @@ use Rattle.esdk_run.proofs.encrypt.run_encrypt.Goals as goal
 pub returns-clause-runs : goal.returns-clause-runs
 returns-clause-runs g c =
     let input : SourceState = g.S.Source.state c.args.input.now in
-    let taken : SourceState = g.S.Source.state c.encrypt-ended.new.input in
-    let output : SinkState = g.O.Sink.state c.args.output.now in
-    let put : SinkState = g.O.Sink.state c.encrypt-ended.new.output in
+    let taken : SourceState = g.S.Source.state c.write_message-ended.new.input in
+    let gains : Gaining = output_gains c.args.asked.now.armour (g.O.Sink.state c.args.output.now) (g.O.Sink.state c.write_message-ended.new.output) in
     let entropy : EntropyState = g.W.Entropy.state c.args.entropy.now in
-    let spent : EntropyState = g.W.Entropy.state c.encrypt-ended.new.entropy in
+    let spent : EntropyState = g.W.Entropy.state c.write_message-ended.new.entropy in
     let manager = c.in-Ok.prepared.manager in
     let has = c.in-Ok.ensures.prepared in
     let back = c.into_ring.ensures ∙ c.into_inner.ensures in
     let asked = encrypt_asked c.args.asked.now c.in-Ok.prepared.context (tree_meaning g.P.Keyring.meaning manager.0) (tree_meaning g.P.Keyring.meaning c.into_ring.result) in
-    let more = chain_says_more (tree_meaning g.P.Keyring.meaning) manager c.encrypt-ended.new.manager c.new-request.result 0
+    let more = chain_says_more (tree_meaning g.P.Keyring.meaning) manager c.write_message-ended.new.manager c.new-request.result 0
     c.args.asked.now c.in-Ok.prepared.context manager.0 c.into_ring.result
     (ap (λ (keys : List (List ℕ)). (manager.0, keys)) has.keys) c.new-request.ensures back in
     encryption_ran (trees_of g.P.Keyring.meaning c.args.plugs.items (Some c.into_ring.result)) c.args.asked.now _ _ _ _
-    c.in-Ok.prepared.context _ _ c.encrypt-ended.result
+    c.in-Ok.prepared.context _ _ c.write_message-ended.result
     (record {
       given = has.given;
       file = has.file;
       lawful = has.lawful;
       kept = refl;
-      goes = chain_goes (tree_meaning g.P.Keyring.meaning) manager c.encrypt-ended.new.manager manager.1 manager.0 c.into_ring.result refl back
-          c.encrypt-ended.ensures.went;
+      goes = chain_goes (tree_meaning g.P.Keyring.meaning) manager c.write_message-ended.new.manager manager.1 manager.0 c.into_ring.result refl back
+          c.write_message-ended.ensures.went;
     })
-    (on_ok_weaker c.encrypt-ended.result (encrypts_more _ asked input taken output put entropy spent more) c.encrypt-ended.ensures.done)
-    (errs_more _ asked input taken output put entropy spent ((c.encrypt-ended.new.input ≡ c.args.input.now) × (c.encrypt-ended.new.output ≡ c.args.output.now))
-    (c.encrypt-ended.new.manager ≡ manager) c.encrypt-ended.result more c.encrypt-ended.ensures.ends)
+    (on_ok_weaker c.write_message-ended.result (encrypts_more _ asked input taken gains entropy spent more) c.write_message-ended.ensures.done)
+    (errs_more _ asked input taken gains entropy spent ((c.write_message-ended.new.input ≡ c.args.input.now) × (c.write_message-ended.new.output ≡ c.args.output.now))
+    (c.write_message-ended.new.manager ≡ manager) c.write_message-ended.result more c.write_message-ended.ensures.ends)
     c.report_end.ensures.done c.report_end.ensures.said
 
 pub returns-in-Err-clause-runs : goal.returns-in-Err-clause-runs

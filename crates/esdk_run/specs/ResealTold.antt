@@ -1,0 +1,186 @@
+-- What `reseal` says over the tree that it gives back, where the shelf tells the second keyring
+-- file.
+use Rattle.std.specs.Prelude.{◌≡◌, ℕ, ◌^◌, ◌<◌, ◌≤◌, ◌⊎◌, List, [], length, true}
+use Rattle.std.specs.Prelude.{None, Some, Ok}
+use Rattle.std.specs.Io.KnownBytes.{Appends}
+use Rattle.esdk_args.specs.declared.request.ResealWords.{ResealWords}
+use Rattle.esdk_fields.specs.Counts.{Stayed}
+use Rattle.esdk_fields.specs.declared.faults.Fault.{Fault}
+use Rattle.esdk_base.specs.Streams.{ShelfState, SourceState}
+use Rattle.context_codec.specs.Context.{KeyValue}
+use Rattle.context_codec.specs.Parts.{keys_of}
+use Rattle.keyring_trait.specs.Keyring.{KeyringMeaning}
+use Rattle.keyring_trait.specs.Unlocking.{Unlocks}
+use Rattle.keyring_trait.specs.Wrapping.{WrapKeyValue, active}
+use Rattle.body_format.specs.declared.verdicts.Verdict.TheVariants.{Whole}
+use Rattle.message_format.specs.Judgement.{content}
+use Rattle.esdk_encrypt.specs.Encrypt.{Drew}
+use Rattle.esdk_encrypt.specs.Told.{Writer, message_by}
+use Rattle.esdk_decrypt.specs.Decrypt.{fault_at_end}
+use Rattle.esdk_decrypt.specs.Laws.{IsWholeInput, IsWrittenFor, Written, written_message}
+use Rattle.esdk_decrypt.specs.Told.{Reader, judged_by}
+use Rattle.reseal_core.specs.Laws.{HasRoom, IsNoMessage, IsRotated, front_by, unlocked_to}
+use Rattle.esdk_report.specs.Lines.{fault_line, printed_line}
+use Rattle.esdk_report.specs.Report.{Gains, ShowsContext}
+use Rattle.esdk_run.specs.Objects.{Objects}
+use Rattle.esdk_run.specs.Pairs.{context_in, required_in}
+use Rattle.esdk_run.specs.Reseal.{limits_of, refusal_sealing}
+use Rattle.esdk_run.specs.Told.{GivesTree, HoldsTree, IfNoneFailed, IsDoneOrMemory, IsLeft}
+use Rattle.esdk_run.specs.Told.{NothingFails}
+use Rattle.esdk_run.specs.Trees.{Trees}
+
+-- ---- the tree that is given back
+
+-- A tree is given back only where the first keyring file was read as one, before the second was
+-- read. Where a shelf tells that it holds one, and doesn't fail, that is given back, unless memory
+-- runs out; also where the second file is refused.
+pub record GivesBackFirst (trees : Trees) (asked : ResealWords) (old new : ShelfState) (code : ℕ)
+    : Type 0 where
+  pub read : (left : KeyringMeaning) → trees.kept ≡ Some left
+      → (middle : ShelfState) × IsLeft trees asked.keyring old middle left
+  pub held : (context : List KeyValue) (tree : KeyringMeaning) → context_in asked.pairs ≡ Ok context
+      → HoldsTree trees old.files asked.keyring tree → Stayed old.faults new.faults
+      → (code ≡ 5) ⊎ GivesTree trees tree
+
+-- ---- who reads, and who writes
+
+-- who reads the old message, where the first tree tells these keys
+abbrev pub reseal_reader : ResealWords → List KeyValue → List WrapKeyValue → Reader
+reseal_reader asked given keys = record {
+  keys = keys;
+  settings = limits_of asked;
+  given = given;
+  required = required_in asked.pairs;
+}
+
+-- Who writes the new one, where the second tree tells these keys: over the old one's whole context.
+-- The keys of the pairs that were only authenticated are required, and no others.
+abbrev pub reseal_writer : ResealWords → List WrapKeyValue → List KeyValue → List KeyValue → Writer
+reseal_writer asked keys whole only = record {
+  keys = keys;
+  context = whole;
+  required = keys_of only;
+  size = asked.frame;
+  max_keys = None;
+}
+
+-- as the second keyring file is read: no plug may stand in it
+abbrev pub without_plugs : Trees → Trees
+without_plugs trees = record trees { read = trees.plain }
+
+-- The words give these pairs, a tree is given back that tells these keys, and the shelf tells that
+-- the second file holds a tree that tells those others.
+pub record ReadsBoth (trees : Trees) (asked : ResealWords) (before : Objects)
+    (given : List KeyValue) (keys others : List WrapKeyValue) : Type 0 where
+  pub left : KeyringMeaning
+  pub pairs : context_in asked.pairs ≡ Ok given
+  pub kept : trees.kept ≡ Some left
+  pub told : left.keys ≡ Some keys
+  pub second : KeyringMeaning
+  pub holds : HoldsTree (without_plugs trees) before.shelf.files asked.to_keyring second
+  pub second_told : second.keys ≡ Some others
+
+-- This is so where no keyring of the first tree failed in the run, and its count isn't at its end.
+abbrev pub IfNoneFailedFirst : Trees → ResealWords → ShelfState → Type 0 → Type 0
+IfNoneFailedFirst trees asked old So =
+    (middle : ShelfState) × IfNoneFailed trees asked.keyring old middle So
+
+-- ---- what is written
+
+-- All of the input's bytes are a whole message, unlocked with this whole context. The output gained
+-- the new message of its content, made with just the bytes that were drawn, and the report the line
+-- of the context.
+pub record ShowsResealed (reader : Reader) (writer : List KeyValue → List KeyValue → Writer)
+    (others : List WrapKeyValue) (bytes : List ℕ) (before after : Objects) (code : ℕ) : Type 0 where
+  pub context : List KeyValue
+  pub only : List KeyValue
+  pub key : List ℕ
+  pub unlocked : unlocked_to reader bytes ≡ Unlocks context only key
+  pub whole : (judged_by reader bytes).verdict ≡ Whole
+  pub drawn : List ℕ
+  pub drew : Drew (length (active others)) before.entropy after.entropy drawn
+  pub gained : Appends before.output.written after.output.written
+      (message_by (writer context only) drawn (content (judged_by reader bytes)))
+  pub shown : ShowsContext context code before.report after.report
+
+-- All of the input's bytes have this fault. The output gained the new header and all frames but the
+-- last of what they release, and nothing where they aren't unlocked; and that is a whole message to
+-- nobody. The report gained the fault's line.
+pub record NamesResealFault (reader : Reader) (writer : List KeyValue → List KeyValue → Writer)
+    (others : List WrapKeyValue) (size : ℕ) (bytes : List ℕ) (before after : Objects) : Type 0 where
+  pub fault : Fault
+  pub cause : fault_at_end (judged_by reader bytes).verdict ≡ Some fault
+  pub drawn : List ℕ
+  pub drew : Drew (length (active others)) before.entropy after.entropy drawn
+  pub gained : Appends before.output.written after.output.written
+      (front_by writer drawn (unlocked_to reader bytes) (judged_by reader bytes).unlocked
+      (content (judged_by reader bytes)))
+  pub unfinished : IsNoMessage
+      (front_by writer drawn (unlocked_to reader bytes) (judged_by reader bytes).unlocked
+      (content (judged_by reader bytes)))
+      size (length (active others))
+  pub line : Gains (printed_line (fault_line fault)) before.report after.report
+
+-- `reseal` says of the input what the judgement of all its bytes is, however little of it was
+-- taken, and writes what that releases under the second tree's keys: all of it, or all but the last
+-- frame.
+abbrev pub SaysWhatItReseals : Trees → ResealWords → Objects → Objects → ℕ → Type 0
+SaysWhatItReseals trees asked before after code =
+    (given : List KeyValue) (keys others : List WrapKeyValue) (bytes : List ℕ)
+    → ReadsBoth trees asked before given keys others → before.input.left ≡ Some bytes
+    → IfNoneFailedFirst trees asked before.shelf
+    ((code ≡ 0 → ShowsResealed (reseal_reader asked given keys) (reseal_writer asked others) others
+    bytes before after code)
+    × (code ≡ 1 → NamesResealFault (reseal_reader asked given keys) (reseal_writer asked others)
+    others asked.frame bytes before after))
+
+-- ---- what is resealed
+
+-- The input tells these bytes, which are a whole message to the reader. The second tree refuses
+-- nothing to its whole context and never fails, and a new message has room for its content.
+pub record CanBeResealed (reader : Reader) (second : KeyringMeaning) (size : ℕ)
+    (input : SourceState) (bytes : List ℕ) : Type 0 where
+  pub whole : List KeyValue
+  pub only : List KeyValue
+  pub key : List ℕ
+  pub input_whole : IsWholeInput reader input bytes
+  pub unlocked : unlocked_to reader bytes ≡ Unlocks whole only key
+  pub unrefused : refusal_sealing whole second ≡ None
+  pub steady : second.steady ≡ true
+  pub room : HasRoom size (content (judged_by reader bytes))
+
+-- Nor does a count of faults of the shelf or the entropy rise, and none is at its end.
+pub record NothingElseFails (before after : Objects) : Type 0 where
+  pub files : Stayed before.shelf.faults after.shelf.faults
+  pub drawing : Stayed before.entropy.faults after.entropy.faults
+
+-- An input that is a whole message is resealed, unless memory runs out or an object fails.
+abbrev pub ResealsWholeMessages : Trees → ResealWords → Objects → Objects → ℕ → Type 0
+ResealsWholeMessages trees asked before after code =
+    (given : List KeyValue) (keys others : List WrapKeyValue) (bytes : List ℕ)
+    (both : ReadsBoth trees asked before given keys others)
+    → CanBeResealed (reseal_reader asked given keys) both.second asked.frame before.input bytes
+    → NothingFails before after → NothingElseFails before after
+    → IfNoneFailedFirst trees asked before.shelf (IsDoneOrMemory code)
+
+-- ---- rotation
+
+-- The output gained a message with the text of this one, written for each reader who has one of the
+-- new keys and is given what the old one's readers are given; and the report the line of its whole
+-- context.
+pub record ShowsRotated (m : Written) (others : List WrapKeyValue) (size : ℕ)
+    (before after : Objects) (code : ℕ) : Type 0 where
+  pub rotated : IsRotated m others [] size before.output after.output
+  pub shown : ShowsContext m.context code before.report after.report
+
+-- A message that was written for one of the first tree's keys and for the pairs is resealed to one
+-- that is read under any tree with one of the second tree's keys: its text and its whole context.
+-- Four bytes hold the new frame length.
+abbrev pub RotatesWhatIsWritten : Trees → ResealWords → Objects → Objects → ℕ → Type 0
+RotatesWhatIsWritten trees asked before after code =
+    (given : List KeyValue) (keys others writers : List WrapKeyValue) (m : Written)
+    → ReadsBoth trees asked before given keys others
+    → IsWrittenFor (reseal_reader asked given keys) writers m
+    → 1 ≤ asked.frame → asked.frame < 2 ^ 32 → before.input.left ≡ Some (written_message m)
+    → IfNoneFailedFirst trees asked before.shelf
+    (code ≡ 0 → ShowsRotated m others asked.frame before after code)

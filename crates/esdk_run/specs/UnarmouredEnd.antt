@@ -1,0 +1,48 @@
+-- How the end of a text is judged behind its bytes.
+use Rattle.std.specs.Prelude.{◌≡◌, ℕ, ◌-◌, ◌^◌, ◌<◌, Bool, true, false, List, [], Option, Some, Result, Ok, Err}
+use Rattle.std.specs.Option.{option_map}
+use Rattle.esdk_fields.specs.Counts.{Rose}
+use Rattle.esdk_fields.specs.declared.faults.Fault.{Fault}
+use Rattle.esdk_fields.specs.declared.faults.Fault.TheVariants.{BadArmour, Truncated}
+use Rattle.esdk_fields.specs.declared.refusals.Outside.TheVariants.{InputTooLong, SourceFault}
+use Rattle.esdk_base.specs.Streams.{SourceState}
+use Rattle.whole_input.specs.Pieces.{most_input}
+use Rattle.armour_core.specs.declared.reader.ArmourReader.{ArmourReader}
+use Rattle.armour_core.specs.declared.text_end.TextEnd.{TextEnd}
+use Rattle.armour_core.specs.declared.text_end.TextEnd.TheVariants.{Bad, TooLong, Whole}
+use Rattle.armour_core.specs.ReaderOutlook.{Outlasts, reader_outlook, told_end}
+use Rattle.esdk_decrypt.specs.declared.errors.DecryptError.{DecryptError}
+use Rattle.esdk_decrypt.specs.declared.errors.DecryptError.TheVariants as errors
+
+-- M10, which bytes have by their end alone
+abbrev pub is_cut_short : Fault → Bool
+is_cut_short Truncated = true
+is_cut_short fault = false
+
+-- what a reader gives of the text that is left, where that is told
+abbrev pub left_of : SourceState → ArmourReader → Option (List ℕ)
+left_of input r = option_map (λ text. (reader_outlook r text).bytes) input.left
+
+-- The text ends so, where it is told, and no read failed.
+pub record SeesEnd (before now : SourceState) (old : ArmourReader) (end : TextEnd) : Type 0 where
+  pub told : (told : TextEnd) → told_end before old ≡ Some told → told ≡ end
+  pub faults : now.faults ≡ before.faults
+
+-- What is seen of a text's end: behind all bytes that it gives, that it is whole; that a group is
+-- bad; that 2^62 bytes of it were taken; or that a read fails.
+abbrev pub SeesAs : SourceState → SourceState → ArmourReader → ArmourReader
+    → Result (Unit {0}) DecryptError → Type 0
+SeesAs before now old new (Ok done) =
+    (now.faults ≡ before.faults) × (left_of before old ≡ Some [] → SeesEnd before now old Whole)
+SeesAs before now old new (Err (errors.Fault (BadArmour number))) =
+    SeesEnd before now old (Bad number)
+SeesAs before now old new (Err (errors.Outside InputTooLong)) =
+    SeesEnd before now old TooLong × (new.pieces.taken ≡ most_input)
+SeesAs before now old new (Err (errors.Outside SourceFault)) = Rose before.faults now.faults
+SeesAs before now old new (Err error) = ⊥
+
+-- More of the same text was taken for that, and it is seen while the source counts its failures.
+pub record JudgesEnd (before now : SourceState) (old new : ArmourReader)
+    (old_faults new_faults : ℕ) (result : Result (Unit {0}) DecryptError) : Type 0 where
+  pub outlasts : Outlasts before now old new old_faults new_faults
+  pub sees : old_faults < 2 ^ 64 - 1 → SeesAs before now old new result
