@@ -9,6 +9,7 @@ import binascii
 from messages import Fault
 
 LINE_BYTES = 57
+MOST_LINES = 128
 GROUP = 4
 LINE_ENDS = b"\n\r"
 
@@ -29,7 +30,8 @@ def decoded(group):
 
 
 class Armour:
-    """Puts what is written as lines of text, each once its last byte is there."""
+    """Puts what is written as lines of text, each once its last byte is there: the lines that one write fills go on
+    together, at most 128 of them."""
 
     def __init__(self, put):
         self.put_text = put
@@ -38,8 +40,9 @@ class Armour:
     def put(self, bytes_):
         self.held += bytes_
         while len(self.held) >= LINE_BYTES:
-            self.put_text(armour_text(self.held[:LINE_BYTES]))
-            self.held = self.held[LINE_BYTES:]
+            full = min(len(self.held) // LINE_BYTES, MOST_LINES) * LINE_BYTES
+            self.put_text(armour_text(self.held[:full]))
+            self.held = self.held[full:]
 
     def finish(self):
         if self.held:
