@@ -17,10 +17,10 @@ _esdk_words() { mapfile -t COMPREPLY < <(compgen -W "$2" -- "$1"); }
 # The options of a command of the program.
 _esdk_options() {
     case $1 in
-        encrypt) echo --keyring --frame --max-keys ;;
-        decrypt) echo --keyring --max-keys --max-unit --allow-uncommitted ;;
+        encrypt) echo --keyring --frame --max-keys --armour ;;
+        decrypt) echo --keyring --max-keys --max-unit --allow-uncommitted --armour ;;
         extract) echo --keyring --from --at --count ;;
-        list) echo --allow-uncommitted ;;
+        list) echo --allow-uncommitted --armour ;;
         batch | audit) echo --jobs ;;
         gen) echo --seed --size ;;
         migrate) echo --keyring --retire ;;

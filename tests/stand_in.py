@@ -1,11 +1,13 @@
 #!/usr/bin/env python3
 """Stands in for the program `esdk` in tests of the scripts around it, where it isn't built.
 
-It has `encrypt`, `decrypt`, `list`, `batch` and `audit`, keyring files of one key line, and the lines and
-statuses that these tests meet. What it writes and reads are messages of the format, by
+It has `encrypt`, `decrypt`, `list`, `batch` and `audit`, the flag `--armour`, keyring files of one key
+line, and the lines and statuses that these tests meet. What it writes and reads are messages of the format, by
 vectors/opening.py over the package `cryptography`; it proves nothing, and holds files whole.
 """
 
+import base64
+import binascii
 import json
 import os
 import pathlib
@@ -31,6 +33,9 @@ from opening import (  # noqa: E402
     unwrap,
     wrapped,
 )
+
+
+FLAG = "--armour"
 
 
 class Fault(Exception):
@@ -140,6 +145,34 @@ def open_whole(message, wrapping, given, write):
         raise Fault(1, "M10 Truncated") from None
 
 
+def unarmoured(text):
+    """The bytes of a text of base64, and the number of its first group that is none, if there is one."""
+    letters = text.replace(b"\n", b"").replace(b"\r", b"")
+    found = b""
+    for at in range(0, len(letters), 4):
+        group = letters[at : at + 4]
+        try:
+            part = base64.b64decode(group, validate=True)
+        except binascii.Error:
+            part = b""
+        if base64.b64encode(part) != group or letters[at - 1 : at] == b"=":
+            return found, at // 4 + 1
+        found += part
+    return found, None
+
+
+def read_input(given, read):
+    """What comes of the input's message; a bad group of its text is named where the message ends before it."""
+    text = sys.stdin.buffer.read()
+    message, bad = unarmoured(text) if FLAG in given else (text, None)
+    try:
+        return read(message)
+    except Fault as fault:
+        if bad and fault.line == "M10 Truncated":
+            raise Fault(1, f"M27 BadArmour {bad}") from None
+        raise
+
+
 def options(words, known):
     """The options and the pairs of a command's words."""
     given, pairs, words = {}, [], list(words)
@@ -151,7 +184,9 @@ def options(words, known):
         name, found, value = word.partition("=")
         if not name.startswith("-"):
             pairs.append(word)
-        elif name not in known or name in given or not (found or words):
+        elif name == FLAG and FLAG in known and not found and FLAG not in given:
+            given[FLAG] = ""
+        elif name not in known or name == FLAG or name in given or not (found or words):
             raise Fault(2, "words NotRead")
         else:
             given[name] = value if found else words.pop(0)
@@ -179,7 +214,7 @@ def without(pairs, required):
 
 
 def encrypt(words):
-    given, pairs = options(words, ["--keyring", "--frame"])
+    given, pairs = options(words, ["--keyring", "--frame", FLAG])
     if "--keyring" not in given:
         raise Fault(2, "words NotRead")
     if not given.get("--frame", "1").isdigit():
@@ -188,24 +223,29 @@ def encrypt(words):
     wrapping = keyring(given["--keyring"])
     text = sys.stdin.buffer.read()
     frame = int(given.get("--frame", "4096"))
-    sys.stdout.buffer.write(seal(text, wrapping, frame, without(context, required), context))
+    message = seal(text, wrapping, frame, without(context, required), context)
+    sys.stdout.buffer.write(base64.encodebytes(message) if FLAG in given else message)
 
 
 def decrypt(words):
-    given, pairs = options(words, ["--keyring"])
+    given, pairs = options(words, ["--keyring", FLAG])
     if "--keyring" not in given:
         raise Fault(2, "words NotRead")
     context, _ = split_pairs(pairs)
     wrapping = keyring(given["--keyring"])
-    context = open_whole(sys.stdin.buffer.read(), wrapping, context, sys.stdout.buffer.write)
+    context = read_input(given, lambda message: open_whole(message, wrapping, context, sys.stdout.buffer.write))
     sys.stderr.write(json.dumps(context, ensure_ascii=False, sort_keys=True, separators=(",", ":")) + "\n")
 
 
-def listing(_):
+def header_of(message):
     try:
-        header = read_header(Reader(sys.stdin.buffer.read()))
+        return read_header(Reader(message))
     except Refused:
         raise Fault(1, "M10 Truncated") from None
+
+
+def listing(words):
+    header = read_input(options(words, [FLAG])[0], header_of)
     print("version: 2\nsuite: 0478\ncontext: " + json.dumps(header[1], separators=(",", ":"), ensure_ascii=False))
 
 

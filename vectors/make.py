@@ -3,6 +3,7 @@
 
   vectors/make.py           makes them anew, by the program `esdk`, and checks them
   vectors/make.py --check   checks those that are here
+  vectors/make.py --armour  writes the armoured files of the messages that are here
   ESDK=PROGRAM              takes that program instead of ../esdk
 
 It needs Python's package `cryptography`. README.md beside this says what the files are.
@@ -143,6 +144,14 @@ def manifests():
     yield "manifest.json", {**decrypt, "tests": dict(tests())}
 
 
+def armour():
+    """Each message as lines of base64, by Python's own function for them."""
+    (HERE / "armoured").mkdir(exist_ok=True)
+    for name in MESSAGES.keys() | REFUSED.keys():
+        message = (HERE / "ciphertexts" / name).read_bytes()
+        (HERE / "armoured" / name).write_bytes(base64.encodebytes(message))
+
+
 def make():
     for folder in ("ciphertexts", "plaintexts"):
         (HERE / folder).mkdir(exist_ok=True)
@@ -154,6 +163,7 @@ def make():
         (HERE / "ciphertexts" / name).write_bytes(altered(message, at))
     for name, value in manifests():
         (HERE / name).write_text(json.dumps(value, indent=1, ensure_ascii=False) + "\n")
+    armour()
 
 
 def want(holds, what):
@@ -188,21 +198,37 @@ def check_refused(name, names):
     want(esdk(["decrypt"], names, message).returncode == 1, name)
 
 
+def check_armoured(name, names):
+    """The text is that of the message, and the program ends with it as it ends with the message."""
+    message, text = ((HERE / folder / name).read_bytes() for folder in ("ciphertexts", "armoured"))
+    want(base64.encodebytes(message) == text, f"armoured/{name}")
+    ends = [esdk(words, names, of) for words, of in ((["decrypt"], message), (["decrypt", "--armour"], text))]
+    of_message, of_text = ((ran.returncode, ran.stdout, ran.stderr) for ran in ends)
+    want(of_message == of_text, f"decrypt of armoured/{name}")
+
+
 def check():
     for name, (_, length, frame, names, context) in MESSAGES.items():
         check_message(name, length, frame, names, context)
+        check_armoured(name, names)
     for name, (_, of, _) in REFUSED.items():
         check_refused(name, MESSAGES[of][3])
+        check_armoured(name, MESSAGES[of][3])
     for name, value in manifests():
         want(json.loads((HERE / name).read_text()) == value, name)
-    there = {path.name for path in (HERE / "ciphertexts").iterdir()}
-    want(there == MESSAGES.keys() | REFUSED.keys(), "the files of ciphertexts")
-    print(f"{len(MESSAGES)} messages are opened, and {len(REFUSED)} are refused, by esdk and by opening.py")
+    for folder in ("ciphertexts", "armoured"):
+        there = {path.name for path in (HERE / folder).iterdir()}
+        want(there == MESSAGES.keys() | REFUSED.keys(), f"the files of {folder}")
+    print(f"{len(MESSAGES)} messages are opened, and {len(REFUSED)} are refused, by esdk and by opening.py;")
+    print("esdk ends with the armoured ones in the same way")
 
 
 if __name__ == "__main__":
-    if sys.argv[1:] not in ([], ["--check"]):
+    if sys.argv[1:] not in ([], ["--check"], ["--armour"]):
         sys.exit(__doc__)
     if not sys.argv[1:]:
         make()
-    check()
+    if sys.argv[1:] == ["--armour"]:
+        armour()
+    else:
+        check()

@@ -142,6 +142,7 @@ offers() {
 completion() {
     want "completion of a command" [ "$(offers _esdk esdk en)" = encrypt ]
     want "completion of an option" [ "$(offers _esdk esdk decrypt --max)" = "--max-keys --max-unit" ]
+    want "completion of a flag" [ "$(offers _esdk esdk list --a)" = "--allow-uncommitted --armour" ]
     want "completion of a keyring file" [ "$(offers _esdk esdk encrypt --keyring accen)" = accents ]
     want "completion of a keyring file behind =" [ "$(offers _esdk esdk encrypt --keyring = accen)" = accents ]
     want "completion of the second keyring file" [ "$(offers _esdk esdk reseal --to-keyring accen)" = accents ]
