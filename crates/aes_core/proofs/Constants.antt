@@ -14,7 +14,7 @@ use Rattle.aes_core.specs.PlaneKeys.{with_constant}
 
 -- ---- one byte
 
-swap_inner : (a b c d : ℕ) → bit_xor (bit_xor a b) (bit_xor c d) ≡ bit_xor (bit_xor a c) (bit_xor b d)
+pub swap_inner : (a b c d : ℕ) → bit_xor (bit_xor a b) (bit_xor c d) ≡ bit_xor (bit_xor a c) (bit_xor b d)
 swap_inner a b c d =
     xor_assoc a b (bit_xor c d) ∙ ap (bit_xor a) (sym (xor_assoc b c d) ∙ ap (λ n. bit_xor n d) (xor_comm b c) ∙ xor_assoc c b d)
     ∙ sym (xor_assoc a c (bit_xor b d))
@@ -39,41 +39,57 @@ mixed_apart a b c d h l =
     rw (two_times a h, three_times b l, swap_inner x 0xC6 y 0xA5, swap_inner (bit_xor x y) 0x63 c 0x63, xor_zero_r (bit_xor (bit_xor x y) c))
     (sym (xor_assoc (bit_xor (bit_xor x y) c) d 0x63))
 
-sub_byte_below : (a : ℕ) → sub_byte a < 256
+pub sub_byte_below : (a : ℕ) → sub_byte a < 256
 unfolding sub_byte
 sub_byte_below a = omega arith
 
 -- ---- whole states
 
--- a round on planes whose S-box left out the constant, with a key that has it
-pub plane_round : {P : Type 0} → (bit : P → ℕ → ℕ → ℕ) (s y z key : Planes P) (b : ℕ) (k : List ℕ)
+-- the state that SubBytes, but for the constant, and ShiftRows make of block b
+abbrev pub subbed_and_shifted : {P : Type 0} → (P → ℕ → ℕ → ℕ) → Planes P → ℕ → List ℕ
+subbed_and_shifted bit s b = map (λ j. bit_xor (sub_byte (byte_of bit s (shifted j) b)) 0x63) (range_with_len 0 16)
+
+-- ShiftRows after SubBytes
+pub shifted_later : {P : Type 0} → (bit : P → ℕ → ℕ → ℕ) (s y : Planes P) (b : ℕ)
     → ((j b : ℕ) → byte_of bit y j b ≡ bit_xor (sub_byte (byte_of bit s j b)) 0x63)
-    → block bit z b ≡ add_round_key (mix_columns (shift_rows (block bit y b))) (block bit key b)
+    → shift_rows (block bit y b) ≡ subbed_and_shifted bit s b
+unfolding block
+shifted_later bit s y b subbed =
+    same_state (λ j. byte_of bit y (shifted j) b) (λ j. bit_xor (sub_byte (byte_of bit s (shifted j) b)) 0x63) (λ j h. subbed (shifted j) b)
+
+-- ShiftRows before SubBytes
+pub shifted_first : {P : Type 0} → (bit : P → ℕ → ℕ → ℕ) (s x y : Planes P) (b : ℕ)
+    → ((j b : ℕ) → j < 16 → byte_of bit x j b ≡ byte_of bit s (shifted j) b)
+    → ((j b : ℕ) → byte_of bit y j b ≡ bit_xor (sub_byte (byte_of bit x j b)) 0x63)
+    → block bit y b ≡ subbed_and_shifted bit s b
+unfolding block
+shifted_first bit s x y b moved subbed =
+    same_state (λ j. byte_of bit y (j % 4 + 4 * (j / 4)) b) (λ j. bit_xor (sub_byte (byte_of bit s (shifted j) b)) 0x63) (λ j h.
+    let i : j % 4 + 4 * (j / 4) ≡ j = omega arith in
+    rw i (subbed j b ∙ ap (λ n. bit_xor (sub_byte n) 0x63) (moved j b h)))
+
+-- a round on planes whose S-box left out the constant, with a key that has it
+pub plane_round : {P : Type 0} → (bit : P → ℕ → ℕ → ℕ) (s z key : Planes P) (t : List ℕ) (b : ℕ) (k : List ℕ)
+    → t ≡ subbed_and_shifted bit s b → block bit z b ≡ add_round_key (mix_columns t) (block bit key b)
     → block bit key b ≡ with_constant k → block bit z b ≡ round (block bit s b) k
 unfolding block round
-plane_round bit s y z key b k subbed rounded keyed =
+plane_round bit s z key t b k moved rounded keyed =
     let at = λ (j : ℕ). sub_byte (byte_of bit s j b) in
     let plus = λ (j : ℕ). bit_xor (at j) 0x63 in
     let mix = λ (f : ℕ → ℕ) (j : ℕ). mixed_byte (f (shifted j)) (f (shifted (below 1 j))) (f (shifted (below 2 j))) (f (shifted (below 3 j))) in
-    let subs : block bit y b ≡ map plus (range_with_len 0 16) =
-    same_state (λ j. byte_of bit y (j % 4 + 4 * (j / 4)) b) plus (λ j h. let i : j % 4 + 4 * (j / 4) ≡ j = omega arith in rw i (subbed j b)) in
-    rounded ∙ ap (λ t. add_round_key (mix_columns (shift_rows t)) (block bit key b)) subs
-    ∙ ap (add_round_key (mix_columns (shift_rows (map plus (range_with_len 0 16))))) keyed
+    rounded ∙ ap (λ u. add_round_key (mix_columns u) (block bit key b)) moved
+    ∙ ap (add_round_key (mix_columns (subbed_and_shifted bit s b))) keyed
     ∙ same_state (λ j. bit_xor (mix plus j) (bit_xor (get_or k j 0) 0x63)) (λ j. bit_xor (mix at j) (get_or k j 0)) (λ j h.
     rw (mixed_apart (at (shifted j)) (at (shifted (below 1 j))) (at (shifted (below 2 j))) (at (shifted (below 3 j))) (sub_byte_below _) (sub_byte_below _))
     (twice_added (mix at j) (get_or k j 0)))
 
-pub plane_last_round : {P : Type 0} → (bit : P → ℕ → ℕ → ℕ) (s y z key : Planes P) (b : ℕ) (k : List ℕ)
-    → ((j b : ℕ) → byte_of bit y j b ≡ bit_xor (sub_byte (byte_of bit s j b)) 0x63)
-    → block bit z b ≡ add_round_key (shift_rows (block bit y b)) (block bit key b)
+pub plane_last_round : {P : Type 0} → (bit : P → ℕ → ℕ → ℕ) (s z key : Planes P) (t : List ℕ) (b : ℕ) (k : List ℕ)
+    → t ≡ subbed_and_shifted bit s b → block bit z b ≡ add_round_key t (block bit key b)
     → block bit key b ≡ with_constant k → block bit z b ≡ last_round (block bit s b) k
 unfolding block last_round
-plane_last_round bit s y z key b k subbed rounded keyed =
+plane_last_round bit s z key t b k moved rounded keyed =
     let at = λ (j : ℕ). sub_byte (byte_of bit s j b) in
-    let plus = λ (j : ℕ). bit_xor (at j) 0x63 in
-    let subs : block bit y b ≡ map plus (range_with_len 0 16) =
-    same_state (λ j. byte_of bit y (j % 4 + 4 * (j / 4)) b) plus (λ j h. let i : j % 4 + 4 * (j / 4) ≡ j = omega arith in rw i (subbed j b)) in
-    rounded ∙ ap (λ t. add_round_key (shift_rows t) (block bit key b)) subs
-    ∙ ap (add_round_key (shift_rows (map plus (range_with_len 0 16)))) keyed
-    ∙ same_state (λ j. bit_xor (plus (shifted j)) (bit_xor (get_or k j 0) 0x63)) (λ j. bit_xor (at (shifted j)) (get_or k j 0)) (λ j h.
+    rounded ∙ ap (λ u. add_round_key u (block bit key b)) moved
+    ∙ ap (add_round_key (subbed_and_shifted bit s b)) keyed
+    ∙ same_state (λ j. bit_xor (bit_xor (at (shifted j)) 0x63) (bit_xor (get_or k j 0) 0x63)) (λ j. bit_xor (at (shifted j)) (get_or k j 0)) (λ j h.
     twice_added (at (shifted j)) (get_or k j 0))

@@ -1,7 +1,7 @@
 //! The cipher over round keys (FIPS 197, 5.1). The state is its four columns.
 
 ghost use Rattle.std.specs.Prelude.{◌≡◌};
-ghost use Rattle.cipher_spec.specs.Aes.{add_round_key, cipher, last_round, round};
+ghost use Rattle.cipher_spec.specs.Aes.{add_round_key, cipher, key_at, last_round, round};
 ghost use Rattle.aes_core.specs.Column.{bytes};
 
 use crate::column::{column, word};
@@ -77,4 +77,20 @@ pub fn cipher(keys: &[[u8; 16]; 15], x: [u8; 16]) -> [u8; 16]
         state = next;
     }
     last_round(state, keys[14])
+}
+
+/// The state after the first round (FIPS 197, 5.1).
+#[inline(always)]
+pub fn after_first_round(keys: &[[u8; 16]; 15], x: [u8; 16]) -> [u8; 16]
+    ensures { result ≡ round (add_round_key x (key_at keys.now 0)) (key_at keys.now 1) }
+{
+    let state = round(first(x, keys[0]), keys[1]);
+    let a = state[0].to_le_bytes();
+    let b = state[1].to_le_bytes();
+    let c = state[2].to_le_bytes();
+    let d = state[3].to_le_bytes();
+    [
+        a[0], a[1], a[2], a[3], b[0], b[1], b[2], b[3], c[0], c[1], c[2], c[3], d[0], d[1], d[2],
+        d[3],
+    ]
 }

@@ -22,22 +22,23 @@ pub fn plane_keys(schedule: &[[u8; 16]; 15]) -> [Planes<u8x16>; 15]
     keys
 }
 
-/// A round, where the constant of the S-box is added to the key.
+/// A round, where the constant of the S-box is added to the key. ShiftRows comes first, as it may:
+/// behind SubBytes the compiler would join it with MixColumns, and shuffle each plane twice.
 #[inline(always)]
-fn round(s: &Planes<u8x16>, key: &Planes<u8x16>) -> Planes<u8x16>
+pub fn round(s: &Planes<u8x16>, key: &Planes<u8x16>) -> Planes<u8x16>
     ensures { (b : ℕ) (k : List ℕ) → block lane_bit key.now b ≡ with_constant k
         → block lane_bit result b ≡ round (block lane_bit s.now b) k }
 {
-    rounds::round(&circuit::sub_bytes(s), key)
+    rounds::mixed_and_keyed(&circuit::sub_bytes(&rounds::shifted(s)), key)
 }
 
 /// The last round, where the constant of the S-box is added to the key.
 #[inline(always)]
-fn last_round(s: &Planes<u8x16>, key: &Planes<u8x16>) -> Planes<u8x16>
+pub fn last_round(s: &Planes<u8x16>, key: &Planes<u8x16>) -> Planes<u8x16>
     ensures { (b : ℕ) (k : List ℕ) → block lane_bit key.now b ≡ with_constant k
         → block lane_bit result b ≡ last_round (block lane_bit s.now b) k }
 {
-    rounds::last_round(&circuit::sub_bytes(s), key)
+    rounds::keyed(&circuit::sub_bytes(&rounds::shifted(s)), key)
 }
 
 /// Eight states after all rounds.

@@ -1,24 +1,35 @@
 //! A key of AES-256, ready for use.
 
-ghost use Rattle.std.specs.Prelude.{◌≡◌, ℕ, List, map};
-ghost use Rattle.cipher_spec.specs.Aes.{aes, round_keys};
+ghost use Rattle.std.specs.Prelude.{◌≡◌, ℕ, ◌/◌, ◌%◌, ◌^◌, ◌<◌, true, List, ◌++◌, map};
+ghost use Rattle.std.specs.List.{range_with_len};
+ghost use Rattle.std.specs.Int.{w32, to_be_bytes};
+ghost use Rattle.cipher_spec.specs.Aes.{aes, round_keys, rounds};
+ghost use Rattle.cipher_spec.specs.Gcm.{counter};
+ghost use Rattle.plane_core.specs.Bits.{block};
 ghost use Rattle.plane_core.specs.Places.{lane_bit};
+ghost use Rattle.aes_core.specs.Counters.{HasColumns, IsPage, last_key_byte};
 ghost use Rattle.aes_core.specs.PlaneKeys.{HasKeys};
 
+use crate::after_first::{cipher_from, first_states};
 use crate::cipher::cipher;
+use crate::counter::counter_blocks;
 use crate::key_schedule::round_keys;
-use crate::{eight, four};
+use crate::page::{CounterPage, page_of};
+use crate::{eight, four, last_byte};
 use plane_core::planes::Planes;
+use plane_core::rounds::keyed;
 use std::marker::Model;
 use std::simd::prelude::*;
 
-/// A key of AES-256 (FIPS 197): its 32 bytes, the round keys that were made from them, and those in
-/// planes for eight blocks.
+/// A key of AES-256 (FIPS 197): its 32 bytes, the round keys that were made from them, those in
+/// planes for eight blocks, and the table of what the last byte of a count adds to the state after
+/// round 1.
 #[derive(Drop)]
 pub struct Key256 {
     bytes: [u8; 32],
     schedule: [[u8; 16]; 15],
     eights: [Planes<u8x16>; 15],
+    last_bytes: [Planes<u8x16>; 8],
 }
 
 // Callers see the key as its 32 bytes.
@@ -28,7 +39,17 @@ impl Model for Key256 {
     ghost view = { λ k. k.bytes };
 
     ghost invariant = { λ k. (k.schedule ≡ round_keys k.bytes)
-        × HasKeys lane_bit 8 k.eights k.schedule };
+        × HasKeys lane_bit 8 k.eights k.schedule
+        × HasColumns k.last_bytes (last_key_byte k.schedule) };
+}
+
+/// Whether the eight counts from this one on are a group of a page: none of them is in the next
+/// page.
+#[inline(always)]
+fn is_group(count: u32) -> bool
+    ensures { result ≡ true → (count % 8 ≡ 2) × (count % 2 ^ 8 < 250) }
+{
+    count % 8 == 2 && count % 256 < 250
 }
 
 impl Key256 {
@@ -41,6 +62,7 @@ impl Key256 {
             bytes: *key,
             schedule,
             eights: eight::plane_keys(&schedule),
+            last_bytes: last_byte::table(schedule[0][15]),
         }
     }
 
@@ -52,7 +74,7 @@ impl Key256 {
     }
 
     /// Four blocks, each enciphered under the key. The round keys' planes for four blocks are made
-    /// in each call, since a key that held them would be nearly half as large again.
+    /// in each call, since a key that held them would be nearly a third larger.
     pub fn blocks4(&self, x: [[u8; 16]; 4]) -> [[u8; 16]; 4]
         ensures { result ≡ map (aes self.now) x }
     {
@@ -64,5 +86,56 @@ impl Key256 {
         ensures { result ≡ map (aes self.now) x }
     {
         eight::cipher(&self.eights, &x)
+    }
+
+    /// The page that has the counter block of an initialization vector and a count.
+    pub fn page(&self, iv: &[u8; 12], count: u32) -> CounterPage
+        ensures page { IsPage self.now iv.now result }
+        ensures number { result.number ≡ count / 2 ^ 8 }
+    {
+        page_of(&self.schedule, iv, count)
+    }
+
+    /// Puts the page of a count in `page`, if it isn't there.
+    #[inline(always)]
+    fn turn_to(&self, iv: &[u8; 12], count: u32, page: &mut CounterPage)
+        requires { IsPage self.now iv.now page.old }
+        ensures page { IsPage self.now iv.now page.new }
+        ensures number { page.new.number ≡ count / 2 ^ 8 }
+    {
+        if page.number != count / 256 {
+            *page = page_of(&self.schedule, iv, count);
+        }
+    }
+
+    /// The states after round 1 of eight counter blocks in a row.
+    #[inline(always)]
+    fn started(&self, iv: &[u8; 12], count: u32, page: &mut CounterPage) -> Planes<u8x16>
+        requires { IsPage self.now iv.now page.old }
+        ensures states { (b : ℕ) → b < 8 → block lane_bit result b
+            ≡ rounds (round_keys self.now) (counter (iv.now ++ to_be_bytes w32 count) b) 1 }
+        ensures page { IsPage self.now iv.now page.new }
+    {
+        if !is_group(count) {
+            return first_states(&self.eights, &counter_blocks(iv, count));
+        }
+        self.turn_to(iv, count, page);
+        let column = last_byte::column(&self.last_bytes, (count % 256 / 8) as usize);
+        keyed(&page.state, &column)
+    }
+
+    /// The eight counter blocks from that of the count `count` on, each enciphered under the key
+    /// (NIST SP 800-38D, section 6.5). `page` is any page of the initialization vector under the
+    /// key: that of the last group saves most of round 1 where this group is of the same page, and
+    /// gives way to this group's where it isn't.
+    pub fn counters8(&self, iv: &[u8; 12], count: u32, page: &mut CounterPage) -> [[u8; 16]; 8]
+        requires { IsPage self.now iv.now page.old }
+        ensures blocks { result
+            ≡ map (aes self.now) (map (counter (iv.now ++ to_be_bytes w32 count))
+            (range_with_len 0 8)) }
+        ensures page { IsPage self.now iv.now page.new }
+    {
+        let start = self.started(iv, count, page);
+        cipher_from(&self.eights, &start)
     }
 }

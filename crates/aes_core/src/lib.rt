@@ -1,15 +1,23 @@
 //! The block cipher AES-256 (FIPS 197).
 //!
-//! `Key256` holds a key with its round keys, and enciphers blocks under it.
+//! `Key256` holds a key with its round keys, and enciphers blocks under it. Counter blocks are
+//! enciphered faster than others: those of a `CounterPage` differ in one byte, so that most of
+//! their first round is the same.
 #![tactic(auto)]
 
+mod after_first;
 mod cipher;
 mod column;
 mod constant;
+mod counter;
 mod eight;
 mod four;
 mod key;
 mod key_schedule;
+mod last_byte;
+mod page;
 mod sbox;
 
+pub use counter::counter_block;
 pub use key::Key256;
+pub use page::CounterPage;

@@ -26,6 +26,19 @@ pub fn ecb(out: &mut String, key: &[u8], blocks: &[u8]) -> Result<(), Wrong> {
     }
 }
 
+/// Sixteen counter blocks, from that of the count on, each enciphered: eight, and eight behind them
+/// with the page that the first eight left.
+pub fn counters(out: &mut String, key: &[u8], iv: &[u8], count: &[u8]) -> Result<(), Wrong> {
+    let (key, iv) = (Key256::new(sized(key)?), sized(iv)?);
+    let count = u32::from_be_bytes(*sized(count)?);
+    let mut page = key.page(iv, count);
+    let first = key.counters8(iv, count, &mut page);
+    let second = key.counters8(iv, count.wrapping_add(8), &mut page);
+    put(out, first.as_flattened())?;
+    put_text(out, " ")?;
+    put(out, second.as_flattened())
+}
+
 /// The hash of blocks, taken one by one.
 pub fn ghash(out: &mut String, key: &[u8], blocks: &[u8]) -> Result<(), Wrong> {
     let mut hash = Ghash::new(*sized(key)?);

@@ -8,6 +8,7 @@
 //! | Call | Answer |
 //! |---|---|
 //! | `ecb KEY BLOCKS` | one block, four or eight, enciphered by the function that takes so many |
+//! | `counters KEY IV COUNT` | eight enciphered counter blocks from the count on, and eight more |
 //! | `ghash H BLOCKS` | the hash of the blocks, taken one by one |
 //! | `ghash4 H BLOCKS` | the same, taken by fours as long as there are four |
 //! | `seal KEY IV FIRST SECOND TEXT` | the ciphertext and the tag |

@@ -1,32 +1,11 @@
 -- Counter blocks, and the bytes that they add to a text.
-use Rattle.std.proofs.Common.{◌≡◌, ℕ, zero, suc, ◌+◌, ◌-◌, ◌*◌, ◌/◌, ◌%◌, ◌^◌, ◌<◌, ◌≤◌, List, [], ◌∷◌, ◌++◌, length, take, drop, map, get_or, bit_xor, refl, sym, ap, ◌∙◌, subst, inl, inr, arith}
-use Rattle.std.specs.List.{range_with_len}
-use Rattle.std.specs.Int.{w32, from_be_bytes, to_be_bytes}
-use Rattle.std.proofs.Math.Seq.{take-append_seam, drop-append_seam}
+use Rattle.std.proofs.Common.{◌≡◌, ℕ, zero, suc, ◌+◌, ◌-◌, ◌*◌, ◌/◌, ◌%◌, ◌^◌, ◌<◌, ◌≤◌, List, ◌++◌, length, get_or, bit_xor, refl, sym, ap, ◌∙◌, subst, inl, inr, arith}
+use Rattle.std.specs.Int.{w32, to_be_bytes}
 use Rattle.std.proofs.lemmas.Bool.{cases_lt}
 use Rattle.std.proofs.lemmas.List.FromFn.{fill_by_all}
-use Rattle.std.proofs.lemmas.Nat.{from_be_bytes-to_be_bytes_4}
 use Rattle.cipher_spec.specs.Aes.{aes}
 use Rattle.cipher_spec.specs.Gcm.{inc32, counter, mask, gctr, pre_counter, cipher_of}
-
--- inc 32 of a counter block adds one to its count
-pub inc32-count : (iv : List ℕ) (count : ℕ) → length iv ≡ 12 → count < 2 ^ 32 → inc32 (iv ++ to_be_bytes w32 count) ≡ iv ++ to_be_bytes w32 ((count + 1) % 2 ^ 32)
-inc32-count iv count long fits =
-    let block = iv ++ to_be_bytes w32 count in
-    let front : take 12 block ≡ iv = ap (λ n. take n block) (sym long) ∙ take-append_seam iv (to_be_bytes w32 count) in
-    let back : drop 12 block ≡ to_be_bytes w32 count = ap (λ n. drop n block) (sym long) ∙ drop-append_seam iv (to_be_bytes w32 count) in
-    let number : from_be_bytes w32 (drop 12 block) ≡ count = ap (from_be_bytes w32) back ∙ from_be_bytes-to_be_bytes_4 count fits in
-    ap (λ l. l ++ to_be_bytes w32 ((from_be_bytes w32 (drop 12 block) + 1) % 2 ^ 32)) front ∙ ap (λ n. iv ++ to_be_bytes w32 ((n + 1) % 2 ^ 32)) number
-
--- the counter block that comes k later
-pub counter-later : (iv : List ℕ) (count k : ℕ) → length iv ≡ 12 → count < 2 ^ 32 → iv ++ to_be_bytes w32 ((count + k) % 2 ^ 32) ≡ counter (iv ++ to_be_bytes w32 count) k
-counter-later iv count zero long fits =
-    let e : (count + 0) % 2 ^ 32 ≡ count = omega arith in
-    ap (λ n. iv ++ to_be_bytes w32 n) e
-counter-later iv count (suc k) long fits =
-    let n = (count + k) % 2 ^ 32 in
-    let e : (n + 1) % 2 ^ 32 ≡ (count + suc k) % 2 ^ 32 = omega arith in
-    ap (λ n. iv ++ to_be_bytes w32 n) (sym e) ∙ sym (inc32-count iv n long (omega arith)) ∙ ap inc32 (counter-later iv count k long fits)
+use Rattle.aes_core.proofs.CounterBlocks.{counter-later, inc32-count}
 
 -- counting goes on from any counter block
 pub counter-add : (initial : List ℕ) (m k : ℕ) → counter (counter initial m) k ≡ counter initial (m + k)
@@ -41,10 +20,6 @@ counter-add initial m (suc k) =
 pub counter-next : (iv initial : List ℕ) (count k n m : ℕ) → length iv ≡ 12 → count < 2 ^ 32 → iv ++ to_be_bytes w32 count ≡ counter initial k → k + n ≡ m → iv ++ to_be_bytes w32 ((count + n) % 2 ^ 32) ≡ counter initial m
 counter-next iv initial count k n m long fits is e =
     counter-later iv count n long fits ∙ ap (λ block. counter block n) is ∙ counter-add initial k n ∙ ap (counter initial) e
-
--- eight values of a function
-pub eight_values : (f : ℕ → List ℕ) (b0 b1 b2 b3 b4 b5 b6 b7 : List ℕ) → b0 ≡ f 0 → b1 ≡ f 1 → b2 ≡ f 2 → b3 ≡ f 3 → b4 ≡ f 4 → b5 ≡ f 5 → b6 ≡ f 6 → b7 ≡ f 7 → b0 ∷ b1 ∷ b2 ∷ b3 ∷ b4 ∷ b5 ∷ b6 ∷ b7 ∷ [] ≡ map f (range_with_len 0 8)
-eight_values f b0 b1 b2 b3 b4 b5 b6 b7 e0 e1 e2 e3 e4 e5 e6 e7 = rw (e0, e1, e2, e3, e4, e5, e6, e7) refl
 
 -- what is added to byte i of block k
 pub mask-at : (key initial : List ℕ) (k i : ℕ) → i < 16 → mask key initial (16 * k + i) ≡ get_or (aes key (counter initial k)) i 0

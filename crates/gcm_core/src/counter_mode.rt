@@ -1,12 +1,12 @@
 //! Counter mode, GCTR of SP 800-38D, section 6.5.
 
-ghost use Rattle.std.specs.Prelude.{◌≡◌, ◌≤◌, ◌++◌, length, map};
-ghost use Rattle.std.specs.List.{range_with_len};
+ghost use Rattle.std.specs.Prelude.{◌≡◌, ◌≤◌, ◌++◌, length};
 ghost use Rattle.std.specs.Int.{w32, to_be_bytes};
-ghost use Rattle.cipher_spec.specs.Gcm.{counter, gctr};
+ghost use Rattle.cipher_spec.specs.Gcm.{gctr};
+ghost use Rattle.aes_core.specs.Counters.{IsPage};
 
 use crate::masks::{add_mask, add_masks};
-use aes_core::Key256;
+use aes_core::{CounterPage, Key256, counter_block};
 
 /// The count of the counter block that masks the tag.
 pub const TAG_COUNT: u32 = 1;
@@ -19,35 +19,6 @@ const GROUP: usize = 128;
 
 /// Up to so many bytes are enciphered sooner block by block than as a part of eight blocks.
 const FEW: usize = 48;
-
-/// The counter block of an initialization vector and a count.
-#[inline(always)]
-fn counter_block(iv: &[u8; 12], count: u32) -> [u8; 16]
-    ensures { result ≡ iv.now ++ to_be_bytes w32 count }
-{
-    let n = count.to_be_bytes();
-    [
-        iv[0], iv[1], iv[2], iv[3], iv[4], iv[5], iv[6], iv[7], iv[8], iv[9], iv[10], iv[11], n[0],
-        n[1], n[2], n[3],
-    ]
-}
-
-/// Eight counter blocks, from that of the count `first` on.
-#[inline(always)]
-fn counter_blocks(iv: &[u8; 12], first: u32) -> [[u8; 16]; 8]
-    ensures { result ≡ map (counter (iv.now ++ to_be_bytes w32 first)) (range_with_len 0 8) }
-{
-    [
-        counter_block(iv, first),
-        counter_block(iv, first.wrapping_add(1)),
-        counter_block(iv, first.wrapping_add(2)),
-        counter_block(iv, first.wrapping_add(3)),
-        counter_block(iv, first.wrapping_add(4)),
-        counter_block(iv, first.wrapping_add(5)),
-        counter_block(iv, first.wrapping_add(6)),
-        counter_block(iv, first.wrapping_add(7)),
-    ]
-}
 
 /// Adds the enciphered counter blocks to the text, block by block, from that of the count `first`
 /// on.
@@ -70,13 +41,15 @@ pub fn gctr_by_blocks(key: &Key256, iv: &[u8; 12], first: u32, text: &mut [u8])
 }
 
 /// Adds eight enciphered counter blocks to a text that reaches no further, from that of the count
-/// `first` on.
+/// `first` on. `page` is a page of the initialization vector, as `Key256::counters8` takes it.
 #[inline(always)]
-fn gctr_group(key: &Key256, iv: &[u8; 12], first: u32, text: &mut [u8])
-    requires { length text.old ≤ 128 }
-    ensures { text.new ≡ gctr key.now (iv.now ++ to_be_bytes w32 first) text.old }
+fn gctr_group(key: &Key256, iv: &[u8; 12], first: u32, page: &mut CounterPage, text: &mut [u8])
+    requires short { length text.old ≤ 128 }
+    requires page { IsPage key.now iv.now page.old }
+    ensures enciphered { text.new ≡ gctr key.now (iv.now ++ to_be_bytes w32 first) text.old }
+    ensures page { IsPage key.now iv.now page.new }
 {
-    let masks = key.blocks8(counter_blocks(iv, first));
+    let masks = key.counters8(iv, first, page);
     add_masks(text, &masks);
 }
 
@@ -84,23 +57,42 @@ fn gctr_group(key: &Key256, iv: &[u8; 12], first: u32, text: &mut [u8])
 pub fn gctr(key: &Key256, iv: &[u8; 12], first: u32, text: &mut [u8])
     ensures { text.new ≡ gctr key.now (iv.now ++ to_be_bytes w32 first) text.old }
 {
+    if text.len() <= FEW {
+        gctr_by_blocks(key, iv, first, text);
+    } else {
+        gctr_by_groups(key, iv, first, text);
+    }
+}
+
+/// The same, eight blocks at a time.
+fn gctr_by_groups(key: &Key256, iv: &[u8; 12], first: u32, text: &mut [u8])
+    ensures { text.new ≡ gctr key.now (iv.now ++ to_be_bytes w32 first) text.old }
+{
     let groups = text.len() / GROUP;
     let mut count = first;
+    let mut page = key.page(iv, first);
     'groups: for k in 0..groups {
-        gctr_group(key, iv, count, &mut text[GROUP * k..GROUP * k + GROUP]);
+        gctr_group(
+            key,
+            iv,
+            count,
+            &mut page,
+            &mut text[GROUP * k..GROUP * k + GROUP],
+        );
         count = count.wrapping_add(8);
     }
-    gctr_rest(key, iv, count, &mut text[GROUP * groups..]);
+    gctr_rest(key, iv, count, &mut page, &mut text[GROUP * groups..]);
 }
 
 /// The same for a text of fewer than eight blocks.
-fn gctr_rest(key: &Key256, iv: &[u8; 12], first: u32, text: &mut [u8])
-    requires { length text.old ≤ 128 }
+fn gctr_rest(key: &Key256, iv: &[u8; 12], first: u32, page: &mut CounterPage, text: &mut [u8])
+    requires short { length text.old ≤ 128 }
+    requires page { IsPage key.now iv.now page.old }
     ensures { text.new ≡ gctr key.now (iv.now ++ to_be_bytes w32 first) text.old }
 {
     if text.len() <= FEW {
         gctr_by_blocks(key, iv, first, text);
     } else {
-        gctr_group(key, iv, first, text);
+        gctr_group(key, iv, first, page, text);
     }
 }

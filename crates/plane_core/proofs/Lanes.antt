@@ -1,5 +1,5 @@
 -- The lanes of vectors of 16 bytes, where they are moved and where their bits are.
-use Rattle.std.proofs.Common.{◌≡◌, ℕ, ◌+◌, ◌-◌, ◌*◌, ◌/◌, ◌%◌, ◌^◌, ◌<◌, ◌≤◌, Bool, cond, T, List, ◌++◌, length, map, replicate, get_or, bit_and, bit_xor, Fits, w8, refl, sym, ap, ◌∙◌, inl, inr, arith}
+use Rattle.std.proofs.Common.{◌≡◌, ℕ, ◌+◌, ◌-◌, ◌*◌, ◌/◌, ◌%◌, ◌^◌, ◌<◌, ◌≤◌, cond, T, List, ◌++◌, length, map, replicate, get_or, bit_and, bit_xor, Fits, w8, refl, sym, ap, ◌∙◌, inl, inr, arith}
 use Rattle.std.specs.Int.{bit_at}
 use Rattle.std.specs.List.{range_with_len}
 use Rattle.std.specs.Simd.Lanes.{zip2, Each1}
@@ -8,14 +8,11 @@ use Rattle.std.proofs.Math.Nat.{zero-mul}
 use Rattle.std.proofs.lemmas.Bool.{cases_lt}
 use Rattle.std.proofs.lemmas.List.{get_or_past, get_or_append_left, get_or-map, length-map}
 use Rattle.std.proofs.lemmas.List.FromFn.{get_or-map-range_with_len, length-map-range_with_len}
-use Rattle.std.proofs.lemmas.Simd.{zip2_splat, Each1-get_or, map-map}
+use Rattle.std.proofs.lemmas.Simd.{zip2_splat, length-zip2, Each1-get_or}
 use Rattle.plane_core.specs.Places.{below, lane, shifted}
-use Rattle.plane_core.specs.Grid.{row, even_groups, odd_groups}
 use Rattle.cipher_spec.proofs.Computed.{same_below}
 use Rattle.plane_core.proofs.Gates.{lane_of}
-use Rattle.plane_core.proofs.Rows.{same_row}
-use Rattle.plane_core.proofs.Wires.{IsLinear, linear_self, linear_and, linear_down, linear_up, keeps, moves, paired}
-use Rattle.plane_core.proofs.Words.{is_even}
+use Rattle.plane_core.proofs.Wires.{keeps, moves, paired, is_even, raised, evens, odds, evens_self, odds_self, odds_other, linear_raised, linear_evens_self, linear_odds_self, linear_odds_other, evens_apart, odds_apart}
 
 -- ---- lanes moved
 
@@ -77,80 +74,73 @@ lanes_picked s v long h within j = elim (cases_lt j 16) [
 abbrev pub lane_cell : List ℕ → ℕ → ℕ → ℕ
 lane_cell v k i = bit_at (get_or v k 0) i
 
-lanes_paired : (pick : ℕ → Bool) (u v f g : ℕ → ℕ) → IsLinear f → IsLinear g → T (keeps 8 (λ i. i) pick u f) → T (moves 8 (λ i. i) pick v g)
-    → f 0 ≡ 0 → g 0 ≡ 0 → (a b : List ℕ) → length a ≡ 16 → length b ≡ 16 → Each1 (Fits w8) a → Each1 (Fits w8) b
-    → (k i : ℕ) → i < 8 → lane_cell (zip2 bit_xor (map f a) (map g b)) k i ≡ cond (pick i) (lane_cell a k (u i)) (lane_cell b k (v i))
-lanes_paired pick u v f g h l p q y z a b m n s t k i d =
-    ap (λ n. bit_at n i) (lane_of bit_xor refl (map f a) (map g b) (length-map a f ∙ m) (length-map b g ∙ n) k
-    ∙ ap (λ n. bit_xor n (get_or (map g b) k 0)) (mapped f y a k) ∙ ap (bit_xor (f (get_or a k 0))) (mapped g z b k))
-    ∙ paired 8 (λ i. i) pick u v f g h l p q (get_or a k 0) (get_or b k 0) i (lane_below a s k) (lane_below b t k) d
+-- an operator with the same number at each lane
+each_lane : (f : ℕ → ℕ → ℕ) (n : ℕ) → f 0 n ≡ 0 → (x : List ℕ) → length x ≡ 16 → (k : ℕ) → get_or (zip2 f x (replicate 16 n)) k 0 ≡ f (get_or x k 0) n
+each_lane f n none x long k = ap (λ l. get_or l k 0) (zip2_splat f x 16 n long) ∙ mapped (λ a. f a n) none x k
 
-none_up : (n m : ℕ) → bit_and (0 * 2 ^ n % 256) m ≡ 0
-none_up n m = ap (λ z. bit_and (z % 256) m) (zero-mul (2 ^ n)) ∙ and_zero_l m
+none_up : (n : ℕ) → 0 * 2 ^ n % 256 ≡ 0
+none_up n = ap (λ z. z % 256) (zero-mul (2 ^ n))
 
-none_down : (n m : ℕ) → bit_and (0 / 2 ^ n) m ≡ 0
-none_down n m = let e : 0 / 2 ^ n ≡ 0 = omega arith in ap (λ z. bit_and z m) e ∙ and_zero_l m
+none_down : (n : ℕ) → 0 / 2 ^ n ≡ 0
+none_down n = omega arith
 
--- bits of one vector that stay, and bits of another that move n up
-abbrev pub evens : ℕ → ℕ → ℕ → List ℕ → List ℕ → List ℕ
-evens n m o a b = zip2 bit_xor (zip2 bit_and a (replicate 16 m)) (zip2 bit_and (zip2 (λ x s. x * 2 ^ s % 256) b (replicate 16 n)) (replicate 16 o))
+-- the length of what an operator gives
+long_as : (f : ℕ → ℕ → ℕ) (x y : List ℕ) → length x ≡ 16 → length y ≡ 16 → length (zip2 f x y) ≡ 16
+long_as f x y h l = length-zip2 f x y (h ∙ sym l) ∙ h
 
--- bits of one vector that move n down, and bits of another that stay
-abbrev pub odds : ℕ → ℕ → ℕ → List ℕ → List ℕ → List ℕ
-odds n m o a b = zip2 bit_xor (zip2 bit_and (zip2 (λ x s. x / 2 ^ s) a (replicate 16 n)) (replicate 16 m)) (zip2 bit_and b (replicate 16 o))
+splat_long : (n : ℕ) → length (replicate 16 n) ≡ 16
+splat_long n = refl
 
--- an operator twice, the second time after the first
-twice : (f g : ℕ → ℕ → ℕ) (n m : ℕ) (x : List ℕ) → length x ≡ 16 → zip2 g (zip2 f x (replicate 16 n)) (replicate 16 m) ≡ map (λ a. g (f a n) m) x
-twice f g n m x long =
-    ap (λ l. zip2 g l (replicate 16 m)) (zip2_splat f x 16 n long)
-    ∙ zip2_splat g (map (λ a. f a n) x) 16 m (length-map x (λ a. f a n) ∙ long) ∙ map-map (λ a. g a m) (λ a. f a n) x
+-- where two vectors differ in the bits of a mask, once those of the first are moved n down
+abbrev pub differing : ℕ → ℕ → List ℕ → List ℕ → List ℕ
+differing n m a b = zip2 bit_and (zip2 bit_xor (zip2 (λ x s. x / 2 ^ s) a (replicate 16 n)) b) (replicate 16 m)
 
-mapped_evens : (n m o : ℕ) (a b : List ℕ) → length a ≡ 16 → length b ≡ 16
-    → evens n m o a b ≡ zip2 bit_xor (map (λ x. bit_and x m) a) (map (λ x. bit_and (x * 2 ^ n % 256) o) b)
-mapped_evens n m o a b h l = rw (zip2_splat bit_and a 16 m h, twice (λ x s. x * 2 ^ s % 256) bit_and n o b l) refl
+moved_long : (n : ℕ) (a : List ℕ) → length a ≡ 16 → length (zip2 (λ x s. x / 2 ^ s) a (replicate 16 n)) ≡ 16
+moved_long n a h = long_as (λ x s. x / 2 ^ s) a (replicate 16 n) h (splat_long n)
 
-mapped_odds : (n m o : ℕ) (a b : List ℕ) → length a ≡ 16 → length b ≡ 16
-    → odds n m o a b ≡ zip2 bit_xor (map (λ x. bit_and (x / 2 ^ n) m) a) (map (λ x. bit_and x o) b)
-mapped_odds n m o a b h l = rw (twice (λ x s. x / 2 ^ s) bit_and n m a h, zip2_splat bit_and b 16 o l) refl
+sums_long : (n : ℕ) (a b : List ℕ) → length a ≡ 16 → length b ≡ 16 → length (zip2 bit_xor (zip2 (λ x s. x / 2 ^ s) a (replicate 16 n)) b) ≡ 16
+sums_long n a b h l = long_as bit_xor (zip2 (λ x s. x / 2 ^ s) a (replicate 16 n)) b (moved_long n a h) l
 
-pub lane_evens_1 : (a b : List ℕ) (k : ℕ) → length a ≡ 16 → length b ≡ 16 → Each1 (Fits w8) a → Each1 (Fits w8) b
-    → row lane_cell (evens 1 0x55 0xaa a b) k ≡ even_groups 1 (row lane_cell a k) (row lane_cell b k)
-unfolding row
-lane_evens_1 a b k h l p q = ap (λ v. map (lane_cell v k) (range_with_len 0 8)) (mapped_evens 1 0x55 0xaa a b h l) ∙ same_row _ (λ i. cond (is_even 1 i) (lane_cell a k i) (lane_cell b k (i - 1))) (λ i d.
-    lanes_paired (is_even 1) (λ i. i) (λ i. i - 1) (λ x. bit_and x 0x55) (λ x. bit_and (x * 2 ^ 1 % 256) 0xaa)
-    (linear_and linear_self 0x55) (linear_and (linear_up 1 8) 0xaa) tt tt (and_zero_l 0x55) (none_up 1 0xaa) a b h l p q k i d)
+differing_long : (n m : ℕ) (a b : List ℕ) → length a ≡ 16 → length b ≡ 16 → length (differing n m a b) ≡ 16
+differing_long n m a b h l = long_as bit_and (zip2 bit_xor (zip2 (λ x s. x / 2 ^ s) a (replicate 16 n)) b) (replicate 16 m) (sums_long n a b h l) (splat_long m)
 
-pub lane_odds_1 : (a b : List ℕ) (k : ℕ) → length a ≡ 16 → length b ≡ 16 → Each1 (Fits w8) a → Each1 (Fits w8) b
-    → row lane_cell (odds 1 0x55 0xaa a b) k ≡ odd_groups 1 (row lane_cell a k) (row lane_cell b k)
-unfolding row
-lane_odds_1 a b k h l p q = ap (λ v. map (lane_cell v k) (range_with_len 0 8)) (mapped_odds 1 0x55 0xaa a b h l) ∙ same_row _ (λ i. cond (is_even 1 i) (lane_cell a k (i + 1)) (lane_cell b k i)) (λ i d.
-    lanes_paired (is_even 1) (λ i. i + 1) (λ i. i) (λ x. bit_and (x / 2 ^ 1) 0x55) (λ x. bit_and x 0xaa)
-    (linear_and (linear_down 1) 0x55) (linear_and linear_self 0xaa) tt tt (none_down 1 0x55) (and_zero_l 0xaa) a b h l p q k i d)
+differing_lane : (n m : ℕ) (a b : List ℕ) → length a ≡ 16 → length b ≡ 16 → (k : ℕ)
+    → get_or (differing n m a b) k 0 ≡ bit_and (bit_xor (get_or a k 0 / 2 ^ n) (get_or b k 0)) m
+differing_lane n m a b h l k =
+    let moved = zip2 (λ x s. x / 2 ^ s) a (replicate 16 n) in
+    each_lane bit_and m (and_zero_l m) (zip2 bit_xor moved b) (sums_long n a b h l) k
+    ∙ ap (λ x. bit_and x m) (lane_of bit_xor refl moved b (moved_long n a h) l k
+    ∙ ap (λ x. bit_xor x (get_or b k 0)) (each_lane (λ x s. x / 2 ^ s) n (none_down n) a h k))
 
-pub lane_evens_2 : (a b : List ℕ) (k : ℕ) → length a ≡ 16 → length b ≡ 16 → Each1 (Fits w8) a → Each1 (Fits w8) b
-    → row lane_cell (evens 2 0x33 0xcc a b) k ≡ even_groups 2 (row lane_cell a k) (row lane_cell b k)
-unfolding row
-lane_evens_2 a b k h l p q = ap (λ v. map (lane_cell v k) (range_with_len 0 8)) (mapped_evens 2 0x33 0xcc a b h l) ∙ same_row _ (λ i. cond (is_even 2 i) (lane_cell a k i) (lane_cell b k (i - 2))) (λ i d.
-    lanes_paired (is_even 2) (λ i. i) (λ i. i - 2) (λ x. bit_and x 0x33) (λ x. bit_and (x * 2 ^ 2 % 256) 0xcc)
-    (linear_and linear_self 0x33) (linear_and (linear_up 2 8) 0xcc) tt tt (and_zero_l 0x33) (none_up 2 0xcc) a b h l p q k i d)
+evens_lane : (n m : ℕ) (a b : List ℕ) → length a ≡ 16 → length b ≡ 16 → (k : ℕ)
+    → get_or (zip2 bit_xor a (zip2 (λ x s. x * 2 ^ s % 256) (differing n m a b) (replicate 16 n))) k 0 ≡ evens 8 n m (get_or a k 0) (get_or b k 0)
+evens_lane n m a b h l k =
+    let d = differing n m a b in
+    let long = differing_long n m a b h l in
+    lane_of bit_xor refl a (zip2 (λ x s. x * 2 ^ s % 256) d (replicate 16 n)) h (long_as (λ x s. x * 2 ^ s % 256) d (replicate 16 n) long (splat_long n)) k
+    ∙ ap (bit_xor (get_or a k 0)) (each_lane (λ x s. x * 2 ^ s % 256) n (none_up n) d long k
+    ∙ ap (λ x. x * 2 ^ n % 256) (differing_lane n m a b h l k))
 
-pub lane_odds_2 : (a b : List ℕ) (k : ℕ) → length a ≡ 16 → length b ≡ 16 → Each1 (Fits w8) a → Each1 (Fits w8) b
-    → row lane_cell (odds 2 0x33 0xcc a b) k ≡ odd_groups 2 (row lane_cell a k) (row lane_cell b k)
-unfolding row
-lane_odds_2 a b k h l p q = ap (λ v. map (lane_cell v k) (range_with_len 0 8)) (mapped_odds 2 0x33 0xcc a b h l) ∙ same_row _ (λ i. cond (is_even 2 i) (lane_cell a k (i + 2)) (lane_cell b k i)) (λ i d.
-    lanes_paired (is_even 2) (λ i. i + 2) (λ i. i) (λ x. bit_and (x / 2 ^ 2) 0x33) (λ x. bit_and x 0xcc)
-    (linear_and (linear_down 2) 0x33) (linear_and linear_self 0xcc) tt tt (none_down 2 0x33) (and_zero_l 0xcc) a b h l p q k i d)
+odds_lane : (n m : ℕ) (a b : List ℕ) → length a ≡ 16 → length b ≡ 16 → (k : ℕ)
+    → get_or (zip2 bit_xor b (differing n m a b)) k 0 ≡ odds n m (get_or a k 0) (get_or b k 0)
+odds_lane n m a b h l k =
+    lane_of bit_xor refl b (differing n m a b) l (differing_long n m a b h l) k
+    ∙ ap (bit_xor (get_or b k 0)) (differing_lane n m a b h l k)
 
-pub lane_evens_4 : (a b : List ℕ) (k : ℕ) → length a ≡ 16 → length b ≡ 16 → Each1 (Fits w8) a → Each1 (Fits w8) b
-    → row lane_cell (evens 4 0x0f 0xf0 a b) k ≡ even_groups 4 (row lane_cell a k) (row lane_cell b k)
-unfolding row
-lane_evens_4 a b k h l p q = ap (λ v. map (lane_cell v k) (range_with_len 0 8)) (mapped_evens 4 0x0f 0xf0 a b h l) ∙ same_row _ (λ i. cond (is_even 4 i) (lane_cell a k i) (lane_cell b k (i - 4))) (λ i d.
-    lanes_paired (is_even 4) (λ i. i) (λ i. i - 4) (λ x. bit_and x 0x0f) (λ x. bit_and (x * 2 ^ 4 % 256) 0xf0)
-    (linear_and linear_self 0x0f) (linear_and (linear_up 4 8) 0xf0) tt tt (and_zero_l 0x0f) (none_up 4 0xf0) a b h l p q k i d)
+pub lane_evens : (n m : ℕ) → T (keeps 8 (λ i. i) (is_even n) (λ i. i) (evens_self 8 n m)) → T (moves 8 (λ i. i) (is_even n) (λ i. i - n) (raised 8 n m))
+    → (a b : List ℕ) → length a ≡ 16 → length b ≡ 16 → Each1 (Fits w8) a → Each1 (Fits w8) b → (k i : ℕ) → i < 8
+    → lane_cell (zip2 bit_xor a (zip2 (λ x s. x * 2 ^ s % 256) (differing n m a b) (replicate 16 n))) k i ≡ cond (is_even n i) (lane_cell a k i) (lane_cell b k (i - n))
+lane_evens n m p q a b h l s t k i d =
+    let x = get_or a k 0 in
+    let y = get_or b k 0 in
+    ap (λ w. bit_at w i) (evens_lane n m a b h l k ∙ evens_apart 8 n m x y)
+    ∙ paired 8 (λ i. i) (is_even n) (λ i. i) (λ i. i - n) (evens_self 8 n m) (raised 8 n m) (linear_evens_self 8 n m) (linear_raised 8 n m) p q x y i (lane_below a s k) (lane_below b t k) d
 
-pub lane_odds_4 : (a b : List ℕ) (k : ℕ) → length a ≡ 16 → length b ≡ 16 → Each1 (Fits w8) a → Each1 (Fits w8) b
-    → row lane_cell (odds 4 0x0f 0xf0 a b) k ≡ odd_groups 4 (row lane_cell a k) (row lane_cell b k)
-unfolding row
-lane_odds_4 a b k h l p q = ap (λ v. map (lane_cell v k) (range_with_len 0 8)) (mapped_odds 4 0x0f 0xf0 a b h l) ∙ same_row _ (λ i. cond (is_even 4 i) (lane_cell a k (i + 4)) (lane_cell b k i)) (λ i d.
-    lanes_paired (is_even 4) (λ i. i + 4) (λ i. i) (λ x. bit_and (x / 2 ^ 4) 0x0f) (λ x. bit_and x 0xf0)
-    (linear_and (linear_down 4) 0x0f) (linear_and linear_self 0xf0) tt tt (none_down 4 0x0f) (and_zero_l 0xf0) a b h l p q k i d)
+pub lane_odds : (n m : ℕ) → T (keeps 8 (λ i. i) (is_even n) (λ i. i + n) (odds_self n m)) → T (moves 8 (λ i. i) (is_even n) (λ i. i) (odds_other m))
+    → (a b : List ℕ) → length a ≡ 16 → length b ≡ 16 → Each1 (Fits w8) a → Each1 (Fits w8) b → (k i : ℕ) → i < 8
+    → lane_cell (zip2 bit_xor b (differing n m a b)) k i ≡ cond (is_even n i) (lane_cell a k (i + n)) (lane_cell b k i)
+lane_odds n m p q a b h l s t k i d =
+    let x = get_or a k 0 in
+    let y = get_or b k 0 in
+    ap (λ w. bit_at w i) (odds_lane n m a b h l k ∙ odds_apart n m x y)
+    ∙ paired 8 (λ i. i) (is_even n) (λ i. i + n) (λ i. i) (odds_self n m) (odds_other m) (linear_odds_self n m) (linear_odds_other m) p q x y i (lane_below a s k) (lane_below b t k) d

@@ -1,5 +1,5 @@
 -- The steps of a round on the 16 bytes of a state.
-use Rattle.std.proofs.Common.{◌≡◌, ℕ, ◌+◌, ◌*◌, ◌/◌, ◌%◌, ◌<◌, map, bit_xor, eqb, refl, sym, ◌∙◌, arith, eqb→eq}
+use Rattle.std.proofs.Common.{◌≡◌, ℕ, ◌+◌, ◌*◌, ◌/◌, ◌%◌, ◌<◌, map, bit_xor, eqb, sym, ◌∙◌, arith, eqb→eq}
 use Rattle.std.specs.List.{range_with_len}
 use Rattle.std.specs.Int.Bits.{xor_assoc}
 use Rattle.std.proofs.lemmas.List.FromFn.{get_or-map-range_with_len, length-map-range_with_len, fill_by_all}
@@ -39,19 +39,18 @@ mix_is a b c d h l =
 
 -- ---- whole states
 
--- the state that ShiftRows and MixColumns make of block b
-pub shifted_and_mixed : {P : Type 0} → (bit : P → ℕ → ℕ → ℕ) (x y z : Planes P) (b : ℕ)
-    → ((j : ℕ) → j < 16 → byte_of bit y j b ≡ byte_of bit x (shifted j) b)
-    → ((j : ℕ) → j < 16 → byte_of bit z j b
-    ≡ mixed_byte (byte_of bit y j b) (byte_of bit y (below 1 j) b) (byte_of bit y (below 2 j) b) (byte_of bit y (below 3 j) b))
-    → block bit z b ≡ mix_columns (shift_rows (block bit x b))
+-- the state that MixColumns makes of block b
+pub mixed_alone : {P : Type 0} → (bit : P → ℕ → ℕ → ℕ) (x y : Planes P) (b : ℕ)
+    → ((j : ℕ) → j < 16 → byte_of bit y j b
+    ≡ mixed_byte (byte_of bit x j b) (byte_of bit x (below 1 j) b) (byte_of bit x (below 2 j) b) (byte_of bit x (below 3 j) b))
+    → block bit y b ≡ mix_columns (block bit x b)
 unfolding block
-shifted_and_mixed bit x y z b e f =
-    let at = λ (j : ℕ). byte_of bit x (shifted j) b in
-    same_state (λ j. byte_of bit z (j % 4 + 4 * (j / 4)) b) (λ j. mixed_byte (at j) (at (below 1 j)) (at (below 2 j)) (at (below 3 j)))
-    (λ j h. let i : j % 4 + 4 * (j / 4) ≡ j = omega arith in
-    rw i (f j h ∙ rw (e j h, e (below 1 j) (omega arith), e (below 2 j) (omega arith), e (below 3 j) (omega arith)) refl))
+mixed_alone bit x y b e =
+    let at = λ (j : ℕ). byte_of bit x j b in
+    same_state (λ j. byte_of bit y (j % 4 + 4 * (j / 4)) b) (λ j. mixed_byte (at j) (at (below 1 j)) (at (below 2 j)) (at (below 3 j)))
+    (λ j h. let i : j % 4 + 4 * (j / 4) ≡ j = omega arith in rw i (e j h))
 
+-- the state that ShiftRows makes of it
 pub shifted_alone : {P : Type 0} → (bit : P → ℕ → ℕ → ℕ) (x y : Planes P) (b : ℕ)
     → ((j : ℕ) → j < 16 → byte_of bit y j b ≡ byte_of bit x (shifted j) b) → block bit y b ≡ shift_rows (block bit x b)
 unfolding block

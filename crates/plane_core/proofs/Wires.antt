@@ -2,6 +2,7 @@
 -- of 2, and that is computed.
 use Rattle.std.proofs.Common.{◌≡◌, ℕ, zero, suc, ◌+◌, ◌*◌, ◌/◌, ◌%◌, ◌^◌, ◌<◌, Bool, true, false, cond, T, eqb, bit_and, bit_xor, min, refl, sym, ap, ◌∙◌, arith, eqb→eq}
 use Rattle.std.specs.Int.{bit_at}
+use Rattle.std.specs.Prelude.{◌==◌}
 use Rattle.std.specs.Int.Bits.{xor_assoc, xor_self, xor_shifted, xor_zero_r}
 use Rattle.std.proofs.Math.Nat.{zero-mul, one-mul, add-zero, pow-suc}
 use Rattle.std.proofs.lemmas.Nat.{xor_comm, xor_shr, xor_mod, xor_block, shr_split, mod_below, pow_pos, div_below}
@@ -121,3 +122,57 @@ paired n at pick u v f g h k p q a b i l d s =
     bit_of_xor (f a) (g b) (at i)
     ∙ both _ _ _ _ (kept n at pick u f h p a i l s) (moved n at pick v g k q b i d s)
     ∙ one_of (pick i) _ _
+
+-- ---- groups of bits exchanged
+
+-- i is in a group with an even number, of groups of n
+abbrev pub is_even : ℕ → ℕ → Bool
+is_even n i = i / n % 2 == 0
+
+-- the bits of a mask, moved n up
+abbrev pub raised : ℕ → ℕ → ℕ → ℕ → ℕ
+raised w n m x = bit_and x m * 2 ^ n % 2 ^ w
+
+-- what becomes of two words whose bits are flipped where they differ, once those of the first are moved n down
+abbrev pub evens : ℕ → ℕ → ℕ → ℕ → ℕ → ℕ
+evens w n m a b = bit_xor a (raised w n m (bit_xor (a / 2 ^ n) b))
+
+abbrev pub odds : ℕ → ℕ → ℕ → ℕ → ℕ
+odds n m a b = bit_xor b (bit_and (bit_xor (a / 2 ^ n) b) m)
+
+-- what each of the two words gives to the first
+abbrev pub evens_self : ℕ → ℕ → ℕ → ℕ → ℕ
+evens_self w n m a = bit_xor a (raised w n m (a / 2 ^ n))
+
+-- what each of the two words gives to the second
+abbrev pub odds_self : ℕ → ℕ → ℕ → ℕ
+odds_self n m a = bit_and (a / 2 ^ n) m
+
+abbrev pub odds_other : ℕ → ℕ → ℕ
+odds_other m b = bit_xor b (bit_and b m)
+
+linear_after : {f g : ℕ → ℕ} → IsLinear f → IsLinear g → IsLinear (λ w. g (f w))
+linear_after {f} {g} h k = record { sums = λ a b. ap g (h.sums a b) ∙ k.sums (f a) (f b) }
+
+pub linear_raised : (w n m : ℕ) → IsLinear (raised w n m)
+linear_raised w n m = linear_after (linear_and linear_self m) (linear_up n w)
+
+pub linear_evens_self : (w n m : ℕ) → IsLinear (evens_self w n m)
+linear_evens_self w n m = linear_xor linear_self (linear_after (linear_down n) (linear_raised w n m))
+
+pub linear_odds_self : (n m : ℕ) → IsLinear (odds_self n m)
+linear_odds_self n m = linear_and (linear_down n) m
+
+pub linear_odds_other : (m : ℕ) → IsLinear (odds_other m)
+linear_odds_other m = linear_xor linear_self (linear_and linear_self m)
+
+pub evens_apart : (w n m a b : ℕ) → evens w n m a b ≡ bit_xor (evens_self w n m a) (raised w n m b)
+evens_apart w n m a b =
+    ap (bit_xor a) ((linear_raised w n m).sums (a / 2 ^ n) b) ∙ sym (xor_assoc a (raised w n m (a / 2 ^ n)) (raised w n m b))
+
+pub odds_apart : (n m a b : ℕ) → odds n m a b ≡ bit_xor (odds_self n m a) (odds_other m b)
+odds_apart n m a b =
+    let x = bit_and (a / 2 ^ n) m in
+    let y = bit_and b m in
+    ap (bit_xor b) (and_of_xor (a / 2 ^ n) b m)
+    ∙ sym (xor_assoc b x y) ∙ ap (λ n. bit_xor n y) (xor_comm b x) ∙ xor_assoc x b y

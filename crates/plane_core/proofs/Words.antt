@@ -1,12 +1,9 @@
 -- The bits of words of 64 bits, where they are moved.
-use Rattle.std.proofs.Common.{◌≡◌, ℕ, ◌+◌, ◌-◌, ◌*◌, ◌/◌, ◌%◌, ◌^◌, ◌<◌, Bool, cond, T, eqb, bit_and, bit_xor, arith, eqb→eq}
+use Rattle.std.proofs.Common.{◌≡◌, ℕ, ◌+◌, ◌-◌, ◌*◌, ◌/◌, ◌%◌, ◌^◌, ◌<◌, Bool, cond, T, eqb, bit_and, bit_xor, ap, ◌∙◌, arith, eqb→eq}
 use Rattle.std.specs.Int.{bit_at}
-use Rattle.std.specs.Prelude.{◌==◌}
 use Rattle.cipher_spec.proofs.Computed.{holds_below, at_each}
-use Rattle.plane_core.specs.Grid.{row, even_groups, odd_groups}
 use Rattle.plane_core.specs.Places.{below, shifted, spot, turned}
-use Rattle.plane_core.proofs.Rows.{same_row}
-use Rattle.plane_core.proofs.Wires.{IsLinear, same_wires, linear_self, linear_xor, linear_and, linear_down, linear_up, linear_bit, keeps, moves, paired}
+use Rattle.plane_core.proofs.Wires.{IsLinear, same_wires, linear_self, linear_xor, linear_and, linear_down, linear_up, linear_bit, keeps, moves, paired, is_even, raised, evens, odds, evens_self, odds_self, odds_other, linear_raised, linear_evens_self, linear_odds_self, linear_odds_other, evens_apart, odds_apart}
 
 -- ---- bytes moved
 
@@ -82,50 +79,14 @@ words_paired pick u v f g h l p q a b k i s t d =
     paired 64 (λ i. 8 * (k % 8) + i) pick u v f g h l (at_each (λ k. keeps 64 (λ i. 8 * k + i) pick u f) 8 p (k % 8) m)
     (at_each (λ k. moves 64 (λ i. 8 * k + i) pick v g) 8 q (k % 8) m) a b i s t d
 
--- bits of one word that stay, and bits of another that move n up
-abbrev pub evens : ℕ → ℕ → ℕ → ℕ → ℕ → ℕ
-evens n m o a b = bit_xor (bit_and a m) (bit_and (b * 2 ^ n % 2 ^ 64) o)
+pub word_evens : (n m : ℕ) → T (keeps_each (is_even n) (λ i. i) (evens_self 64 n m)) → T (moves_each (is_even n) (λ i. i - n) (raised 64 n m))
+    → (a b k i : ℕ) → a < 2 ^ 64 → b < 2 ^ 64 → i < 8 → cell (evens 64 n m a b) k i ≡ cond (is_even n i) (cell a k i) (cell b k (i - n))
+word_evens n m p q a b k i h l d =
+    ap (λ w. cell w k i) (evens_apart 64 n m a b)
+    ∙ words_paired (is_even n) (λ i. i) (λ i. i - n) (evens_self 64 n m) (raised 64 n m) (linear_evens_self 64 n m) (linear_raised 64 n m) p q a b k i h l d
 
--- bits of one word that move n down, and bits of another that stay
-abbrev pub odds : ℕ → ℕ → ℕ → ℕ → ℕ → ℕ
-odds n m o a b = bit_xor (bit_and (a / 2 ^ n) m) (bit_and b o)
-
--- i is in a group with an even number, of groups of n
-abbrev pub is_even : ℕ → ℕ → Bool
-is_even n i = i / n % 2 == 0
-
-pub word_evens_1 : (a b k : ℕ) → a < 2 ^ 64 → b < 2 ^ 64 → row cell (evens 1 0x5555_5555_5555_5555 0xaaaa_aaaa_aaaa_aaaa a b) k ≡ even_groups 1 (row cell a k) (row cell b k)
-unfolding row
-word_evens_1 a b k h l = same_row _ (λ i. cond (is_even 1 i) (cell a k i) (cell b k (i - 1))) (λ i d.
-    words_paired (is_even 1) (λ i. i) (λ i. i - 1) (λ a. bit_and a 0x5555_5555_5555_5555) (λ b. bit_and (b * 2 ^ 1 % 2 ^ 64) 0xaaaa_aaaa_aaaa_aaaa)
-    (linear_and linear_self 0x5555_5555_5555_5555) (linear_and (linear_up 1 64) 0xaaaa_aaaa_aaaa_aaaa) tt tt a b k i h l d)
-
-pub word_odds_1 : (a b k : ℕ) → a < 2 ^ 64 → b < 2 ^ 64 → row cell (odds 1 0x5555_5555_5555_5555 0xaaaa_aaaa_aaaa_aaaa a b) k ≡ odd_groups 1 (row cell a k) (row cell b k)
-unfolding row
-word_odds_1 a b k h l = same_row _ (λ i. cond (is_even 1 i) (cell a k (i + 1)) (cell b k i)) (λ i d.
-    words_paired (is_even 1) (λ i. i + 1) (λ i. i) (λ a. bit_and (a / 2 ^ 1) 0x5555_5555_5555_5555) (λ b. bit_and b 0xaaaa_aaaa_aaaa_aaaa)
-    (linear_and (linear_down 1) 0x5555_5555_5555_5555) (linear_and linear_self 0xaaaa_aaaa_aaaa_aaaa) tt tt a b k i h l d)
-
-pub word_evens_2 : (a b k : ℕ) → a < 2 ^ 64 → b < 2 ^ 64 → row cell (evens 2 0x3333_3333_3333_3333 0xcccc_cccc_cccc_cccc a b) k ≡ even_groups 2 (row cell a k) (row cell b k)
-unfolding row
-word_evens_2 a b k h l = same_row _ (λ i. cond (is_even 2 i) (cell a k i) (cell b k (i - 2))) (λ i d.
-    words_paired (is_even 2) (λ i. i) (λ i. i - 2) (λ a. bit_and a 0x3333_3333_3333_3333) (λ b. bit_and (b * 2 ^ 2 % 2 ^ 64) 0xcccc_cccc_cccc_cccc)
-    (linear_and linear_self 0x3333_3333_3333_3333) (linear_and (linear_up 2 64) 0xcccc_cccc_cccc_cccc) tt tt a b k i h l d)
-
-pub word_odds_2 : (a b k : ℕ) → a < 2 ^ 64 → b < 2 ^ 64 → row cell (odds 2 0x3333_3333_3333_3333 0xcccc_cccc_cccc_cccc a b) k ≡ odd_groups 2 (row cell a k) (row cell b k)
-unfolding row
-word_odds_2 a b k h l = same_row _ (λ i. cond (is_even 2 i) (cell a k (i + 2)) (cell b k i)) (λ i d.
-    words_paired (is_even 2) (λ i. i + 2) (λ i. i) (λ a. bit_and (a / 2 ^ 2) 0x3333_3333_3333_3333) (λ b. bit_and b 0xcccc_cccc_cccc_cccc)
-    (linear_and (linear_down 2) 0x3333_3333_3333_3333) (linear_and linear_self 0xcccc_cccc_cccc_cccc) tt tt a b k i h l d)
-
-pub word_evens_4 : (a b k : ℕ) → a < 2 ^ 64 → b < 2 ^ 64 → row cell (evens 4 0x0f0f_0f0f_0f0f_0f0f 0xf0f0_f0f0_f0f0_f0f0 a b) k ≡ even_groups 4 (row cell a k) (row cell b k)
-unfolding row
-word_evens_4 a b k h l = same_row _ (λ i. cond (is_even 4 i) (cell a k i) (cell b k (i - 4))) (λ i d.
-    words_paired (is_even 4) (λ i. i) (λ i. i - 4) (λ a. bit_and a 0x0f0f_0f0f_0f0f_0f0f) (λ b. bit_and (b * 2 ^ 4 % 2 ^ 64) 0xf0f0_f0f0_f0f0_f0f0)
-    (linear_and linear_self 0x0f0f_0f0f_0f0f_0f0f) (linear_and (linear_up 4 64) 0xf0f0_f0f0_f0f0_f0f0) tt tt a b k i h l d)
-
-pub word_odds_4 : (a b k : ℕ) → a < 2 ^ 64 → b < 2 ^ 64 → row cell (odds 4 0x0f0f_0f0f_0f0f_0f0f 0xf0f0_f0f0_f0f0_f0f0 a b) k ≡ odd_groups 4 (row cell a k) (row cell b k)
-unfolding row
-word_odds_4 a b k h l = same_row _ (λ i. cond (is_even 4 i) (cell a k (i + 4)) (cell b k i)) (λ i d.
-    words_paired (is_even 4) (λ i. i + 4) (λ i. i) (λ a. bit_and (a / 2 ^ 4) 0x0f0f_0f0f_0f0f_0f0f) (λ b. bit_and b 0xf0f0_f0f0_f0f0_f0f0)
-    (linear_and (linear_down 4) 0x0f0f_0f0f_0f0f_0f0f) (linear_and linear_self 0xf0f0_f0f0_f0f0_f0f0) tt tt a b k i h l d)
+pub word_odds : (n m : ℕ) → T (keeps_each (is_even n) (λ i. i + n) (odds_self n m)) → T (moves_each (is_even n) (λ i. i) (odds_other m))
+    → (a b k i : ℕ) → a < 2 ^ 64 → b < 2 ^ 64 → i < 8 → cell (odds n m a b) k i ≡ cond (is_even n i) (cell a k (i + n)) (cell b k i)
+word_odds n m p q a b k i h l d =
+    ap (λ w. cell w k i) (odds_apart n m a b)
+    ∙ words_paired (is_even n) (λ i. i + n) (λ i. i) (odds_self n m) (odds_other m) (linear_odds_self n m) (linear_odds_other m) p q a b k i h l d

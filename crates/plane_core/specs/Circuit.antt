@@ -1,6 +1,7 @@
--- The circuit of Boyar and Peralta for the S-box ("A new combinational logic minimization technique
--- with applications to cryptology", 2010) on one byte, in three parts: x0 is the byte's highest
--- bit, and s0 that of its image. The inverters at its end are left out.
+-- The circuit of Boyar, Peralta and Calik for the S-box (SLP_AES_113 of Peralta's circuits) on one
+-- byte, in three parts: x0 is the byte's highest bit, and s0 that of its image. The inverters at
+-- its end are left out. The middle is that of Boyar and Peralta's "A depth-16 circuit for the AES
+-- S-box" (2011).
 use Rattle.std.specs.Prelude.{ℕ, List, [], ◌∷◌, bit_and, bit_xor}
 
 -- t21 to t24
@@ -44,36 +45,37 @@ head x0 x1 x2 x3 x4 x5 x6 x7 =
     let t14 = bit_xor t13 t12 in
     let t15 = bit_and y8 y10 in
     let t16 = bit_xor t15 t12 in
-    let t17 = bit_xor t4 t14 in
+    let t17 = bit_xor t4 y20 in
     let t18 = bit_xor t6 t16 in
     let t19 = bit_xor t9 t14 in
     let t20 = bit_xor t11 t16 in
-    let t21 = bit_xor t17 y20 in
+    let t21 = bit_xor t17 t14 in
     let t22 = bit_xor t18 y19 in
     let t23 = bit_xor t19 y21 in
     let t24 = bit_xor t20 y18 in
     t21 ∷ t22 ∷ t23 ∷ t24 ∷ []
 
--- t29, t33, t37 and t40
+-- t29, t33, t37 and t40, which are m37, m39, m40 and m38 there
 unfoldable pub inner : ℕ → ℕ → ℕ → ℕ → List ℕ
-inner t21 t22 t23 t24 =
-    let t25 = bit_xor t21 t22 in
-    let t26 = bit_and t21 t23 in
-    let t27 = bit_xor t24 t26 in
-    let t28 = bit_and t25 t27 in
-    let t29 = bit_xor t28 t22 in
-    let t30 = bit_xor t23 t24 in
-    let t31 = bit_xor t22 t26 in
-    let t32 = bit_and t31 t30 in
-    let t33 = bit_xor t32 t24 in
-    let t34 = bit_xor t23 t33 in
-    let t35 = bit_xor t27 t33 in
-    let t36 = bit_and t24 t35 in
-    let t37 = bit_xor t36 t34 in
-    let t38 = bit_xor t27 t36 in
-    let t39 = bit_and t29 t38 in
-    let t40 = bit_xor t25 t39 in
-    t29 ∷ t33 ∷ t37 ∷ t40 ∷ []
+inner m20 m21 m22 m23 =
+    let m24 = bit_xor m22 m23 in
+    let m25 = bit_and m20 m22 in
+    let m26 = bit_xor m21 m25 in
+    let m27 = bit_xor m20 m21 in
+    let m28 = bit_xor m23 m25 in
+    let m29 = bit_and m28 m27 in
+    let m37 = bit_xor m21 m29 in
+    let m30 = bit_and m26 m24 in
+    let m39 = bit_xor m23 m30 in
+    let m31 = bit_and m20 m23 in
+    let m32 = bit_and m27 m31 in
+    let m33 = bit_xor m27 m25 in
+    let m38 = bit_xor m32 m33 in
+    let m34 = bit_and m21 m22 in
+    let m35 = bit_and m24 m34 in
+    let m36 = bit_xor m24 m25 in
+    let m40 = bit_xor m35 m36 in
+    m37 ∷ m39 ∷ m40 ∷ m38 ∷ []
 
 -- s0 to s7
 unfoldable pub tail : ℕ → ℕ → ℕ → ℕ → ℕ → ℕ → ℕ → ℕ → ℕ → ℕ → ℕ → ℕ → List ℕ
@@ -121,34 +123,32 @@ tail x0 x1 x2 x3 x4 x5 x6 x7 t29 t33 t37 t40 =
     let z15 = bit_and t42 y9 in
     let z16 = bit_and t45 y14 in
     let z17 = bit_and t41 y8 in
-    let t46 = bit_xor z15 z16 in
-    let t47 = bit_xor z10 z11 in
-    let t48 = bit_xor z5 z13 in
-    let t49 = bit_xor z9 z10 in
-    let t50 = bit_xor z2 z12 in
-    let t51 = bit_xor z2 z5 in
-    let t52 = bit_xor z7 z8 in
-    let t53 = bit_xor z0 z3 in
-    let t54 = bit_xor z6 z7 in
-    let t55 = bit_xor z16 z17 in
-    let t56 = bit_xor z12 t48 in
-    let t57 = bit_xor t50 t53 in
-    let t58 = bit_xor z4 t46 in
-    let t59 = bit_xor z3 t54 in
-    let t60 = bit_xor t46 t57 in
-    let t61 = bit_xor z14 t57 in
-    let t62 = bit_xor t52 t58 in
-    let t63 = bit_xor t49 t58 in
-    let t64 = bit_xor z4 t59 in
-    let t65 = bit_xor t61 t62 in
-    let t66 = bit_xor z1 t63 in
-    let s0 = bit_xor t59 t63 in
-    let s6 = bit_xor t56 t62 in
-    let s7 = bit_xor t48 t60 in
-    let t67 = bit_xor t64 t65 in
-    let s3 = bit_xor t53 t66 in
-    let s4 = bit_xor t51 t66 in
-    let s5 = bit_xor t47 t65 in
-    let s1 = bit_xor t64 s3 in
-    let s2 = bit_xor t55 t67 in
+    let tc1 = bit_xor z15 z16 in
+    let tc2 = bit_xor z10 tc1 in
+    let tc3 = bit_xor z9 tc2 in
+    let tc4 = bit_xor z0 z2 in
+    let tc5 = bit_xor z1 z0 in
+    let tc6 = bit_xor z3 z4 in
+    let tc7 = bit_xor z12 tc4 in
+    let tc8 = bit_xor z7 tc6 in
+    let tc9 = bit_xor z8 tc7 in
+    let tc10 = bit_xor tc8 tc9 in
+    let tc11 = bit_xor tc6 tc5 in
+    let tc12 = bit_xor z3 z5 in
+    let tc13 = bit_xor z13 tc1 in
+    let tc14 = bit_xor tc4 tc12 in
+    let s3 = bit_xor tc3 tc11 in
+    let tc16 = bit_xor z6 tc8 in
+    let tc17 = bit_xor z14 tc10 in
+    let tc18 = bit_xor tc13 tc14 in
+    let s7 = bit_xor z12 tc18 in
+    let tc20 = bit_xor z15 tc16 in
+    let tc21 = bit_xor tc2 z11 in
+    let s0 = bit_xor tc3 tc16 in
+    let s6 = bit_xor tc10 tc18 in
+    let s4 = bit_xor tc14 s3 in
+    let s1 = bit_xor s3 tc16 in
+    let tc26 = bit_xor tc17 tc20 in
+    let s2 = bit_xor tc26 z17 in
+    let s5 = bit_xor tc21 tc17 in
     s0 ∷ s1 ∷ s2 ∷ s3 ∷ s4 ∷ s5 ∷ s6 ∷ s7 ∷ []

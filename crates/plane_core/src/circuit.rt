@@ -1,9 +1,13 @@
 //! The S-box as a circuit of gates, on all bytes at once.
 //!
-//! It is the circuit of Boyar and Peralta ("A new combinational logic minimization technique with
-//! applications to cryptology", 2010) with its names: x0 to x7 are the bits of a byte and s0 to s7
-//! those of its image, the highest first. The four inverters at its end are left out, so the sum of
-//! each byte with 63 in hexadecimal comes out.
+//! It is the circuit of Boyar, Peralta and Calik with 113 gates (SLP_AES_113 of Peralta's circuits)
+//! with its names: x0 to x7 are the bits of a byte and s0 to s7 those of its image, the highest
+//! first. The four inverters at its end are left out, so the sum of each byte with 63 in
+//! hexadecimal comes out.
+//!
+//! The middle is that of Boyar and Peralta's "A depth-16 circuit for the AES S-box" (2011) with its
+//! names, m20 to m40. It has a gate more, but no more than four of them wait for each other, where
+//! nine did.
 
 ghost use Rattle.std.specs.Prelude.{◌≡◌, ℕ, ◌∷◌, [], bit_xor};
 ghost use Rattle.cipher_spec.specs.Aes.{sub_byte};
@@ -22,7 +26,7 @@ struct Waist<P> {
     d: P,
 }
 
-/// The first 46 gates.
+/// The first 46 gates: t21 to t24.
 #[inline(always)]
 #[tactic(auto, unfolding(crate::specs::Circuit::head))]
 fn head<P: Plane>(x: &Planes<P>) -> Waist<P>
@@ -77,11 +81,11 @@ fn head<P: Plane>(x: &Planes<P>) -> Waist<P>
     let t14 = t13.xor(t12);
     let t15 = y8.and(y10);
     let t16 = t15.xor(t12);
-    let t17 = t4.xor(t14);
+    let t17 = t4.xor(y20);
     let t18 = t6.xor(t16);
     let t19 = t9.xor(t14);
     let t20 = t11.xor(t16);
-    let t21 = t17.xor(y20);
+    let t21 = t17.xor(t14);
     let t22 = t18.xor(y19);
     let t23 = t19.xor(y21);
     let t24 = t20.xor(y18);
@@ -93,7 +97,8 @@ fn head<P: Plane>(x: &Planes<P>) -> Waist<P>
     }
 }
 
-/// The 16 gates in the middle.
+/// The 17 gates in the middle. They take t21 to t24, here m20 to m23, and make t29, t33, t37 and
+/// t40, here m37, m39, m40 and m38.
 #[inline(always)]
 #[tactic(auto, unfolding(crate::specs::Circuit::inner))]
 fn inner<P: Plane>(n: &Waist<P>) -> Waist<P>
@@ -101,35 +106,36 @@ fn inner<P: Plane>(n: &Waist<P>) -> Waist<P>
         result.d j b ∷ [])
         ≡ inner (P.bit n.now.a j b) (P.bit n.now.b j b) (P.bit n.now.c j b) (P.bit n.now.d j b) }
 {
-    let t21 = n.a;
-    let t22 = n.b;
-    let t23 = n.c;
-    let t24 = n.d;
-    let t25 = t21.xor(t22);
-    let t26 = t21.and(t23);
-    let t27 = t24.xor(t26);
-    let t28 = t25.and(t27);
-    let t29 = t28.xor(t22);
-    let t30 = t23.xor(t24);
-    let t31 = t22.xor(t26);
-    let t32 = t31.and(t30);
-    let t33 = t32.xor(t24);
-    let t34 = t23.xor(t33);
-    let t35 = t27.xor(t33);
-    let t36 = t24.and(t35);
-    let t37 = t36.xor(t34);
-    let t38 = t27.xor(t36);
-    let t39 = t29.and(t38);
-    let t40 = t25.xor(t39);
+    let m20 = n.a;
+    let m21 = n.b;
+    let m22 = n.c;
+    let m23 = n.d;
+    let m24 = m22.xor(m23);
+    let m25 = m20.and(m22);
+    let m26 = m21.xor(m25);
+    let m27 = m20.xor(m21);
+    let m28 = m23.xor(m25);
+    let m29 = m28.and(m27);
+    let m37 = m21.xor(m29);
+    let m30 = m26.and(m24);
+    let m39 = m23.xor(m30);
+    let m31 = m20.and(m23);
+    let m32 = m27.and(m31);
+    let m33 = m27.xor(m25);
+    let m38 = m32.xor(m33);
+    let m34 = m21.and(m22);
+    let m35 = m24.and(m34);
+    let m36 = m24.xor(m25);
+    let m40 = m35.xor(m36);
     Waist {
-        a: t29,
-        b: t33,
-        c: t37,
-        d: t40,
+        a: m37,
+        b: m39,
+        c: m40,
+        d: m38,
     }
 }
 
-/// The last 53 gates, and those of the first 46 that they need.
+/// The last 51 gates, and those of the first 46 that they need.
 #[inline(always)]
 #[tactic(auto, unfolding(crate::specs::Circuit::tail))]
 fn tail<P: Plane>(x: &Planes<P>, n: &Waist<P>) -> Planes<P>
@@ -195,36 +201,34 @@ fn tail<P: Plane>(x: &Planes<P>, n: &Waist<P>) -> Planes<P>
     let z15 = t42.and(y9);
     let z16 = t45.and(y14);
     let z17 = t41.and(y8);
-    let t46 = z15.xor(z16);
-    let t47 = z10.xor(z11);
-    let t48 = z5.xor(z13);
-    let t49 = z9.xor(z10);
-    let t50 = z2.xor(z12);
-    let t51 = z2.xor(z5);
-    let t52 = z7.xor(z8);
-    let t53 = z0.xor(z3);
-    let t54 = z6.xor(z7);
-    let t55 = z16.xor(z17);
-    let t56 = z12.xor(t48);
-    let t57 = t50.xor(t53);
-    let t58 = z4.xor(t46);
-    let t59 = z3.xor(t54);
-    let t60 = t46.xor(t57);
-    let t61 = z14.xor(t57);
-    let t62 = t52.xor(t58);
-    let t63 = t49.xor(t58);
-    let t64 = z4.xor(t59);
-    let t65 = t61.xor(t62);
-    let t66 = z1.xor(t63);
-    let s0 = t59.xor(t63);
-    let s6 = t56.xor(t62);
-    let s7 = t48.xor(t60);
-    let t67 = t64.xor(t65);
-    let s3 = t53.xor(t66);
-    let s4 = t51.xor(t66);
-    let s5 = t47.xor(t65);
-    let s1 = t64.xor(s3);
-    let s2 = t55.xor(t67);
+    let tc1 = z15.xor(z16);
+    let tc2 = z10.xor(tc1);
+    let tc3 = z9.xor(tc2);
+    let tc4 = z0.xor(z2);
+    let tc5 = z1.xor(z0);
+    let tc6 = z3.xor(z4);
+    let tc7 = z12.xor(tc4);
+    let tc8 = z7.xor(tc6);
+    let tc9 = z8.xor(tc7);
+    let tc10 = tc8.xor(tc9);
+    let tc11 = tc6.xor(tc5);
+    let tc12 = z3.xor(z5);
+    let tc13 = z13.xor(tc1);
+    let tc14 = tc4.xor(tc12);
+    let s3 = tc3.xor(tc11);
+    let tc16 = z6.xor(tc8);
+    let tc17 = z14.xor(tc10);
+    let tc18 = tc13.xor(tc14);
+    let s7 = z12.xor(tc18);
+    let tc20 = z15.xor(tc16);
+    let tc21 = tc2.xor(z11);
+    let s0 = tc3.xor(tc16);
+    let s6 = tc10.xor(tc18);
+    let s4 = tc14.xor(s3);
+    let s1 = s3.xor(tc16);
+    let tc26 = tc17.xor(tc20);
+    let s2 = tc26.xor(z17);
+    let s5 = tc21.xor(tc17);
     Planes {
         b0: s7,
         b1: s6,

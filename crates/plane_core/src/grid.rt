@@ -45,64 +45,67 @@ pub trait Grid: Copy {
             (row cell other k) };
 }
 
+// The odd groups of `self` change places with the even groups of `other`: a bit of each two that
+// change places is flipped where the two differ.
 impl Grid for u8x16 {
     ghost cell = { λ v k i. bit_at (slice_index v k) i };
 
     #[inline(always)]
     fn ones(self, other: u8x16) -> Pair<u8x16> {
-        let (even, odd) = (u8x16::splat(0x55), u8x16::splat(0xaa));
+        let differing = ((self >> u8x16::splat(1)) ^ other) & u8x16::splat(0x55);
         Pair {
-            low: (self & even) ^ ((other << u8x16::splat(1)) & odd),
-            high: ((self >> u8x16::splat(1)) & even) ^ (other & odd),
+            low: self ^ (differing << u8x16::splat(1)),
+            high: other ^ differing,
         }
     }
 
     #[inline(always)]
     fn twos(self, other: u8x16) -> Pair<u8x16> {
-        let (even, odd) = (u8x16::splat(0x33), u8x16::splat(0xcc));
+        let differing = ((self >> u8x16::splat(2)) ^ other) & u8x16::splat(0x33);
         Pair {
-            low: (self & even) ^ ((other << u8x16::splat(2)) & odd),
-            high: ((self >> u8x16::splat(2)) & even) ^ (other & odd),
+            low: self ^ (differing << u8x16::splat(2)),
+            high: other ^ differing,
         }
     }
 
     #[inline(always)]
     fn fours(self, other: u8x16) -> Pair<u8x16> {
-        let (even, odd) = (u8x16::splat(0x0f), u8x16::splat(0xf0));
+        let differing = ((self >> u8x16::splat(4)) ^ other) & u8x16::splat(0x0f);
         Pair {
-            low: (self & even) ^ ((other << u8x16::splat(4)) & odd),
-            high: ((self >> u8x16::splat(4)) & even) ^ (other & odd),
+            low: self ^ (differing << u8x16::splat(4)),
+            high: other ^ differing,
         }
     }
 }
 
+// The same on eight bytes.
 impl Grid for u64 {
     ghost cell = { λ w k i. bit_at w (8 * (k % 8) + i) };
 
     #[inline(always)]
     fn ones(self, other: u64) -> Pair<u64> {
-        let (even, odd) = (0x5555_5555_5555_5555, 0xaaaa_aaaa_aaaa_aaaa);
+        let differing = ((self >> 1) ^ other) & 0x5555_5555_5555_5555;
         Pair {
-            low: (self & even) ^ ((other << 1) & odd),
-            high: ((self >> 1) & even) ^ (other & odd),
+            low: self ^ (differing << 1),
+            high: other ^ differing,
         }
     }
 
     #[inline(always)]
     fn twos(self, other: u64) -> Pair<u64> {
-        let (even, odd) = (0x3333_3333_3333_3333, 0xcccc_cccc_cccc_cccc);
+        let differing = ((self >> 2) ^ other) & 0x3333_3333_3333_3333;
         Pair {
-            low: (self & even) ^ ((other << 2) & odd),
-            high: ((self >> 2) & even) ^ (other & odd),
+            low: self ^ (differing << 2),
+            high: other ^ differing,
         }
     }
 
     #[inline(always)]
     fn fours(self, other: u64) -> Pair<u64> {
-        let (even, odd) = (0x0f0f_0f0f_0f0f_0f0f, 0xf0f0_f0f0_f0f0_f0f0);
+        let differing = ((self >> 4) ^ other) & 0x0f0f_0f0f_0f0f_0f0f;
         Pair {
-            low: (self & even) ^ ((other << 4) & odd),
-            high: ((self >> 4) & even) ^ (other & odd),
+            low: self ^ (differing << 4),
+            high: other ^ differing,
         }
     }
 }

@@ -1,4 +1,6 @@
-//! The rounds of AES on planes (FIPS 197, 5.1), after SubBytes.
+//! The rounds of AES on planes (FIPS 197, 5.1), but for SubBytes.
+//!
+//! SubBytes works on each byte alone, so ShiftRows may come before it as well as behind it.
 
 ghost use Rattle.std.specs.Prelude.{◌≡◌, ℕ, ◌<◌};
 ghost use Rattle.cipher_spec.specs.Aes.{add_round_key, mix_columns, shift_rows};
@@ -8,9 +10,9 @@ ghost use Rattle.plane_core.specs.Places.{below, shifted};
 use crate::plane::Plane;
 use crate::planes::{Planes, doubled, sum};
 
-/// ShiftRows.
+/// ShiftRows (FIPS 197, 5.1.2).
 #[inline(always)]
-fn shifted<P: Plane>(x: &Planes<P>) -> Planes<P>
+pub fn shifted<P: Plane>(x: &Planes<P>) -> Planes<P>
     ensures { (j b : ℕ) → j < 16 → byte_of P.bit result j b ≡ byte_of P.bit x.now (shifted j) b }
 {
     Planes {
@@ -81,13 +83,22 @@ pub fn keyed<P: Plane>(x: &Planes<P>, key: &Planes<P>) -> Planes<P>
     sum(x, key)
 }
 
+/// MixColumns and AddRoundKey: a round after SubBytes and ShiftRows.
+#[inline(always)]
+pub fn mixed_and_keyed<P: Plane>(x: &Planes<P>, key: &Planes<P>) -> Planes<P>
+    ensures { (b : ℕ) → block P.bit result b ≡ add_round_key (mix_columns (block P.bit x.now b))
+        (block P.bit key.now b) }
+{
+    keyed(&mixed(x), key)
+}
+
 /// A round after SubBytes.
 #[inline(always)]
 pub fn round<P: Plane>(x: &Planes<P>, key: &Planes<P>) -> Planes<P>
     ensures { (b : ℕ) → block P.bit result b
         ≡ add_round_key (mix_columns (shift_rows (block P.bit x.now b))) (block P.bit key.now b) }
 {
-    keyed(&mixed(&shifted(x)), key)
+    mixed_and_keyed(&shifted(x), key)
 }
 
 /// The last round after SubBytes.

@@ -1,8 +1,22 @@
-use Rattle.plane_core.proofs.Words.{word_evens_4, word_odds_4}
+use Rattle.std.proofs.Common.{◌+◌, ◌-◌, cond}
+use Rattle.plane_core.specs.Grid.{row}
+use Rattle.plane_core.proofs.Rows.{same_row}
+use Rattle.plane_core.proofs.Wires.{is_even}
+use Rattle.plane_core.proofs.Words.{cell, word_evens, word_odds}
 use Rattle.plane_core.proofs.grid.U64Grid.fours.Goals as goal
 
 pub returns-clause-low : goal.returns-clause-low
-returns-clause-low c k = word_evens_4 c.args.self c.args.other k c.ranges.self.fits c.ranges.other.fits
+unfolding row
+returns-clause-low c k =
+    let a = c.args.self in
+    let b = c.args.other in
+    same_row _ (λ i. cond (is_even 4 i) (cell a k i) (cell b k (i - 4)))
+    (λ i h. word_evens 4 0x0f0f_0f0f_0f0f_0f0f tt tt a b k i c.ranges.self.fits c.ranges.other.fits h)
 
 pub returns-clause-high : goal.returns-clause-high
-returns-clause-high c k = word_odds_4 c.args.self c.args.other k c.ranges.self.fits c.ranges.other.fits
+unfolding row
+returns-clause-high c k =
+    let a = c.args.self in
+    let b = c.args.other in
+    same_row _ (λ i. cond (is_even 4 i) (cell a k (i + 4)) (cell b k i))
+    (λ i h. word_odds 4 0x0f0f_0f0f_0f0f_0f0f tt tt a b k i c.ranges.self.fits c.ranges.other.fits h)

@@ -1,8 +1,8 @@
 use Rattle.std.proofs.Common.{◌++◌, ℕ, ◌∙◌, arith}
 use Rattle.std.specs.Int.{w32, to_be_bytes}
 use Rattle.cipher_spec.specs.Gcm.{counter}
-use Rattle.gcm_core.proofs.Counting.{counter-later, eight_values}
-use Rattle.gcm_core.proofs.counter_mode.counter_blocks.Goals as goal
+use Rattle.aes_core.proofs.CounterBlocks.{counter-later, eight_values}
+use Rattle.aes_core.proofs.counter.counter_blocks.Goals as goal
 
 pub returns : goal.returns
 returns c =

@@ -1,7 +1,7 @@
 use Rattle.std.proofs.Common.{◌++◌, get_or, refl, sym, ap}
 use Rattle.std.specs.Int.{w32, to_be_bytes}
 use Rattle.std.proofs.lemmas.List.FromFn.{fill_by_all}
-use Rattle.gcm_core.proofs.counter_mode.counter_block.Goals as goal
+use Rattle.aes_core.proofs.counter.counter_block.Goals as goal
 
 pub returns : goal.returns
 returns c =

@@ -4,7 +4,7 @@ use borrow.Rule.Slice.PartMut.{put_mid}
 use Rattle.cipher_spec.specs.Gcm.{counter, gctr}
 use Rattle.gcm_core.proofs.Counting.{counter-next}
 use Rattle.gcm_core.proofs.Groups.{gctr-further, gctr-last}
-use Rattle.gcm_core.proofs.counter_mode.gctr.Goals as goal
+use Rattle.gcm_core.proofs.counter_mode.gctr_by_groups.Goals as goal
 
 pub groups-preserved : goal.groups-preserved
 groups-preserved c =
@@ -20,7 +20,8 @@ groups-preserved c =
     let e : a + n ≡ 128 * (k + 1) = omega arith in
     record {
       next = counter-next iv initial c.groups.count (8 * k) 8 (8 * (k + 1)) c.told-iv (omega arith) c.groups.invariant.next (omega arith);
-      text = gctr-further key initial old mid _ a n (8 * k) (omega arith) (omega arith) c.groups.invariant.text (ap (put_mid a n mid) (c.gctr_group.ensures ∙ ap (λ block. gctr key block part) c.groups.invariant.next)) ∙ ap (λ e. gctr key initial (take e old) ++ drop e old) e;
+      text = gctr-further key initial old mid _ a n (8 * k) (omega arith) (omega arith) c.groups.invariant.text (ap (put_mid a n mid) (c.gctr_group.ensures.enciphered ∙ ap (λ block. gctr key block part) c.groups.invariant.next)) ∙ ap (λ e. gctr key initial (take e old) ++ drop e old) e;
+      page = c.gctr_group.ensures.page;
     }
 
 pub returns : goal.returns
@@ -37,3 +38,9 @@ returns c =
     let text : mid ≡ gctr key initial (take a old) ++ drop a old = c.groups.invariant.text ∙ ap (λ k. gctr key initial (take (128 * k) old) ++ drop (128 * k) old) e in
     let next : c.args.iv.now ++ to_be_bytes w32 c.groups.count ≡ counter initial (8 * k) = c.groups.invariant.next ∙ ap (λ k. counter initial (8 * k)) e in
     gctr-last key initial old mid _ a n (8 * k) (omega arith) (omega arith) text (ap (put_mid a n mid) (c.gctr_rest.ensures ∙ ap (λ block. gctr key block part) next))
+
+pub gctr_group-requires-clause-page : goal.gctr_group-requires-clause-page
+gctr_group-requires-clause-page c = c.groups.invariant.page
+
+pub gctr_rest-requires-clause-page : goal.gctr_rest-requires-clause-page
+gctr_rest-requires-clause-page c = c.groups.invariant.page
