@@ -23,8 +23,8 @@ use Rattle.body_format.proofs.Released.{front_released}
 use Rattle.body_format.proofs.WrittenRows.{behind_frames, judged_behind}
 use Rattle.body_format.proofs.WrittenBodies.{framed_then, block_then}
 
-abbrev under : List ℕ → List ℕ → ℕ → Under
-under key id n = record { key = key; id = id; frame = n }
+abbrev under : List ℕ → List ℕ → Under
+under key id = record { key = key; id = id }
 
 -- ---- fronts
 
@@ -33,41 +33,41 @@ pub fault_stays : (content : Content) (max_unit : Option ℕ) (key id : List ℕ
     → (judged_body content max_unit key id (cut n p)).verdict ≡ Faulty fault → judged_body content max_unit key id p ≡ judged_body content max_unit key id (cut n p)
 unfolding judged_body judged_frames judged_block
 fault_stays Single max_unit key id p n fault within h = rows.fault_stays 1 (λ k. block max_unit key id) p n fault (block_row max_unit key id) within h
-fault_stays (Framed size) max_unit key id p n fault within h = rows.fault_stays (size + beside_content) (frame (under key id size)) p n fault (frames_row (under key id size)) within h
+fault_stays (Framed size) max_unit key id p n fault within h = rows.fault_stays (size + beside_content) (frame size (under key id)) p n fault (frames_row size (under key id)) within h
 
 -- What was handed out of a front is what is handed out first of all bytes.
 pub units_front : (content : Content) (max_unit : Option ℕ) (key id : List ℕ) (p : Place) (n : ℕ) → p.at ≤ n
     → Begins (judged_body content max_unit key id (cut n p)).units (judged_body content max_unit key id p).units
 unfolding judged_body judged_frames judged_block
 units_front Single max_unit key id p n within = rows.units_front 1 (λ k. block max_unit key id) p n (block_row max_unit key id) within
-units_front (Framed size) max_unit key id p n within = rows.units_front (size + beside_content) (frame (under key id size)) p n (frames_row (under key id size)) within
+units_front (Framed size) max_unit key id p n within = rows.units_front (size + beside_content) (frame size (under key id)) p n (frames_row size (under key id)) within
 
 -- A byte behind what was whole is a fault.
 pub too_many : (content : Content) (max_unit : Option ℕ) (key id : List ℕ) (p : Place) (n : ℕ) → p.at ≤ n
     → (judged_body content max_unit key id (cut n p)).verdict ≡ Whole → n < p.at + length p.left → (judged_body content max_unit key id p).verdict ≡ Faulty TrailingBytes
 unfolding judged_body judged_frames judged_block
 too_many Single max_unit key id p n within whole more = rows.too_many 1 (λ k. block max_unit key id) p n (block_row max_unit key id) within whole more
-too_many (Framed size) max_unit key id p n within whole more = rows.too_many (size + beside_content) (frame (under key id size)) p n (frames_row (under key id size)) within whole more
+too_many (Framed size) max_unit key id p n within whole more = rows.too_many (size + beside_content) (frame size (under key id)) p n (frames_row size (under key id)) within whole more
 
 -- A front of what is whole is going.
 pub front_going : (content : Content) (max_unit : Option ℕ) (key id : List ℕ) (p : Place) (n : ℕ) → p.at ≤ n
     → (judged_body content max_unit key id p).verdict ≡ Whole → n < p.at + length p.left → (judged_body content max_unit key id (cut n p)).verdict ≡ Going
 unfolding judged_body judged_frames judged_block
 front_going Single max_unit key id p n within whole more = rows.front_going 1 (λ k. block max_unit key id) p n (block_row max_unit key id) within whole more
-front_going (Framed size) max_unit key id p n within whole more = rows.front_going (size + beside_content) (frame (under key id size)) p n (frames_row (under key id size)) within whole more
+front_going (Framed size) max_unit key id p n within whole more = rows.front_going (size + beside_content) (frame size (under key id)) p n (frames_row size (under key id)) within whole more
 
 -- ---- written bodies
 
 -- A text in frames is read back, whatever follows.
-pub framed_is : (u : Under) (text more : List ℕ) (max_unit : Option ℕ) (at : ℕ) → IsFramed u text
-    → judged_body (Framed u.frame) max_unit u.key u.id (record { at = at; left = framed_body u text ++ more }) ≡ record { units = pieces u.frame text (frame_count (length text) u.frame); verdict = behind_last more }
+pub framed_is : (frame_length : ℕ) (u : Under) (text more : List ℕ) (max_unit : Option ℕ) (at : ℕ) → IsFramed frame_length text
+    → judged_body (Framed frame_length) max_unit u.key u.id (record { at = at; left = framed_body frame_length u text ++ more }) ≡ record { units = pieces frame_length text (frame_count (length text) frame_length); verdict = behind_last more }
 unfolding judged_body judged_frames
-framed_is u text more max_unit at framed = framed_then u text more at (frames_row u) framed
+framed_is frame_length u text more max_unit at framed = framed_then frame_length u text more at (frames_row frame_length u) framed
 
-pub framed_whole : (u : Under) (text : List ℕ) (max_unit : Option ℕ) (at : ℕ) → IsFramed u text
-    → judged_body (Framed u.frame) max_unit u.key u.id (record { at = at; left = framed_body u text }) ≡ record { units = pieces u.frame text (frame_count (length text) u.frame); verdict = Whole }
-framed_whole u text max_unit at framed =
-    ap (λ (l : List ℕ). judged_body (Framed u.frame) max_unit u.key u.id (record { at = at; left = l })) (sym (append-nil (framed_body u text))) ∙ framed_is u text [] max_unit at framed
+pub framed_whole : (frame_length : ℕ) (u : Under) (text : List ℕ) (max_unit : Option ℕ) (at : ℕ) → IsFramed frame_length text
+    → judged_body (Framed frame_length) max_unit u.key u.id (record { at = at; left = framed_body frame_length u text }) ≡ record { units = pieces frame_length text (frame_count (length text) frame_length); verdict = Whole }
+framed_whole frame_length u text max_unit at framed =
+    ap (λ (l : List ℕ). judged_body (Framed frame_length) max_unit u.key u.id (record { at = at; left = l })) (sym (append-nil (framed_body frame_length u text))) ∙ framed_is frame_length u text [] max_unit at framed
 
 -- A single block is read back, whatever follows.
 pub block_is : (max_unit : Option ℕ) (key id iv text more : List ℕ) (at : ℕ) → length iv ≡ 12 → length text ≤ longest_block → is_over max_unit (length text) ≡ false
@@ -83,25 +83,25 @@ block_whole max_unit key id iv text at len within limit =
 -- ---- fronts of written bodies
 
 -- Of a front of a written body the whole frames so far are handed out.
-pub front_releases : (u : Under) (text : List ℕ) (max_unit : Option ℕ) (at n : ℕ) → IsFramed u text → at ≤ n → n < at + length (framed_body u text)
-    → (count : ℕ) × (Releases u (length text) at n count
-    × (judged_body (Framed u.frame) max_unit u.key u.id (cut n (record { at = at; left = framed_body u text })) ≡ record { units = pieces u.frame text count; verdict = Going }))
+pub front_releases : (frame_length : ℕ) (u : Under) (text : List ℕ) (max_unit : Option ℕ) (at n : ℕ) → IsFramed frame_length text → at ≤ n → n < at + length (framed_body frame_length u text)
+    → (count : ℕ) × (Releases frame_length (length text) at n count
+    × (judged_body (Framed frame_length) max_unit u.key u.id (cut n (record { at = at; left = framed_body frame_length u text })) ≡ record { units = pieces frame_length text count; verdict = Going }))
 unfolding judged_body judged_frames
-front_releases u text max_unit at n framed within early =
-    let p : Place = record { at = at; left = framed_body u text } in
-    let whole = ap (λ (j : JudgedBody). j.verdict) (framed_whole u text max_unit at framed) in
-    let going = rows.front_going (u.frame + beside_content) (frame u) p n (frames_row u) within whole early in
-    let found = front_released u text at n framed within going in
-    (found.0, (found.1.0, rows.same_judged (judged_frames u (cut n p)) (record { units = pieces u.frame text found.0; verdict = Going }) found.1.1 going))
+front_releases frame_length u text max_unit at n framed within early =
+    let p : Place = record { at = at; left = framed_body frame_length u text } in
+    let whole = ap (λ (j : JudgedBody). j.verdict) (framed_whole frame_length u text max_unit at framed) in
+    let going = rows.front_going (frame_length + beside_content) (frame frame_length u) p n (frames_row frame_length u) within whole early in
+    let found = front_released frame_length u text at n framed within going in
+    (found.0, (found.1.0, rows.same_judged (judged_frames frame_length u (cut n p)) (record { units = pieces frame_length text found.0; verdict = Going }) found.1.1 going))
 
 -- Regular frames alone are handed out, and the body is going.
-pub frames_going : (u : Under) (text : List ℕ) (m : ℕ) (max_unit : Option ℕ) (at : ℕ) → AreFull u text m
-    → judged_body (Framed u.frame) max_unit u.key u.id (record { at = at; left = regular_frames u text m }) ≡ record { units = pieces u.frame text m; verdict = Going }
+pub frames_going : (frame_length : ℕ) (u : Under) (text : List ℕ) (m : ℕ) (max_unit : Option ℕ) (at : ℕ) → AreFull frame_length text m
+    → judged_body (Framed frame_length) max_unit u.key u.id (record { at = at; left = regular_frames frame_length u text m }) ≡ record { units = pieces frame_length text m; verdict = Going }
 unfolding judged_body judged_frames
-frames_going u text m max_unit at full =
-    let wants : frame u m (record { at = at + m * (u.frame + beside_content); left = [] }) ≡ Wanting = no_frame u m (at + m * (u.frame + beside_content)) in
-    let judged = judged_behind u text m [] at (frames_row u) full (ap is_more wants) in
-    ap (λ (l : List ℕ). judged_frames u (record { at = at; left = l })) (sym (append-nil (regular_frames u text m)))
-    ∙ rows.same_judged (judged_frames u (behind_frames u text m [] at)) (record { units = pieces u.frame text m; verdict = Going })
-    (judged.units ∙ ap (λ (r : Reading Piece). pieces u.frame text m ++ released r) wants ∙ append-nil (pieces u.frame text m))
+frames_going frame_length u text m max_unit at full =
+    let wants : frame frame_length u m (record { at = at + m * (frame_length + beside_content); left = [] }) ≡ Wanting = no_frame frame_length u m (at + m * (frame_length + beside_content)) in
+    let judged = judged_behind frame_length u text m [] at (frames_row frame_length u) full (ap is_more wants) in
+    ap (λ (l : List ℕ). judged_frames frame_length u (record { at = at; left = l })) (sym (append-nil (regular_frames frame_length u text m)))
+    ∙ rows.same_judged (judged_frames frame_length u (behind_frames frame_length u text m [] at)) (record { units = pieces frame_length text m; verdict = Going })
+    (judged.units ∙ ap (λ (r : Reading Piece). pieces frame_length text m ++ released r) wants ∙ append-nil (pieces frame_length text m))
     (judged.verdict ∙ ap verdict_of wants)

@@ -17,11 +17,11 @@ use Rattle.frame_codec.proofs.Ways.{Short, Other, Numbered, Regular, Marked, Fin
 use Rattle.body_format.specs.Rows.{IsRow}
 use Rattle.body_format.specs.Body.{beside_content}
 
-pub frames_row : (u : Under) → IsRow (u.frame + beside_content) (frame u)
-frames_row u = record {
+pub frames_row : (frame_length : ℕ) (u : Under) → IsRow (frame_length + beside_content) (frame frame_length u)
+frames_row frame_length u = record {
   wide = omega arith;
-  sequential = IsSequential-frame u;
-  sized = λ k p next content e. frame_sized u k p content next e;
+  sequential = IsSequential-frame frame_length u;
+  sized = λ k p next content e. frame_sized frame_length u k p content next e;
 }
 
 pub same_kind : (r : Reading UnitHead) (x y : UnitHead) (p q : Place) → r ≡ Read x p → r ≡ Read y q → x.kind ≡ y.kind
@@ -56,10 +56,10 @@ block_row max_unit key id = record {
 }
 
 -- where no byte is, more are wanted for a frame
-pub no_frame : (u : Under) (k at : ℕ) → frame u k (place at []) ≡ Wanting
+pub no_frame : (frame_length : ℕ) (u : Under) (k at : ℕ) → frame frame_length u k (place at []) ≡ Wanting
 unfolding frame unit unit_head
-no_frame u k at =
-    elim (frame_way (k + 1) u.frame []) [
+no_frame frame_length u k at =
+    elim (frame_way (k + 1) frame_length []) [
       | Short short is ↦ ap (λ r. then_read r (after_head u.key u.id)) (is at)
       | Other long unmarked other is ↦ absurd (omega arith)
       | Numbered long short unmarked same is ↦ absurd (omega arith)

@@ -3,7 +3,6 @@ use Rattle.std.proofs.Common.{◌≡◌, ℕ, zero, suc, ◌+◌, ◌-◌, ◌*�
 use Rattle.std.proofs.Math.Nat.{div-mul-le_self, lt-div-mul-add, mul-le-mul_right}
 use Rattle.std.proofs.lemmas.Bool.{cases_lt, ne_eqb}
 use Rattle.std.proofs.lemmas.List.{length-take, length-drop, take_all}
-use Rattle.frame_codec.specs.Unit.{Under}
 use Rattle.body_format.specs.Written.{frame_count, piece, IsFramed}
 
 -- one more, as a product
@@ -35,15 +34,15 @@ count_is (suc n) frame h =
     rw (count_some n frame) (record { some = some; full = omega arith; all = omega arith; rest = λ more. omega arith })
 
 -- a count of frames is at most the most
-pub count_few : (u : Under) (text : List ℕ) → IsFramed u text → frame_count (length text) u.frame ≤ 2 ^ 32 - 1
-count_few u text framed =
-    let count : ℕ = frame_count (length text) u.frame in
-    let is = count_is (length text) u.frame framed.some in
+pub count_few : (frame_length : ℕ) (text : List ℕ) → IsFramed frame_length text → frame_count (length text) frame_length ≤ 2 ^ 32 - 1
+count_few frame_length text framed =
+    let count : ℕ = frame_count (length text) frame_length in
+    let is = count_is (length text) frame_length framed.some in
     elim (cases_lt (2 ^ 32 - 1) count) [
       | inl many ↦
-          (let long : (2 ^ 32 - 1) * u.frame ≤ (count - 1) * u.frame = mul-le-mul_right u.frame (omega arith) in
-          let few : length text ≤ (2 ^ 32 - 1) * u.frame = framed.few in
-          let some : 1 ≤ u.frame = framed.some in
+          (let long : (2 ^ 32 - 1) * frame_length ≤ (count - 1) * frame_length = mul-le-mul_right frame_length (omega arith) in
+          let few : length text ≤ (2 ^ 32 - 1) * frame_length = framed.few in
+          let some : 1 ≤ frame_length = framed.some in
           elim (cases_lt 0 (length text)) [
             | inl more ↦ absurd (omega (arith, is.rest more))
             | inr none ↦ absurd (omega (arith, is.full))

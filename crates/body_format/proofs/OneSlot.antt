@@ -20,23 +20,23 @@ use Rattle.body_format.proofs.FrameTable.{regular_content, final_content, frame_
 use Rattle.body_format.proofs.Slots.{first_is}
 use Rattle.body_format.proofs.TableLaws.{some_is, first_same, frames_tabled}
 
-pub read_alone : (u : Under) (p : Place) (k : ℕ) → AreReadAlone u p k
-read_alone u p k = record {
-  frame_is = frame_tabled u k p.at p.left;
-  slot_is = frame_tabled u k (p.at + k * (u.frame + beside_content)) (slot_bytes u p.left k);
+pub read_alone : (frame_length : ℕ) (u : Under) (p : Place) (k : ℕ) → AreReadAlone frame_length u p k
+read_alone frame_length u p k = record {
+  frame_is = frame_tabled frame_length u k p.at p.left;
+  slot_is = frame_tabled frame_length u k (p.at + k * (frame_length + beside_content)) (slot_bytes frame_length p.left k);
 }
 
 -- there is one first slot that isn't a good regular one
-first_unique : (u : Under) (p : Place) (n : ℕ) → IsFirst u p.left n → first_not_regular u p.left ≡ n
-first_unique u p n first =
-    sym (first_same u p)
-    ∙ first_is (u.frame + beside_content) (frame u) p n (frames_row u)
-    (λ k h. some_is u p k ∙ ap is_some (first.before k h).1)
-    (some_is u p n ∙ ap is_some first.here)
+first_unique : (frame_length : ℕ) (u : Under) (p : Place) (n : ℕ) → IsFirst frame_length u p.left n → first_not_regular frame_length u p.left ≡ n
+first_unique frame_length u p n first =
+    sym (first_same frame_length u p)
+    ∙ first_is (frame_length + beside_content) (frame frame_length u) p n (frames_row frame_length u)
+    (λ k h. some_is frame_length u p k ∙ ap is_some (first.before k h).1)
+    (some_is frame_length u p n ∙ ap is_some first.here)
 
-pub decides : (u : Under) (p : Place) (n : ℕ) → IsFirst u p.left n → judged_frames u p ≡ decided_at u p.left n
+pub decides : (frame_length : ℕ) (u : Under) (p : Place) (n : ℕ) → IsFirst frame_length u p.left n → judged_frames frame_length u p ≡ decided_at frame_length u p.left n
 unfolding tabled_frames
-decides u p n first = frames_tabled u p ∙ ap (decided_at u p.left) (first_unique u p n first)
+decides frame_length u p n first = frames_tabled frame_length u p ∙ ap (decided_at frame_length u p.left) (first_unique frame_length u p n first)
 
 -- ---- how long a content is
 
@@ -61,29 +61,29 @@ not_less m n false e h = elim (cases_lt m n) [
   | inr within ↦ within
 ]
 
-pub regular_full : (u : Under) (k : ℕ) (bytes text : List ℕ) → good_regular u k bytes ≡ Some text → length text ≡ u.frame
+pub regular_full : (frame_length : ℕ) (u : Under) (k : ℕ) (bytes text : List ℕ) → good_regular frame_length u k bytes ≡ Some text → length text ≡ frame_length
 unfolding good_regular
-regular_full u k bytes text e =
-    let there : Bool = not (nat_lt (length bytes) (u.frame + beside_content)) in
+regular_full frame_length u k bytes text e =
+    let there : Bool = not (nat_lt (length bytes) (frame_length + beside_content)) in
     let plain : Bool = not (is_final bytes) in
     let numbered : Bool = number_at 0 bytes == k + 1 in
-    let held = test_holds (there && plain && numbered) (regular_content u k bytes) text e in
-    let long : u.frame + 32 ≤ length bytes = not_less (length bytes) (u.frame + 32) _ refl (both there plain (both (there && plain) numbered held.0).0).0 in
-    let same = length_opened u.key (part 4 12 bytes) (unit_aad u.id kinds.Regular (k + 1) u.frame) (part 16 u.frame bytes) (part (16 + u.frame) 16 bytes) text held.1 in
-    omega (arith, same, long, length-take u.frame (drop 16 bytes), length-drop 16 bytes)
+    let held = test_holds (there && plain && numbered) (regular_content frame_length u k bytes) text e in
+    let long : frame_length + 32 ≤ length bytes = not_less (length bytes) (frame_length + 32) _ refl (both there plain (both (there && plain) numbered held.0).0).0 in
+    let same = length_opened u.key (part 4 12 bytes) (unit_aad u.id kinds.Regular (k + 1) frame_length) (part 16 frame_length bytes) (part (16 + frame_length) 16 bytes) text held.1 in
+    omega (arith, same, long, length-take frame_length (drop 16 bytes), length-drop 16 bytes)
 
-pub final_short : (u : Under) (k : ℕ) (bytes text : List ℕ) → good_final u k bytes ≡ Some text → length text ≤ u.frame
+pub final_short : (frame_length : ℕ) (u : Under) (k : ℕ) (bytes text : List ℕ) → good_final frame_length u k bytes ≡ Some text → length text ≤ frame_length
 unfolding good_final
-final_short u k bytes text e =
+final_short frame_length u k bytes text e =
     let size : ℕ = number_at 20 bytes in
     let there : Bool = not (nat_lt (length bytes) 24) in
     let marked : Bool = is_final bytes in
     let numbered : Bool = number_at 4 bytes == k + 1 in
-    let narrow : Bool = not (nat_lt u.frame size) in
+    let narrow : Bool = not (nat_lt frame_length size) in
     let whole : Bool = not (nat_lt (length bytes) (size + 40)) in
     let first : Bool = there && marked && numbered in
-    let held = test_holds (first && narrow && whole) (final_content u k bytes) text e in
+    let held = test_holds (first && narrow && whole) (final_content frame_length u k bytes) text e in
     let fourth : narrow ≡ true = (both first narrow (both (first && narrow) whole held.0).0).1 in
-    let within : size ≤ u.frame = not_less u.frame size _ refl fourth in
+    let within : size ≤ frame_length = not_less frame_length size _ refl fourth in
     let same = length_opened u.key (part 8 12 bytes) (unit_aad u.id kinds.Final (k + 1) size) (part 24 size bytes) (part (24 + size) 16 bytes) text held.1 in
     omega (arith, within, same, length-take size (drop 24 bytes))

@@ -48,29 +48,29 @@ ends_before n piece next e =
 -- ---- frames
 
 -- the front of regular frames and of a last unit
-released_by : (u : Under) (text : List ℕ) (m : ℕ) (more content : List ℕ) (at n : ℕ) (end : Place) → AreFull u text m
-    → frame u m (record { at = at + m * (u.frame + beside_content); left = more }) ≡ Read (Last content) end → at ≤ n
-    → (judged_units (u.frame + beside_content) (frame u) (cut n (behind_frames u text m more at))).verdict ≡ Going
-    → (k : ℕ) × ((k ≤ m) × (at + k * (u.frame + beside_content) ≤ n) × ((k ≡ m) ⊎ (n < at + k * (u.frame + beside_content) + (u.frame + beside_content)))
-    × ((judged_units (u.frame + beside_content) (frame u) (cut n (behind_frames u text m more at))).units ≡ pieces u.frame text k))
-released_by u text m more content at n end full last within going =
-    let width : ℕ = u.frame + beside_content in
-    let p : Place = behind_frames u text m more at in
-    let row = frames_row u in
-    let k : ℕ = first_other width (frame u) (cut n p) in
-    let at_last : slot width (frame u) p m ≡ Read (Last content) end = behind_slot u text m more at full ∙ last in
+released_by : (frame_length : ℕ) (u : Under) (text : List ℕ) (m : ℕ) (more content : List ℕ) (at n : ℕ) (end : Place) → AreFull frame_length text m
+    → frame frame_length u m (record { at = at + m * (frame_length + beside_content); left = more }) ≡ Read (Last content) end → at ≤ n
+    → (judged_units (frame_length + beside_content) (frame frame_length u) (cut n (behind_frames frame_length u text m more at))).verdict ≡ Going
+    → (k : ℕ) × ((k ≤ m) × (at + k * (frame_length + beside_content) ≤ n) × ((k ≡ m) ⊎ (n < at + k * (frame_length + beside_content) + (frame_length + beside_content)))
+    × ((judged_units (frame_length + beside_content) (frame frame_length u) (cut n (behind_frames frame_length u text m more at))).units ≡ pieces frame_length text k))
+released_by frame_length u text m more content at n end full last within going =
+    let width : ℕ = frame_length + beside_content in
+    let p : Place = behind_frames frame_length u text m more at in
+    let row = frames_row frame_length u in
+    let k : ℕ = first_other width (frame frame_length u) (cut n p) in
+    let at_last : slot width (frame frame_length u) p m ≡ Read (Last content) end = behind_slot frame_length u text m more at full ∙ last in
     let few : k ≤ m = elim (cases_lt m k) [
-      | inl many ↦ (let no : false ≡ true = sym (ap is_more at_last) ∙ (slot_stays width (frame u) p n m row within many).more in absurd cc)
+      | inl many ↦ (let no : false ≡ true = sym (ap is_more at_last) ∙ (slot_stays width (frame frame_length u) p n m row within many).more in absurd cc)
       | inr few ↦ few
     ] in
-    let here = slot_cut width (frame u) p n k row within (omega arith) in
-    let other : is_more (cut_reading n (slot width (frame u) p k)) ≡ false = sym (ap is_more here) ∙ other_at width (frame u) (cut n p) row in
-    let unsaid : verdict_of (cut_reading n (slot width (frame u) p k)) ≡ Going = sym (ap verdict_of here) ∙ sym (verdict_is width (frame u) (cut n p)) ∙ going in
-    let wants : cut_reading n (slot width (frame u) p k) ≡ Wanting = ends_within n (slot width (frame u) p k) (cut_cases n (slot width (frame u) p k)) other unsaid in
+    let here = slot_cut width (frame frame_length u) p n k row within (omega arith) in
+    let other : is_more (cut_reading n (slot width (frame frame_length u) p k)) ≡ false = sym (ap is_more here) ∙ other_at width (frame frame_length u) (cut n p) row in
+    let unsaid : verdict_of (cut_reading n (slot width (frame frame_length u) p k)) ≡ Going = sym (ap verdict_of here) ∙ sym (verdict_is width (frame frame_length u) (cut n p)) ∙ going in
+    let wants : cut_reading n (slot width (frame frame_length u) p k) ≡ Wanting = ends_within n (slot width (frame frame_length u) p k) (cut_cases n (slot width (frame frame_length u) p k)) other unsaid in
     let no_more : (k ≡ m) ⊎ (n < at + k * width + width) = elim (cases_lt k m) [
       | inl fewer ↦
-          (let there = regular_slot u text m k more at full fewer in
-          let before : n < there.next.at = ends_before n (More (piece u.frame text k)) there.next (sym (ap (cut_reading n) there.is) ∙ wants) in
+          (let there = regular_slot frame_length u text m k more at full fewer in
+          let before : n < there.next.at = ends_before n (More (piece frame_length text k)) there.next (sym (ap (cut_reading n) there.is) ∙ wants) in
           let end_is = there.end_is in
           inr (omega arith))
       | inr all ↦ inl (omega arith)
@@ -78,30 +78,30 @@ released_by u text m more content at n end full last within going =
       k,
       (
         few,
-        reached width (frame u) p n k row within (omega arith),
+        reached width (frame frame_length u) p n k row within (omega arith),
         no_more,
-        units_are width (frame u) (cut n p)
-            ∙ ap (λ (l : List (List ℕ)). l ++ released (slot width (frame u) (cut n p) k)) (front_same width (frame u) p n row within ∙ pieces_released u text m k more at full few)
-            ∙ ap (λ (l : List (List ℕ)). pieces u.frame text k ++ l) (ap released (here ∙ wants))
-            ∙ append-nil (pieces u.frame text k),
+        units_are width (frame frame_length u) (cut n p)
+            ∙ ap (λ (l : List (List ℕ)). l ++ released (slot width (frame frame_length u) (cut n p) k)) (front_same width (frame frame_length u) p n row within ∙ pieces_released frame_length u text m k more at full few)
+            ∙ ap (λ (l : List (List ℕ)). pieces frame_length text k ++ l) (ap released (here ∙ wants))
+            ∙ append-nil (pieces frame_length text k),
       ),
     )
 
 -- The front of a body: so many frames are whole, and their pieces of the text are handed out.
-pub front_released : (u : Under) (text : List ℕ) (at n : ℕ) → IsFramed u text → at ≤ n
-    → (judged_units (u.frame + beside_content) (frame u) (cut n (record { at = at; left = framed_body u text }))).verdict ≡ Going
-    → (count : ℕ) × (Releases u (length text) at n count × ((judged_units (u.frame + beside_content) (frame u) (cut n (record { at = at; left = framed_body u text }))).units ≡ pieces u.frame text count))
+pub front_released : (frame_length : ℕ) (u : Under) (text : List ℕ) (at n : ℕ) → IsFramed frame_length text → at ≤ n
+    → (judged_units (frame_length + beside_content) (frame frame_length u) (cut n (record { at = at; left = framed_body frame_length u text }))).verdict ≡ Going
+    → (count : ℕ) × (Releases frame_length (length text) at n count × ((judged_units (frame_length + beside_content) (frame frame_length u) (cut n (record { at = at; left = framed_body frame_length u text }))).units ≡ pieces frame_length text count))
 unfolding framed_body
-front_released u text at n framed within going =
-    let count : ℕ = frame_count (length text) u.frame in
+front_released frame_length u text at n framed within going =
+    let count : ℕ = frame_count (length text) frame_length in
     let m : ℕ = count - 1 in
-    let last : List ℕ = final_frame u count (drop (m * u.frame) text) in
-    let some : 1 ≤ count = (count_is (length text) u.frame framed.some).some in
-    let begin : ℕ = at + m * (u.frame + beside_content) in
-    let read = ap (λ (l : List ℕ). frame u m (record { at = begin; left = l })) (sym (append-nil last)) ∙ final_slot u text [] begin framed in
-    let found = released_by u text m last (piece u.frame text m) at n _ (all_full u text framed) read within going in
+    let last : List ℕ = final_frame u count (drop (m * frame_length) text) in
+    let some : 1 ≤ count = (count_is (length text) frame_length framed.some).some in
+    let begin : ℕ = at + m * (frame_length + beside_content) in
+    let read = ap (λ (l : List ℕ). frame frame_length u m (record { at = begin; left = l })) (sym (append-nil last)) ∙ final_slot frame_length u text [] begin framed in
+    let found = released_by frame_length u text m last (piece frame_length text m) at n _ (all_full frame_length text framed) read within going in
     let k : ℕ = found.0 in
     let few : k ≤ m = found.1.0 in
-    let on : at + (k + 1) * (u.frame + beside_content) ≡ at + k * (u.frame + beside_content) + (u.frame + beside_content) = omega arith in
-    let no_more : (k + 1 ≡ count) ⊎ (n < at + (k + 1) * (u.frame + beside_content)) = elim (found.1.2) [ inl all ↦ inl (omega arith) | inr early ↦ inr (omega arith) ] in
+    let on : at + (k + 1) * (frame_length + beside_content) ≡ at + k * (frame_length + beside_content) + (frame_length + beside_content) = omega arith in
+    let no_more : (k + 1 ≡ count) ⊎ (n < at + (k + 1) * (frame_length + beside_content)) = elim (found.1.2) [ inl all ↦ inl (omega arith) | inr early ↦ inr (omega arith) ] in
     (k, (record { few = omega arith; come = found.1.1; no_more = no_more }, found.1.3))

@@ -39,42 +39,42 @@ released_last Wanting h = refl
 -- ---- slots
 
 -- slot k of a body that begins anywhere
-at_slot : (u : Under) (p : Place) (k : ℕ) → IsTabled u k (slot_bytes u p.left k) (slot (u.frame + beside_content) (frame u) p k)
-at_slot u p k = frame_tabled u k (p.at + k * (u.frame + beside_content)) (slot_bytes u p.left k)
+at_slot : (frame_length : ℕ) (u : Under) (p : Place) (k : ℕ) → IsTabled frame_length u k (slot_bytes frame_length p.left k) (slot (frame_length + beside_content) (frame frame_length u) p k)
+at_slot frame_length u p k = frame_tabled frame_length u k (p.at + k * (frame_length + beside_content)) (slot_bytes frame_length p.left k)
 
-pub some_is : (u : Under) (p : Place) (k : ℕ) → is_more (slot (u.frame + beside_content) (frame u) p k) ≡ is_some (good_regular u k (slot_bytes u p.left k))
-some_is u p k = sym (more_some (slot (u.frame + beside_content) (frame u) p k)) ∙ ap is_some (at_slot u p k).regular
+pub some_is : (frame_length : ℕ) (u : Under) (p : Place) (k : ℕ) → is_more (slot (frame_length + beside_content) (frame frame_length u) p k) ≡ is_some (good_regular frame_length u k (slot_bytes frame_length p.left k))
+some_is frame_length u p k = sym (more_some (slot (frame_length + beside_content) (frame frame_length u) p k)) ∙ ap is_some (at_slot frame_length u p k).regular
 
 -- tests that agree have one front
 prefix_len_same : (f g : ℕ → Bool) (xs : List ℕ) → ((k : ℕ) → f k ≡ g k) → prefix_len f xs ≡ prefix_len g xs
 prefix_len_same f g xs same = λ i. prefix_len (λ k. same k i) xs
 
-pub first_same : (u : Under) (p : Place) → first_other (u.frame + beside_content) (frame u) p ≡ first_not_regular u p.left
+pub first_same : (frame_length : ℕ) (u : Under) (p : Place) → first_other (frame_length + beside_content) (frame frame_length u) p ≡ first_not_regular frame_length u p.left
 unfolding first_other first_not_regular
-first_same u p =
-    prefix_len_same (λ k. is_more (slot (u.frame + beside_content) (frame u) p k)) (λ k. is_some (good_regular u k (slot_bytes u p.left k))) (range_with_len 0 (length p.left)) (some_is u p)
+first_same frame_length u p =
+    prefix_len_same (λ k. is_more (slot (frame_length + beside_content) (frame frame_length u) p k)) (λ k. is_some (good_regular frame_length u k (slot_bytes frame_length p.left k))) (range_with_len 0 (length p.left)) (some_is frame_length u p)
 
 -- ---- all of it
 
-pub frames_tabled : (u : Under) (p : Place) → judged_frames u p ≡ tabled_frames u p.left
+pub frames_tabled : (frame_length : ℕ) (u : Under) (p : Place) → judged_frames frame_length u p ≡ tabled_frames frame_length u p.left
 unfolding judged_frames tabled_frames
-frames_tabled u p =
-    let width : ℕ = u.frame + beside_content in
-    let n : ℕ = first_other width (frame u) p in
-    let m : ℕ = first_not_regular u p.left in
-    let same : n ≡ m = first_same u p in
-    let other = other_at width (frame u) p (frames_row u) in
-    let front : flat_map (λ k. released (slot width (frame u) p k)) (range_with_len 0 n) ≡ flat_map (λ k. listed (good_regular u k (slot_bytes u p.left k))) (range_with_len 0 n) =
-    flat_map_same (λ k. released (slot width (frame u) p k)) (λ k. listed (good_regular u k (slot_bytes u p.left k))) 0 n
-    (λ k low high. released_more (slot width (frame u) p k) (good_before width (frame u) p k (omega arith)) ∙ ap listed (at_slot u p k).regular) in
-    let last : released (slot width (frame u) p n) ≡ listed (good_final u n (slot_bytes u p.left n)) = released_last (slot width (frame u) p n) other ∙ ap listed (at_slot u p n).last in
-    same_judged (judged_units width (frame u) p)
-    (record { units = flat_map (λ i. listed (good_regular u i (slot_bytes u p.left i))) (range_with_len 0 m) ++ listed (good_final u m (slot_bytes u p.left m)); verdict = framed_verdict u m (slot_bytes u p.left m) })
-    (units_are width (frame u) p
-    ∙ ap (λ (l : List (List ℕ)). l ++ released (slot width (frame u) p n)) front
-    ∙ ap (λ (l : List (List ℕ)). flat_map (λ k. listed (good_regular u k (slot_bytes u p.left k))) (range_with_len 0 n) ++ l) last
-    ∙ ap (λ (k : ℕ). flat_map (λ i. listed (good_regular u i (slot_bytes u p.left i))) (range_with_len 0 k) ++ listed (good_final u k (slot_bytes u p.left k))) same)
-    (verdict_is width (frame u) p ∙ (at_slot u p n).verdict other ∙ ap (λ (k : ℕ). framed_verdict u k (slot_bytes u p.left k)) same)
+frames_tabled frame_length u p =
+    let width : ℕ = frame_length + beside_content in
+    let n : ℕ = first_other width (frame frame_length u) p in
+    let m : ℕ = first_not_regular frame_length u p.left in
+    let same : n ≡ m = first_same frame_length u p in
+    let other = other_at width (frame frame_length u) p (frames_row frame_length u) in
+    let front : flat_map (λ k. released (slot width (frame frame_length u) p k)) (range_with_len 0 n) ≡ flat_map (λ k. listed (good_regular frame_length u k (slot_bytes frame_length p.left k))) (range_with_len 0 n) =
+    flat_map_same (λ k. released (slot width (frame frame_length u) p k)) (λ k. listed (good_regular frame_length u k (slot_bytes frame_length p.left k))) 0 n
+    (λ k low high. released_more (slot width (frame frame_length u) p k) (good_before width (frame frame_length u) p k (omega arith)) ∙ ap listed (at_slot frame_length u p k).regular) in
+    let last : released (slot width (frame frame_length u) p n) ≡ listed (good_final frame_length u n (slot_bytes frame_length p.left n)) = released_last (slot width (frame frame_length u) p n) other ∙ ap listed (at_slot frame_length u p n).last in
+    same_judged (judged_units width (frame frame_length u) p)
+    (record { units = flat_map (λ i. listed (good_regular frame_length u i (slot_bytes frame_length p.left i))) (range_with_len 0 m) ++ listed (good_final frame_length u m (slot_bytes frame_length p.left m)); verdict = framed_verdict frame_length u m (slot_bytes frame_length p.left m) })
+    (units_are width (frame frame_length u) p
+    ∙ ap (λ (l : List (List ℕ)). l ++ released (slot width (frame frame_length u) p n)) front
+    ∙ ap (λ (l : List (List ℕ)). flat_map (λ k. listed (good_regular frame_length u k (slot_bytes frame_length p.left k))) (range_with_len 0 n) ++ l) last
+    ∙ ap (λ (k : ℕ). flat_map (λ i. listed (good_regular frame_length u i (slot_bytes frame_length p.left i))) (range_with_len 0 k) ++ listed (good_final frame_length u k (slot_bytes frame_length p.left k))) same)
+    (verdict_is width (frame frame_length u) p ∙ (at_slot frame_length u p n).verdict other ∙ ap (λ (k : ℕ). framed_verdict frame_length u k (slot_bytes frame_length p.left k)) same)
 
 -- ---- the first slot that isn't a good regular one
 
@@ -86,13 +86,13 @@ there_is_none : (o : Option (List ℕ)) → is_some o ≡ false → o ≡ None
 there_is_none None h = refl
 there_is_none (Some text) h = absurd cc
 
-pub first_found : (u : Under) (body : List ℕ) → IsFirst u body (first_not_regular u body)
-first_found u body =
+pub first_found : (frame_length : ℕ) (u : Under) (body : List ℕ) → IsFirst frame_length u body (first_not_regular frame_length u body)
+first_found frame_length u body =
     let p : Place = record { at = 0; left = body } in
-    let width : ℕ = u.frame + beside_content in
-    let same : first_other width (frame u) p ≡ first_not_regular u body = first_same u p in
+    let width : ℕ = frame_length + beside_content in
+    let same : first_other width (frame frame_length u) p ≡ first_not_regular frame_length u body = first_same frame_length u p in
     record {
-      before = λ k h. there_is (good_regular u k (slot_bytes u body k)) (sym (some_is u p k) ∙ good_before width (frame u) p k (omega arith));
-      here = ap (λ (k : ℕ). good_regular u k (slot_bytes u body k)) (sym same)
-          ∙ there_is_none (good_regular u (first_other width (frame u) p) (slot_bytes u body (first_other width (frame u) p))) (sym (some_is u p (first_other width (frame u) p)) ∙ other_at width (frame u) p (frames_row u));
+      before = λ k h. there_is (good_regular frame_length u k (slot_bytes frame_length body k)) (sym (some_is frame_length u p k) ∙ good_before width (frame frame_length u) p k (omega arith));
+      here = ap (λ (k : ℕ). good_regular frame_length u k (slot_bytes frame_length body k)) (sym same)
+          ∙ there_is_none (good_regular frame_length u (first_other width (frame frame_length u) p) (slot_bytes frame_length body (first_other width (frame frame_length u) p))) (sym (some_is frame_length u p (first_other width (frame frame_length u) p)) ∙ other_at width (frame frame_length u) p (frames_row frame_length u));
     }

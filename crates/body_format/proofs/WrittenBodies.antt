@@ -54,48 +54,48 @@ concat_all frame text h = concat_is (pieces frame text (frame_count (length text
 -- ---- frames
 
 -- all frames of a text but the last are full
-pub all_full : (u : Under) (text : List ℕ) → IsFramed u text → AreFull u text (frame_count (length text) u.frame - 1)
-all_full u text framed =
-    let is = count_is (length text) u.frame framed.some in
-    let few = count_few u text framed in
+pub all_full : (frame_length : ℕ) (text : List ℕ) → IsFramed frame_length text → AreFull frame_length text (frame_count (length text) frame_length - 1)
+all_full frame_length text framed =
+    let is = count_is (length text) frame_length framed.some in
+    let few = count_few frame_length text framed in
     let some = is.some in
     record { full = is.full; few = omega arith }
 
 -- the final frame is read, whatever follows it
-pub final_slot : (u : Under) (text more : List ℕ) (at : ℕ) → IsFramed u text
-    → frame u (frame_count (length text) u.frame - 1) (record { at = at; left = final_frame u (frame_count (length text) u.frame) (drop ((frame_count (length text) u.frame - 1) * u.frame) text) ++ more })
-    ≡ Read (Last (piece u.frame text (frame_count (length text) u.frame - 1))) (record { at = at + (length (piece u.frame text (frame_count (length text) u.frame - 1)) + 40); left = more })
-final_slot u text more at framed =
-    let count : ℕ = frame_count (length text) u.frame in
-    let is = count_is (length text) u.frame framed.some in
-    let few : count ≤ 2 ^ 32 - 1 = count_few u text framed in
+pub final_slot : (frame_length : ℕ) (u : Under) (text more : List ℕ) (at : ℕ) → IsFramed frame_length text
+    → frame frame_length u (frame_count (length text) frame_length - 1) (record { at = at; left = final_frame u (frame_count (length text) frame_length) (drop ((frame_count (length text) frame_length - 1) * frame_length) text) ++ more })
+    ≡ Read (Last (piece frame_length text (frame_count (length text) frame_length - 1))) (record { at = at + (length (piece frame_length text (frame_count (length text) frame_length - 1)) + 40); left = more })
+final_slot frame_length u text more at framed =
+    let count : ℕ = frame_count (length text) frame_length in
+    let is = count_is (length text) frame_length framed.some in
+    let few : count ≤ 2 ^ 32 - 1 = count_few frame_length text framed in
     let some : 1 ≤ count = is.some in
-    let narrow : u.frame < 2 ^ 32 = framed.narrow in
+    let narrow : frame_length < 2 ^ 32 = framed.narrow in
     let number : count ≡ (count - 1) + 1 = omega arith in
-    let rest : piece u.frame text (count - 1) ≡ drop ((count - 1) * u.frame) text = last_piece u.frame text (count - 1) is.all in
-    let short : length (piece u.frame text (count - 1)) ≤ u.frame = omega (arith, length-take u.frame (drop ((count - 1) * u.frame) text)) in
-    ap (λ (n : ℕ). frame u (count - 1) (record { at = at; left = final_frame u n (drop ((count - 1) * u.frame) text) ++ more })) number
-    ∙ ap (λ (l : List ℕ). frame u (count - 1) (record { at = at; left = final_frame u ((count - 1) + 1) l ++ more })) (sym rest)
-    ∙ final_frame_again u (count - 1) (piece u.frame text (count - 1)) more at (omega arith) short (omega arith)
+    let rest : piece frame_length text (count - 1) ≡ drop ((count - 1) * frame_length) text = last_piece frame_length text (count - 1) is.all in
+    let short : length (piece frame_length text (count - 1)) ≤ frame_length = omega (arith, length-take frame_length (drop ((count - 1) * frame_length) text)) in
+    ap (λ (n : ℕ). frame frame_length u (count - 1) (record { at = at; left = final_frame u n (drop ((count - 1) * frame_length) text) ++ more })) number
+    ∙ ap (λ (l : List ℕ). frame frame_length u (count - 1) (record { at = at; left = final_frame u ((count - 1) + 1) l ++ more })) (sym rest)
+    ∙ final_frame_again frame_length u (count - 1) (piece frame_length text (count - 1)) more at (omega arith) short (omega arith)
 
 -- What is written is read back: the pieces of the text, and the verdict over what follows.
-pub framed_then : (u : Under) (text more : List ℕ) (at : ℕ) → IsRow (u.frame + beside_content) (frame u) → IsFramed u text
-    → judged_units (u.frame + beside_content) (frame u) (record { at = at; left = framed_body u text ++ more })
-    ≡ record { units = pieces u.frame text (frame_count (length text) u.frame); verdict = behind_last more }
+pub framed_then : (frame_length : ℕ) (u : Under) (text more : List ℕ) (at : ℕ) → IsRow (frame_length + beside_content) (frame frame_length u) → IsFramed frame_length text
+    → judged_units (frame_length + beside_content) (frame frame_length u) (record { at = at; left = framed_body frame_length u text ++ more })
+    ≡ record { units = pieces frame_length text (frame_count (length text) frame_length); verdict = behind_last more }
 unfolding framed_body
-framed_then u text more at row framed =
-    let count : ℕ = frame_count (length text) u.frame in
+framed_then frame_length u text more at row framed =
+    let count : ℕ = frame_count (length text) frame_length in
     let m : ℕ = count - 1 in
-    let last : List ℕ = final_frame u count (drop (m * u.frame) text) ++ more in
-    let full = all_full u text framed in
-    let some : 1 ≤ count = (count_is (length text) u.frame framed.some).some in
-    let here = final_slot u text more (at + m * (u.frame + beside_content)) framed in
-    let judged = judged_behind u text m last at row full (ap is_more here) in
-    let grouped : (regular_frames u text m ++ final_frame u count (drop (m * u.frame) text)) ++ more ≡ regular_frames u text m ++ last = append_assoc (regular_frames u text m) (final_frame u count (drop (m * u.frame) text)) more in
+    let last : List ℕ = final_frame u count (drop (m * frame_length) text) ++ more in
+    let full = all_full frame_length text framed in
+    let some : 1 ≤ count = (count_is (length text) frame_length framed.some).some in
+    let here = final_slot frame_length u text more (at + m * (frame_length + beside_content)) framed in
+    let judged = judged_behind frame_length u text m last at row full (ap is_more here) in
+    let grouped : (regular_frames frame_length u text m ++ final_frame u count (drop (m * frame_length) text)) ++ more ≡ regular_frames frame_length u text m ++ last = append_assoc (regular_frames frame_length u text m) (final_frame u count (drop (m * frame_length) text)) more in
     let number : m + 1 ≡ count = omega arith in
-    ap (λ (l : List ℕ). judged_units (u.frame + beside_content) (frame u) (record { at = at; left = l })) grouped
-    ∙ same_judged (judged_units (u.frame + beside_content) (frame u) (behind_frames u text m last at)) (record { units = pieces u.frame text count; verdict = behind_last more })
-    (judged.units ∙ ap (λ (r : Reading Piece). pieces u.frame text m ++ released r) here ∙ sym (pieces_more u.frame text m) ∙ ap (pieces u.frame text) number)
+    ap (λ (l : List ℕ). judged_units (frame_length + beside_content) (frame frame_length u) (record { at = at; left = l })) grouped
+    ∙ same_judged (judged_units (frame_length + beside_content) (frame frame_length u) (behind_frames frame_length u text m last at)) (record { units = pieces frame_length text count; verdict = behind_last more })
+    (judged.units ∙ ap (λ (r : Reading Piece). pieces frame_length text m ++ released r) here ∙ sym (pieces_more frame_length text m) ∙ ap (pieces frame_length text) number)
     (judged.verdict ∙ ap verdict_of here)
 
 -- ---- the single block
@@ -115,14 +115,14 @@ block_then max_unit key id iv text more at row len within limit =
     (ap verdict_of here)
 
 -- how long a body is
-pub length-framed_body : (u : Under) (text : List ℕ) → IsFramed u text → length (framed_body u text) ≡ length text + frame_count (length text) u.frame * beside_content + 8
+pub length-framed_body : (frame_length : ℕ) (u : Under) (text : List ℕ) → IsFramed frame_length text → length (framed_body frame_length u text) ≡ length text + frame_count (length text) frame_length * beside_content + 8
 unfolding framed_body
-length-framed_body u text framed =
-    let count : ℕ = frame_count (length text) u.frame in
+length-framed_body frame_length u text framed =
+    let count : ℕ = frame_count (length text) frame_length in
     let m : ℕ = count - 1 in
-    let is = count_is (length text) u.frame framed.some in
+    let is = count_is (length text) frame_length framed.some in
     let some : 1 ≤ count = is.some in
-    let fits : m * u.frame ≤ length text = is.full in
-    let last : List ℕ = final_frame u count (drop (m * u.frame) text) in
+    let fits : m * frame_length ≤ length text = is.full in
+    let last : List ℕ = final_frame u count (drop (m * frame_length) text) in
     let product : count * beside_content ≡ m * beside_content + beside_content = one_more count beside_content some in
-    omega (arith, length-append (regular_frames u text m) last, length-regular_frames u text m (all_full u text framed), length-final_frame u count (drop (m * u.frame) text), length-drop (m * u.frame) text)
+    omega (arith, length-append (regular_frames frame_length u text m) last, length-regular_frames frame_length u text m (all_full frame_length text framed), length-final_frame u count (drop (m * frame_length) text), length-drop (m * frame_length) text)

@@ -39,89 +39,89 @@ rows_from g width n k more each few =
 
 -- ---- regular frames in a row
 
-length-full : (u : Under) (text : List ℕ) (m i : ℕ) → AreFull u text m → i < m → length (piece u.frame text i) ≡ u.frame
-length-full u text m i full h =
-    let low : (i + 1) * u.frame ≤ m * u.frame = mul-le-mul_right u.frame (omega arith) in
-    length-piece u.frame text i (omega (arith, full.full))
+length-full : (frame_length : ℕ) (text : List ℕ) (m i : ℕ) → AreFull frame_length text m → i < m → length (piece frame_length text i) ≡ frame_length
+length-full frame_length text m i full h =
+    let low : (i + 1) * frame_length ≤ m * frame_length = mul-le-mul_right frame_length (omega arith) in
+    length-piece frame_length text i (omega (arith, full.full))
 
-length-one : (u : Under) (text : List ℕ) (m i : ℕ) → AreFull u text m → i < m → length (regular_frame u (i + 1) (piece u.frame text i)) ≡ u.frame + beside_content
-length-one u text m i full h = omega (arith, length-regular_frame u (i + 1) (piece u.frame text i), length-full u text m i full h)
+length-one : (frame_length : ℕ) (u : Under) (text : List ℕ) (m i : ℕ) → AreFull frame_length text m → i < m → length (regular_frame u (i + 1) (piece frame_length text i)) ≡ frame_length + beside_content
+length-one frame_length u text m i full h = omega (arith, length-regular_frame u (i + 1) (piece frame_length text i), length-full frame_length text m i full h)
 
-pub length-regular_frames : (u : Under) (text : List ℕ) (m : ℕ) → AreFull u text m → length (regular_frames u text m) ≡ m * (u.frame + beside_content)
+pub length-regular_frames : (frame_length : ℕ) (u : Under) (text : List ℕ) (m : ℕ) → AreFull frame_length text m → length (regular_frames frame_length u text m) ≡ m * (frame_length + beside_content)
 unfolding regular_frames
-length-regular_frames u text m full = length-rows (λ i. regular_frame u (i + 1) (piece u.frame text i)) (u.frame + beside_content) 0 m (λ i low high. length-one u text m i full (omega arith))
+length-regular_frames frame_length u text m full = length-rows (λ i. regular_frame u (i + 1) (piece frame_length text i)) (frame_length + beside_content) 0 m (λ i low high. length-one frame_length u text m i full (omega arith))
 
 -- the place where they begin, with more bytes behind them
-abbrev pub behind_frames : Under → List ℕ → ℕ → List ℕ → ℕ → Place
-behind_frames u text m more at = record { at = at; left = regular_frames u text m ++ more }
+abbrev pub behind_frames : ℕ → Under → List ℕ → ℕ → List ℕ → ℕ → Place
+behind_frames frame_length u text m more at = record { at = at; left = regular_frames frame_length u text m ++ more }
 
-regular_left : (u : Under) (text : List ℕ) (m k : ℕ) (more : List ℕ) → AreFull u text m → k ≤ m
-    → drop (k * (u.frame + beside_content)) (regular_frames u text m ++ more) ≡ flat_map (λ i. regular_frame u (i + 1) (piece u.frame text i)) (range_with_len k (m - k)) ++ more
+regular_left : (frame_length : ℕ) (u : Under) (text : List ℕ) (m k : ℕ) (more : List ℕ) → AreFull frame_length text m → k ≤ m
+    → drop (k * (frame_length + beside_content)) (regular_frames frame_length u text m ++ more) ≡ flat_map (λ i. regular_frame u (i + 1) (piece frame_length text i)) (range_with_len k (m - k)) ++ more
 unfolding regular_frames
-regular_left u text m k more full h = rows_from (λ i. regular_frame u (i + 1) (piece u.frame text i)) (u.frame + beside_content) m k more (λ i low. length-one u text m i full low) h
+regular_left frame_length u text m k more full h = rows_from (λ i. regular_frame u (i + 1) (piece frame_length text i)) (frame_length + beside_content) m k more (λ i low. length-one frame_length u text m i full low) h
 
 -- a slot among them has its frame
-pub record HasFrame (u : Under) (text : List ℕ) (k : ℕ) (r : Reading Piece) (end : ℕ) : Type 0 where
+pub record HasFrame (frame_length : ℕ) (text : List ℕ) (k : ℕ) (r : Reading Piece) (end : ℕ) : Type 0 where
   pub next : Place
-  pub is : r ≡ Read (More (piece u.frame text k)) next
+  pub is : r ≡ Read (More (piece frame_length text k)) next
   pub end_is : next.at ≡ end
 
-pub regular_slot : (u : Under) (text : List ℕ) (m k : ℕ) (more : List ℕ) (at : ℕ) → AreFull u text m → k < m
-    → HasFrame u text k (slot (u.frame + beside_content) (frame u) (behind_frames u text m more at) k) (at + k * (u.frame + beside_content) + (u.frame + beside_content))
-regular_slot u text m k more at full h =
-    let begin : ℕ = at + k * (u.frame + beside_content) in
-    let rest : List ℕ = flat_map (λ i. regular_frame u (i + 1) (piece u.frame text i)) (range_with_len (k + 1) (m - (k + 1))) ++ more in
+pub regular_slot : (frame_length : ℕ) (u : Under) (text : List ℕ) (m k : ℕ) (more : List ℕ) (at : ℕ) → AreFull frame_length text m → k < m
+    → HasFrame frame_length text k (slot (frame_length + beside_content) (frame frame_length u) (behind_frames frame_length u text m more at) k) (at + k * (frame_length + beside_content) + (frame_length + beside_content))
+regular_slot frame_length u text m k more at full h =
+    let begin : ℕ = at + k * (frame_length + beside_content) in
+    let rest : List ℕ = flat_map (λ i. regular_frame u (i + 1) (piece frame_length text i)) (range_with_len (k + 1) (m - (k + 1))) ++ more in
     let one : m - k ≡ suc (m - (k + 1)) = omega arith in
-    let left : drop (k * (u.frame + beside_content)) (regular_frames u text m ++ more) ≡ regular_frame u (k + 1) (piece u.frame text k) ++ rest =
-    regular_left u text m k more full (omega arith)
-    ∙ ap (λ (n : ℕ). flat_map (λ i. regular_frame u (i + 1) (piece u.frame text i)) (range_with_len k n) ++ more) one
-    ∙ ap (λ (l : List ℕ). l ++ more) (flat_map-cons (λ i. regular_frame u (i + 1) (piece u.frame text i)) k (range_with_len (k + 1) (m - (k + 1))))
-    ∙ append_assoc (regular_frame u (k + 1) (piece u.frame text k)) (flat_map (λ i. regular_frame u (i + 1) (piece u.frame text i)) (range_with_len (k + 1) (m - (k + 1)))) more in
-    let len : length (piece u.frame text k) ≡ u.frame = length-full u text m k full h in
+    let left : drop (k * (frame_length + beside_content)) (regular_frames frame_length u text m ++ more) ≡ regular_frame u (k + 1) (piece frame_length text k) ++ rest =
+    regular_left frame_length u text m k more full (omega arith)
+    ∙ ap (λ (n : ℕ). flat_map (λ i. regular_frame u (i + 1) (piece frame_length text i)) (range_with_len k n) ++ more) one
+    ∙ ap (λ (l : List ℕ). l ++ more) (flat_map-cons (λ i. regular_frame u (i + 1) (piece frame_length text i)) k (range_with_len (k + 1) (m - (k + 1))))
+    ∙ append_assoc (regular_frame u (k + 1) (piece frame_length text k)) (flat_map (λ i. regular_frame u (i + 1) (piece frame_length text i)) (range_with_len (k + 1) (m - (k + 1)))) more in
+    let len : length (piece frame_length text k) ≡ frame_length = length-full frame_length text m k full h in
     let few : m < final_mark = full.few in
     record {
-      next = record { at = begin + (length (piece u.frame text k) + 32); left = rest };
-      is = ap (λ (l : List ℕ). frame u k (record { at = begin; left = l })) left ∙ regular_frame_again u k (piece u.frame text k) rest begin (omega arith) len;
+      next = record { at = begin + (length (piece frame_length text k) + 32); left = rest };
+      is = ap (λ (l : List ℕ). frame frame_length u k (record { at = begin; left = l })) left ∙ regular_frame_again frame_length u k (piece frame_length text k) rest begin (omega arith) len;
       end_is = omega arith;
     }
 
 -- and the one behind them has what stands there
-pub behind_slot : (u : Under) (text : List ℕ) (m : ℕ) (more : List ℕ) (at : ℕ) → AreFull u text m
-    → slot (u.frame + beside_content) (frame u) (behind_frames u text m more at) m ≡ frame u m (record { at = at + m * (u.frame + beside_content); left = more })
-behind_slot u text m more at full =
+pub behind_slot : (frame_length : ℕ) (u : Under) (text : List ℕ) (m : ℕ) (more : List ℕ) (at : ℕ) → AreFull frame_length text m
+    → slot (frame_length + beside_content) (frame frame_length u) (behind_frames frame_length u text m more at) m ≡ frame frame_length u m (record { at = at + m * (frame_length + beside_content); left = more })
+behind_slot frame_length u text m more at full =
     let none : m - m ≡ 0 = omega arith in
-    ap (λ (l : List ℕ). frame u m (record { at = at + m * (u.frame + beside_content); left = l }))
-    (regular_left u text m m more full (omega arith) ∙ ap (λ (n : ℕ). flat_map (λ i. regular_frame u (i + 1) (piece u.frame text i)) (range_with_len m n) ++ more) none)
+    ap (λ (l : List ℕ). frame frame_length u m (record { at = at + m * (frame_length + beside_content); left = l }))
+    (regular_left frame_length u text m m more full (omega arith) ∙ ap (λ (n : ℕ). flat_map (λ i. regular_frame u (i + 1) (piece frame_length text i)) (range_with_len m n) ++ more) none)
 
 -- ---- their judgement
 
-pub regular_is_more : (u : Under) (text : List ℕ) (m k : ℕ) (more : List ℕ) (at : ℕ) → AreFull u text m → k < m → is_more (slot (u.frame + beside_content) (frame u) (behind_frames u text m more at) k) ≡ true
-regular_is_more u text m k more at full h = ap is_more (regular_slot u text m k more at full h).is
+pub regular_is_more : (frame_length : ℕ) (u : Under) (text : List ℕ) (m k : ℕ) (more : List ℕ) (at : ℕ) → AreFull frame_length text m → k < m → is_more (slot (frame_length + beside_content) (frame frame_length u) (behind_frames frame_length u text m more at) k) ≡ true
+regular_is_more frame_length u text m k more at full h = ap is_more (regular_slot frame_length u text m k more at full h).is
 
-pub pieces_released : (u : Under) (text : List ℕ) (m n : ℕ) (more : List ℕ) (at : ℕ) → AreFull u text m → n ≤ m
-    → flat_map (λ k. released (slot (u.frame + beside_content) (frame u) (behind_frames u text m more at) k)) (range_with_len 0 n) ≡ pieces u.frame text n
-pieces_released u text m n more at full h =
-    flat_map_same (λ k. released (slot (u.frame + beside_content) (frame u) (behind_frames u text m more at) k)) (λ k. piece u.frame text k ∷ []) 0 n
-    (λ k low high. ap released (regular_slot u text m k more at full (omega arith)).is)
-    ∙ flat_map_single (piece u.frame text) (range_with_len 0 n)
+pub pieces_released : (frame_length : ℕ) (u : Under) (text : List ℕ) (m n : ℕ) (more : List ℕ) (at : ℕ) → AreFull frame_length text m → n ≤ m
+    → flat_map (λ k. released (slot (frame_length + beside_content) (frame frame_length u) (behind_frames frame_length u text m more at) k)) (range_with_len 0 n) ≡ pieces frame_length text n
+pieces_released frame_length u text m n more at full h =
+    flat_map_same (λ k. released (slot (frame_length + beside_content) (frame frame_length u) (behind_frames frame_length u text m more at) k)) (λ k. piece frame_length text k ∷ []) 0 n
+    (λ k low high. ap released (regular_slot frame_length u text m k more at full (omega arith)).is)
+    ∙ flat_map_single (piece frame_length text) (range_with_len 0 n)
 
 -- Regular frames are handed out, and then comes what is said behind them.
-pub record JudgedBehind (u : Under) (text : List ℕ) (m : ℕ) (r : Reading Piece) (j : JudgedBody) : Type 0 where
-  pub units : j.units ≡ pieces u.frame text m ++ released r
+pub record JudgedBehind (frame_length : ℕ) (text : List ℕ) (m : ℕ) (r : Reading Piece) (j : JudgedBody) : Type 0 where
+  pub units : j.units ≡ pieces frame_length text m ++ released r
   pub verdict : j.verdict ≡ verdict_of r
 
-pub judged_behind : (u : Under) (text : List ℕ) (m : ℕ) (more : List ℕ) (at : ℕ) → IsRow (u.frame + beside_content) (frame u) → AreFull u text m
-    → is_more (frame u m (record { at = at + m * (u.frame + beside_content); left = more })) ≡ false
-    → JudgedBehind u text m (frame u m (record { at = at + m * (u.frame + beside_content); left = more })) (judged_units (u.frame + beside_content) (frame u) (behind_frames u text m more at))
-judged_behind u text m more at row full other =
-    let width : ℕ = u.frame + beside_content in
-    let p : Place = behind_frames u text m more at in
-    let here = behind_slot u text m more at full in
-    let first : first_other width (frame u) p ≡ m = first_is width (frame u) p m row (λ k h. regular_is_more u text m k more at full h) (ap is_more here ∙ other) in
+pub judged_behind : (frame_length : ℕ) (u : Under) (text : List ℕ) (m : ℕ) (more : List ℕ) (at : ℕ) → IsRow (frame_length + beside_content) (frame frame_length u) → AreFull frame_length text m
+    → is_more (frame frame_length u m (record { at = at + m * (frame_length + beside_content); left = more })) ≡ false
+    → JudgedBehind frame_length text m (frame frame_length u m (record { at = at + m * (frame_length + beside_content); left = more })) (judged_units (frame_length + beside_content) (frame frame_length u) (behind_frames frame_length u text m more at))
+judged_behind frame_length u text m more at row full other =
+    let width : ℕ = frame_length + beside_content in
+    let p : Place = behind_frames frame_length u text m more at in
+    let here = behind_slot frame_length u text m more at full in
+    let first : first_other width (frame frame_length u) p ≡ m = first_is width (frame frame_length u) p m row (λ k h. regular_is_more frame_length u text m k more at full h) (ap is_more here ∙ other) in
     record {
-      units = units_are width (frame u) p
-          ∙ ap (λ (k : ℕ). flat_map (λ k. released (slot width (frame u) p k)) (range_with_len 0 k) ++ released (slot width (frame u) p k)) first
-          ∙ ap (λ (l : List (List ℕ)). l ++ released (slot width (frame u) p m)) (pieces_released u text m m more at full (omega arith))
-          ∙ ap (λ (r : Reading Piece). pieces u.frame text m ++ released r) here;
-      verdict = verdict_is width (frame u) p ∙ ap (λ (k : ℕ). verdict_of (slot width (frame u) p k)) first ∙ ap verdict_of here;
+      units = units_are width (frame frame_length u) p
+          ∙ ap (λ (k : ℕ). flat_map (λ k. released (slot width (frame frame_length u) p k)) (range_with_len 0 k) ++ released (slot width (frame frame_length u) p k)) first
+          ∙ ap (λ (l : List (List ℕ)). l ++ released (slot width (frame frame_length u) p m)) (pieces_released frame_length u text m m more at full (omega arith))
+          ∙ ap (λ (r : Reading Piece). pieces frame_length text m ++ released r) here;
+      verdict = verdict_is width (frame frame_length u) p ∙ ap (λ (k : ℕ). verdict_of (slot width (frame frame_length u) p k)) first ∙ ap verdict_of here;
     }

@@ -11,9 +11,9 @@ use Rattle.body_format.specs.Rows.{JudgedBody, judged_units}
 abbrev pub beside_content : ℕ
 beside_content = 32
 
--- Frames: regular ones of one width, and a final one.
-unfoldable pub judged_frames : Under → Place → JudgedBody
-judged_frames u p = judged_units (u.frame + beside_content) (frame u) p
+-- Frames of this length: regular ones of one width, and a final one.
+unfoldable pub judged_frames : ℕ → Under → Place → JudgedBody
+judged_frames frame_length u p = judged_units (frame_length + beside_content) (frame frame_length u) p
 
 -- The single block, and nothing behind it.
 unfoldable pub judged_block : Option ℕ → List ℕ → List ℕ → Place → JudgedBody
@@ -22,4 +22,4 @@ judged_block max_unit key id p = judged_units 1 (λ k. block max_unit key id) p
 -- The body that begins at this place, under a derived key and a message id. `max_unit` limits a single block alone.
 unfoldable pub judged_body : Content → Option ℕ → List ℕ → List ℕ → Place → JudgedBody
 judged_body Single max_unit key id p = judged_block max_unit key id p
-judged_body (Framed n) max_unit key id p = judged_frames (record { key = key; id = id; frame = n }) p
+judged_body (Framed frame_length) max_unit key id p = judged_frames frame_length (record { key = key; id = id }) p

@@ -18,18 +18,18 @@ use Rattle.body_format.specs.Written.{frame_count, pieces, regular_frames, frame
 
 -- Frames are judged as the table says: where units are good, and the verdicts line by line. The offset where the body begins doesn't matter.
 abbrev pub JudgesFramesByTheTable : Type 0
-JudgesFramesByTheTable = (u : Under) (p : Place) → judged_frames u p ≡ tabled_frames u p.left
+JudgesFramesByTheTable = (frame_length : ℕ) (u : Under) (p : Place) → judged_frames frame_length u p ≡ tabled_frames frame_length u p.left
 
 abbrev pub JudgesBlocksByTheTable : Type 0
 JudgesBlocksByTheTable = (max_unit : Option ℕ) (key id : List ℕ) (p : Place) → judged_block max_unit key id p ≡ tabled_block max_unit key id p.left
 
 -- Each slot before this one is a good regular slot, and this one isn't.
-pub record IsFirst (u : Under) (body : List ℕ) (n : ℕ) : Type 0 where
-  pub before : (k : ℕ) → k < n → (text : List ℕ) × (good_regular u k (slot_bytes u body k) ≡ Some text)
-  pub here : good_regular u n (slot_bytes u body n) ≡ None
+pub record IsFirst (frame_length : ℕ) (u : Under) (body : List ℕ) (n : ℕ) : Type 0 where
+  pub before : (k : ℕ) → k < n → (text : List ℕ) × (good_regular frame_length u k (slot_bytes frame_length body k) ≡ Some text)
+  pub here : good_regular frame_length u n (slot_bytes frame_length body n) ≡ None
 
 abbrev pub FindsTheFirst : Type 0
-FindsTheFirst = (u : Under) (body : List ℕ) → IsFirst u body (first_not_regular u body)
+FindsTheFirst = (frame_length : ℕ) (u : Under) (body : List ℕ) → IsFirst frame_length u body (first_not_regular frame_length u body)
 
 -- ---- fronts
 
@@ -57,8 +57,9 @@ FrontsAreGoing = (content : Content) (max_unit : Option ℕ) (key id : List ℕ)
 
 -- A text in frames is whole, and its units are the pieces of the text, whatever the limit.
 abbrev pub FramedBodiesAreWhole : Type 0
-FramedBodiesAreWhole = (u : Under) (text : List ℕ) (max_unit : Option ℕ) (at : ℕ) → IsFramed u text
-    → judged_body (Framed u.frame) max_unit u.key u.id (record { at = at; left = framed_body u text }) ≡ record { units = pieces u.frame text (frame_count (length text) u.frame); verdict = Whole }
+FramedBodiesAreWhole = (frame_length : ℕ) (u : Under) (text : List ℕ) (max_unit : Option ℕ) (at : ℕ) → IsFramed frame_length text
+    → judged_body (Framed frame_length) max_unit u.key u.id (record { at = at; left = framed_body frame_length u text })
+    ≡ record { units = pieces frame_length text (frame_count (length text) frame_length); verdict = Whole }
 
 -- Joined, the pieces are the text.
 abbrev pub PiecesAreTheText : Type 0
@@ -71,21 +72,25 @@ BlocksAreWhole = (max_unit : Option ℕ) (key id iv text : List ℕ) (at : ℕ) 
 
 -- How long a text in frames is.
 abbrev pub HasFramedSize : Type 0
-HasFramedSize = (u : Under) (text : List ℕ) → IsFramed u text → length (framed_body u text) ≡ length text + frame_count (length text) u.frame * beside_content + 8
+HasFramedSize = (frame_length : ℕ) (u : Under) (text : List ℕ) → IsFramed frame_length text
+    → length (framed_body frame_length u text) ≡ length text + frame_count (length text) frame_length * beside_content + 8
 
--- Of a body that begins at one offset the bytes before another have come. So many frames are whole, and one more isn't.
-pub record Releases (u : Under) (size at n count : ℕ) : Type 0 where
-  pub few : count + 1 ≤ frame_count size u.frame
-  pub come : at + count * (u.frame + beside_content) ≤ n
-  pub no_more : (count + 1 ≡ frame_count size u.frame) ⊎ (n < at + (count + 1) * (u.frame + beside_content))
+-- Of a body that begins at one offset, in frames of this length, the bytes before another have come. So many frames are whole, and one more isn't.
+pub record Releases (frame_length size at n count : ℕ) : Type 0 where
+  pub few : count + 1 ≤ frame_count size frame_length
+  pub come : at + count * (frame_length + beside_content) ≤ n
+  pub no_more : (count + 1 ≡ frame_count size frame_length) ⊎ (n < at + (count + 1) * (frame_length + beside_content))
 
 -- Of a front of a written body, exactly the whole frames that have come are handed out.
 abbrev pub FrontsReleaseFrames : Type 0
-FrontsReleaseFrames = (u : Under) (text : List ℕ) (max_unit : Option ℕ) (at n : ℕ) → IsFramed u text → at ≤ n → n < at + length (framed_body u text)
-    → (count : ℕ) × (Releases u (length text) at n count
-    × (judged_body (Framed u.frame) max_unit u.key u.id (cut n (record { at = at; left = framed_body u text })) ≡ record { units = pieces u.frame text count; verdict = Going }))
+FrontsReleaseFrames = (frame_length : ℕ) (u : Under) (text : List ℕ) (max_unit : Option ℕ) (at n : ℕ) → IsFramed frame_length text
+    → at ≤ n → n < at + length (framed_body frame_length u text)
+    → (count : ℕ) × (Releases frame_length (length text) at n count
+    × (judged_body (Framed frame_length) max_unit u.key u.id (cut n (record { at = at; left = framed_body frame_length u text }))
+    ≡ record { units = pieces frame_length text count; verdict = Going }))
 
 -- Full frames alone are handed out, and the body is going.
 abbrev pub ReleasesFullFrames : Type 0
-ReleasesFullFrames = (u : Under) (text : List ℕ) (m : ℕ) (max_unit : Option ℕ) (at : ℕ) → AreFull u text m
-    → judged_body (Framed u.frame) max_unit u.key u.id (record { at = at; left = regular_frames u text m }) ≡ record { units = pieces u.frame text m; verdict = Going }
+ReleasesFullFrames = (frame_length : ℕ) (u : Under) (text : List ℕ) (m : ℕ) (max_unit : Option ℕ) (at : ℕ) → AreFull frame_length text m
+    → judged_body (Framed frame_length) max_unit u.key u.id (record { at = at; left = regular_frames frame_length u text m })
+    ≡ record { units = pieces frame_length text m; verdict = Going }

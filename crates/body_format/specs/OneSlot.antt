@@ -26,10 +26,11 @@ last_in Wanting = None
 
 -- What is read of frame k is what the table says of the bytes: a good regular slot, a good final
 -- slot, and where it isn't a good regular one, the verdict.
-pub record IsTabled (u : Under) (k : ℕ) (bytes : List ℕ) (r : Reading Piece) : Type 0 where
-  pub regular : more_in r ≡ good_regular u k bytes
-  pub last : last_in r ≡ good_final u k bytes
-  pub verdict : is_more r ≡ false → verdict_of r ≡ framed_verdict u k bytes
+pub record IsTabled (frame_length : ℕ) (u : Under) (k : ℕ) (bytes : List ℕ) (r : Reading Piece)
+    : Type 0 where
+  pub regular : more_in r ≡ good_regular frame_length u k bytes
+  pub last : last_in r ≡ good_final frame_length u k bytes
+  pub verdict : is_more r ≡ false → verdict_of r ≡ framed_verdict frame_length u k bytes
 
 -- What is read of a block is what the table says of the bytes.
 pub record IsTabledBlock (max_unit : Option ℕ) (key id bytes : List ℕ) (r : Reading Piece)
@@ -41,12 +42,13 @@ pub record IsTabledBlock (max_unit : Option ℕ) (key id bytes : List ℕ) (r : 
 
 -- The frame at any place is read alone, by the bytes from there on, as the table says of frame k;
 -- and so is slot k of a body, wherever that begins and whatever stands in the slots before.
-pub record AreReadAlone (u : Under) (p : Place) (k : ℕ) : Type 0 where
-  pub frame_is : IsTabled u k p.left (frame u k p)
-  pub slot_is : IsTabled u k (slot_bytes u p.left k) (slot (u.frame + beside_content) (frame u) p k)
+pub record AreReadAlone (frame_length : ℕ) (u : Under) (p : Place) (k : ℕ) : Type 0 where
+  pub frame_is : IsTabled frame_length u k p.left (frame frame_length u k p)
+  pub slot_is : IsTabled frame_length u k (slot_bytes frame_length p.left k)
+      (slot (frame_length + beside_content) (frame frame_length u) p k)
 
 abbrev pub ReadsSlotsAlone : Type 0
-ReadsSlotsAlone = (u : Under) (p : Place) (k : ℕ) → AreReadAlone u p k
+ReadsSlotsAlone = (frame_length : ℕ) (u : Under) (p : Place) (k : ℕ) → AreReadAlone frame_length u p k
 
 abbrev pub ReadsBlocksAlone : Type 0
 ReadsBlocksAlone = (max_unit : Option ℕ) (key id : List ℕ) (p : Place)
@@ -55,15 +57,15 @@ ReadsBlocksAlone = (max_unit : Option ℕ) (key id : List ℕ) (p : Place)
 -- Where the slots before it are good regular ones, and it isn't one, a slot decides of the whole
 -- body.
 abbrev pub DecidesForAll : Type 0
-DecidesForAll = (u : Under) (p : Place) (n : ℕ) → IsFirst u p.left n
-    → judged_frames u p ≡ decided_at u p.left n
+DecidesForAll = (frame_length : ℕ) (u : Under) (p : Place) (n : ℕ)
+    → IsFirst frame_length u p.left n → judged_frames frame_length u p ≡ decided_at frame_length u p.left n
 
 -- The content of a good regular slot has the frame length, so byte i of the content of slot k is
--- byte k * frame + i of the body's; that of a good final slot has at most so many bytes.
+-- byte k * frame_length + i of the body's; that of a good final slot has at most so many bytes.
 abbrev pub FillsRegularSlots : Type 0
-FillsRegularSlots = (u : Under) (k : ℕ) (bytes text : List ℕ)
-    → good_regular u k bytes ≡ Some text → length text ≡ u.frame
+FillsRegularSlots = (frame_length : ℕ) (u : Under) (k : ℕ) (bytes text : List ℕ)
+    → good_regular frame_length u k bytes ≡ Some text → length text ≡ frame_length
 
 abbrev pub KeepsFinalSlotsShort : Type 0
-KeepsFinalSlotsShort = (u : Under) (k : ℕ) (bytes text : List ℕ)
-    → good_final u k bytes ≡ Some text → length text ≤ u.frame
+KeepsFinalSlotsShort = (frame_length : ℕ) (u : Under) (k : ℕ) (bytes text : List ℕ)
+    → good_final frame_length u k bytes ≡ Some text → length text ≤ frame_length

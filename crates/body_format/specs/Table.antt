@@ -28,55 +28,56 @@ listed None = []
 
 -- ---- frames
 
--- the bytes from slot k on
-abbrev pub slot_bytes : Under → List ℕ → ℕ → List ℕ
-slot_bytes u body k = drop (k * (u.frame + beside_content)) body
+-- the bytes from slot k on, where frames have this length
+abbrev pub slot_bytes : ℕ → List ℕ → ℕ → List ℕ
+slot_bytes frame_length body k = drop (k * (frame_length + beside_content)) body
 
 -- The content of slot k, where that is a good regular slot: all its bytes are there, its first four bytes are k + 1 and not FF FF FF FF, and its content opens.
-unfoldable pub good_regular : Under → ℕ → List ℕ → Option (List ℕ)
-good_regular u k bytes =
-    if not (nat_lt (length bytes) (u.frame + beside_content)) && not (is_final bytes) && number_at 0 bytes == k + 1
-    then opened u.key (part 4 12 bytes) (unit_aad u.id kinds.Regular (k + 1) u.frame) (part 16 u.frame bytes) (part (16 + u.frame) 16 bytes)
+unfoldable pub good_regular : ℕ → Under → ℕ → List ℕ → Option (List ℕ)
+good_regular frame_length u k bytes =
+    if not (nat_lt (length bytes) (frame_length + beside_content)) && not (is_final bytes) && number_at 0 bytes == k + 1
+    then opened u.key (part 4 12 bytes) (unit_aad u.id kinds.Regular (k + 1) frame_length) (part 16 frame_length bytes) (part (16 + frame_length) 16 bytes)
     else None
 
 -- The content of slot k, where that is a good final slot: it begins with FF FF FF FF and k + 1, its content length is at most the frame length,
 -- all its bytes are there, and its content opens.
-unfoldable pub good_final : Under → ℕ → List ℕ → Option (List ℕ)
-good_final u k bytes =
-    if not (nat_lt (length bytes) 24) && is_final bytes && number_at 4 bytes == k + 1 && not (nat_lt u.frame (number_at 20 bytes)) && not (nat_lt (length bytes) (number_at 20 bytes + 40))
+unfoldable pub good_final : ℕ → Under → ℕ → List ℕ → Option (List ℕ)
+good_final frame_length u k bytes =
+    if not (nat_lt (length bytes) 24) && is_final bytes && number_at 4 bytes == k + 1 && not (nat_lt frame_length (number_at 20 bytes)) && not (nat_lt (length bytes) (number_at 20 bytes + 40))
     then opened u.key (part 8 12 bytes) (unit_aad u.id kinds.Final (k + 1) (number_at 20 bytes)) (part 24 (number_at 20 bytes) bytes) (part (24 + number_at 20 bytes) 16 bytes)
     else None
 
 -- What is said at slot k, which isn't a good regular slot, of the bytes from there on: the first line that applies.
-unfoldable pub framed_verdict : Under → ℕ → List ℕ → Verdict
-framed_verdict u k bytes =
+unfoldable pub framed_verdict : ℕ → Under → ℕ → List ℕ → Verdict
+framed_verdict frame_length u k bytes =
     if nat_lt (length bytes) 4 then Going
     else if not (is_final bytes) && not (number_at 0 bytes == k + 1) then Faulty (WrongSequence (k + 1) (number_at 0 bytes))
-    else if not (is_final bytes) && nat_lt (length bytes) (u.frame + beside_content) then Going
+    else if not (is_final bytes) && nat_lt (length bytes) (frame_length + beside_content) then Going
     else if not (is_final bytes) then Faulty (UnitTag (k + 1))
     else if nat_lt (length bytes) 8 then Going
     else if not (number_at 4 bytes == k + 1) then Faulty (WrongSequence (k + 1) (number_at 4 bytes))
     else if nat_lt (length bytes) 24 then Going
-    else if nat_lt u.frame (number_at 20 bytes) then Faulty (FinalTooLong (number_at 20 bytes))
+    else if nat_lt frame_length (number_at 20 bytes) then Faulty (FinalTooLong (number_at 20 bytes))
     else if nat_lt (length bytes) (number_at 20 bytes + 40) then Going
-    else if not (is_some (good_final u k bytes)) then Faulty (UnitTag (k + 1))
+    else if not (is_some (good_final frame_length u k bytes)) then Faulty (UnitTag (k + 1))
     else if length bytes == number_at 20 bytes + 40 then Whole
     else Faulty TrailingBytes
 
 -- the least k for which slot k isn't a good regular slot
-unfoldable pub first_not_regular : Under → List ℕ → ℕ
-first_not_regular u body = prefix_len (λ k. is_some (good_regular u k (slot_bytes u body k))) (range_with_len 0 (length body))
+unfoldable pub first_not_regular : ℕ → Under → List ℕ → ℕ
+first_not_regular frame_length u body = prefix_len (λ k. is_some (good_regular frame_length u k (slot_bytes frame_length body k))) (range_with_len 0 (length body))
 
 -- what is said of the body where slot k decides: the contents of the slots before it, and that of slot k where it is a good final slot; and the table's verdict
-abbrev pub decided_at : Under → List ℕ → ℕ → JudgedBody
-decided_at u body k = record {
-  units = flat_map (λ i. listed (good_regular u i (slot_bytes u body i))) (range_with_len 0 k) ++ listed (good_final u k (slot_bytes u body k));
-  verdict = framed_verdict u k (slot_bytes u body k);
+abbrev pub decided_at : ℕ → Under → List ℕ → ℕ → JudgedBody
+decided_at frame_length u body k = record {
+  units = flat_map (λ i. listed (good_regular frame_length u i (slot_bytes frame_length body i))) (range_with_len 0 k)
+      ++ listed (good_final frame_length u k (slot_bytes frame_length body k));
+  verdict = framed_verdict frame_length u k (slot_bytes frame_length body k);
 }
 
 -- The first slot that isn't a good regular slot decides.
-unfoldable pub tabled_frames : Under → List ℕ → JudgedBody
-tabled_frames u body = decided_at u body (first_not_regular u body)
+unfoldable pub tabled_frames : ℕ → Under → List ℕ → JudgedBody
+tabled_frames frame_length u body = decided_at frame_length u body (first_not_regular frame_length u body)
 
 -- ---- the single block
 

@@ -17,23 +17,23 @@ piece frame text i = take frame (drop (i * frame) text)
 abbrev pub pieces : ℕ → List ℕ → ℕ → List (List ℕ)
 pieces frame text m = map (piece frame text) (range_with_len 0 m)
 
--- the first m regular frames of a text; their numbers start at 1
-unfoldable pub regular_frames : Under → List ℕ → ℕ → List ℕ
-regular_frames u text m = flat_map (λ i. regular_frame u (i + 1) (piece u.frame text i)) (range_with_len 0 m)
+-- the first m regular frames of a text in frames of this length; their numbers start at 1
+unfoldable pub regular_frames : ℕ → Under → List ℕ → ℕ → List ℕ
+regular_frames frame_length u text m = flat_map (λ i. regular_frame u (i + 1) (piece frame_length text i)) (range_with_len 0 m)
 
--- all frames but the last are regular; the final frame has the rest
-unfoldable pub framed_body : Under → List ℕ → List ℕ
-framed_body u text =
-    let count = frame_count (length text) u.frame in
-    regular_frames u text (count - 1) ++ final_frame u count (drop ((count - 1) * u.frame) text)
+-- a text in frames of this length: all but the last are regular; the final frame has the rest
+unfoldable pub framed_body : ℕ → Under → List ℕ → List ℕ
+framed_body frame_length u text =
+    let count = frame_count (length text) frame_length in
+    regular_frames frame_length u text (count - 1) ++ final_frame u count (drop ((count - 1) * frame_length) text)
 
--- A text that can be written in frames: a frame has at least one byte and at most 2^32 - 1, and there are at most 2^32 - 1 frames.
-pub record IsFramed (u : Under) (text : List ℕ) : Type 0 where
-  pub some : 1 ≤ u.frame
-  pub narrow : u.frame < 2 ^ 32
-  pub few : length text ≤ (2 ^ 32 - 1) * u.frame
+-- A text that can be written in frames of this length: a frame has at least one byte and at most 2^32 - 1, and there are at most 2^32 - 1 frames.
+pub record IsFramed (frame_length : ℕ) (text : List ℕ) : Type 0 where
+  pub some : 1 ≤ frame_length
+  pub narrow : frame_length < 2 ^ 32
+  pub few : length text ≤ (2 ^ 32 - 1) * frame_length
 
--- So many full frames can be made of the text, and numbered.
-pub record AreFull (u : Under) (text : List ℕ) (m : ℕ) : Type 0 where
-  pub full : m * u.frame ≤ length text
+-- So many full frames of this length can be made of the text, and numbered.
+pub record AreFull (frame_length : ℕ) (text : List ℕ) (m : ℕ) : Type 0 where
+  pub full : m * frame_length ≤ length text
   pub few : m < final_mark

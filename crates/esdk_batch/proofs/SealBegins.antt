@@ -150,7 +150,7 @@ fails_so manager asked seen random m served begun drawn serves left =
           count = min front.0 (length first);
           front = front.1
               ∙ ap (λ (l : List ℕ). Some l)
-              (begins_front front.0 first (framed_body (under_of (sealing_of asked random m)) text) (message_of m asked.frame (id_in random) text) (message_is (sealing_of asked random m) text)
+              (begins_front front.0 first (framed_body asked.frame (under_of (sealing_of asked random m)) text) (message_of m asked.frame (id_in random) text) (message_is (sealing_of asked random m) text)
               ∙ ap (λ (d : List ℕ). take (min front.0 (length first)) (message_of m asked.frame (drawn_id d) text)) (sym drawn));
         })
       ];

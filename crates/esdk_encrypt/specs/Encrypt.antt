@@ -43,7 +43,7 @@ pub record Drew (wraps : ℕ) (old new : EntropyState) (drawn : List ℕ) : Type
 
 -- the header with its tag, and so many regular frames
 abbrev pub header_and_frames : EncMaterialsValue → ℕ → List ℕ → List ℕ → ℕ → List ℕ
-header_and_frames m size id text frames = start_of m size id ++ regular_frames (under size m.key id) text frames
+header_and_frames m size id text frames = start_of m size id ++ regular_frames size (under m.key id) text frames
 
 -- what is written of a text while the input goes on: all of its message but the last frame. So m regular frames are, m being the least number for which (m + 1) * size bytes
 -- are enough for the text.

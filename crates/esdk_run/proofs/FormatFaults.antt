@@ -1,6 +1,6 @@
 -- Which faults a message has by its bytes, whatever follows them: neither M10, which their end alone
 -- gives, nor M27.
-use Rattle.std.proofs.Common.{◌≡◌, ◌∙◌, ℕ, zero, suc, ◌+◌, ◌*◌, Bool, true, false, not, List, [], ◌∷◌, length, Option, Some, None, replicate, refl, sym, ap, subst, cond}
+use Rattle.std.proofs.Common.{◌≡◌, ℕ, zero, suc, ◌+◌, ◌*◌, Bool, true, false, not, List, [], ◌∷◌, length, Option, Some, None, replicate, refl, subst, cond}
 use Rattle.std.specs.Prelude.{◌==◌, nat_lt, option_map, if◌then◌else◌}
 use Rattle.std.specs.Int.{Width, byte_len, w8, w16, w32, w64}
 use Rattle.std.specs.Str.{bytes_eq}
@@ -35,7 +35,7 @@ use Rattle.keyring_trait.specs.Wrapping.{WrapKeyValue}
 use Rattle.body_format.specs.declared.verdicts.Verdict.{Verdict}
 use Rattle.body_format.specs.declared.verdicts.Verdict.TheVariants.{Going, Whole, Faulty}
 use Rattle.body_format.specs.Body.{beside_content, judged_block, judged_body, judged_frames}
-use Rattle.body_format.specs.Rows.{behind_last, first_other, judged_units, slot, verdict_of}
+use Rattle.body_format.specs.Rows.{first_other, judged_units, slot, verdict_of}
 use Rattle.message_format.specs.Judgement.{commits, header_of, judged, judged_header, judged_lock, judged_reading, lock_fault}
 use Rattle.message_format.specs.Message.{header_tag}
 use Rattle.stream_open.specs.Asking.{request_of}
@@ -258,9 +258,9 @@ unfolding unit
 names_unit content max_unit key id want =
     names_bind (unit_head content want max_unit) (after_head key id) (names_unit_head content want max_unit) (λ head. names_after_head key id head)
 
-names_frame : (u : Under) (k : ℕ) → Names (frame u k)
+names_frame : (frame_length : ℕ) (u : Under) (k : ℕ) → Names (frame frame_length u k)
 unfolding frame
-names_frame u k = names_unit (contents.Framed u.frame) None u.key u.id (k + 1)
+names_frame frame_length u k = names_unit (contents.Framed frame_length) None u.key u.id (k + 1)
 
 names_block : (max_unit : Option ℕ) (key id : List ℕ) → Names (block max_unit key id)
 unfolding block
@@ -293,7 +293,7 @@ body_format : (content : Content) (max_unit : Option ℕ) (key id : List ℕ) (p
 unfolding judged_body judged_frames judged_block
 body_format contents.Single max_unit key id p = units_format 1 (λ k. block max_unit key id) p (λ k. names_block max_unit key id)
 body_format (contents.Framed n) max_unit key id p =
-    let u : Under = record { key = key; id = id; frame = n } in units_format (u.frame + beside_content) (frame u) p (names_frame u)
+    let u : Under = record { key = key; id = id } in units_format (n + beside_content) (frame n u) p (names_frame n u)
 
 -- ---- messages
 

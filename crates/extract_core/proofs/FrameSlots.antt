@@ -116,56 +116,56 @@ slots_extract n g b m range is some count slots order sound =
 
 -- ---- a body of frames
 
-full_content : (u : Under) (k : ℕ) (bytes text : List ℕ) (r : Reading Piece) → IsTabled u k bytes r → good_regular u k bytes ≡ Some text
-    → (is_more r ≡ true) × ((length (unit_content r) ≡ u.frame) × (unit_fault r ≡ None))
-full_content u k bytes text r t e =
+full_content : (n : ℕ) (u : Under) (k : ℕ) (bytes text : List ℕ) (r : Reading Piece) → IsTabled n u k bytes r → good_regular n u k bytes ≡ Some text
+    → (is_more r ≡ true) × ((length (unit_content r) ≡ n) × (unit_fault r ≡ None))
+full_content n u k bytes text r t e =
     let c = more_content r text (t.regular ∙ e) in
-    (c.0, (ap length c.1.0 ∙ regular_full u k bytes text e, c.1.1))
+    (c.0, (ap length c.1.0 ∙ regular_full n u k bytes text e, c.1.1))
 
 -- what the slot has that isn't a good regular one
-record IsOther (u : Under) (bytes : List ℕ) (m : ℕ) (r : Reading Piece) : Type 0 where
+record IsOther (n : ℕ) (u : Under) (bytes : List ℕ) (m : ℕ) (r : Reading Piece) : Type 0 where
   pub other : is_more r ≡ false
-  pub joined : concat (listed (good_final u m (slot_bytes u bytes m))) ≡ unit_content r
-  pub short : length (unit_content r) ≤ u.frame
-  pub sound : 1 ≤ length (listed (good_final u m (slot_bytes u bytes m))) → unit_fault r ≡ None
+  pub joined : concat (listed (good_final n u m (slot_bytes n bytes m))) ≡ unit_content r
+  pub short : length (unit_content r) ≤ n
+  pub sound : 1 ≤ length (listed (good_final n u m (slot_bytes n bytes m))) → unit_fault r ≡ None
 
-other_none : (u : Under) (bytes : List ℕ) (m : ℕ) (r : Reading Piece) → good_final u m (slot_bytes u bytes m) ≡ None → is_more r ≡ false → unit_content r ≡ [] → IsOther u bytes m r
-other_none u bytes m r none other empty = record {
+other_none : (n : ℕ) (u : Under) (bytes : List ℕ) (m : ℕ) (r : Reading Piece) → good_final n u m (slot_bytes n bytes m) ≡ None → is_more r ≡ false → unit_content r ≡ [] → IsOther n u bytes m r
+other_none n u bytes m r none other empty = record {
   other = other;
   joined = ap (λ (o : Option (List ℕ)). concat (listed o)) none ∙ sym empty;
   short = omega (arith, ap length empty);
   sound = λ h. absurd (omega (arith, h, ap (λ (o : Option (List ℕ)). length (listed o)) none));
 }
 
-other_some : (u : Under) (bytes text : List ℕ) (m : ℕ) (r : Reading Piece) → good_final u m (slot_bytes u bytes m) ≡ Some text → IsTabled u m (slot_bytes u bytes m) r → IsOther u bytes m r
-other_some u bytes text m r good t =
+other_some : (n : ℕ) (u : Under) (bytes text : List ℕ) (m : ℕ) (r : Reading Piece) → good_final n u m (slot_bytes n bytes m) ≡ Some text → IsTabled n u m (slot_bytes n bytes m) r → IsOther n u bytes m r
+other_some n u bytes text m r good t =
     let c = last_content r text (t.last ∙ good) in
     record {
       other = c.0;
       joined = ap (λ (o : Option (List ℕ)). concat (listed o)) good ∙ append-nil text ∙ sym c.1.0;
-      short = omega (arith, ap length c.1.0, final_short u m (slot_bytes u bytes m) text good);
+      short = omega (arith, ap length c.1.0, final_short n u m (slot_bytes n bytes m) text good);
       sound = λ h. c.1.1;
     }
 
-other_is : (n : ℕ) (max_unit : Option ℕ) (key id bytes : List ℕ) (m : ℕ) → AreBytes bytes → good_regular (under n key id) m (slot_bytes (under n key id) bytes m) ≡ None
-    → IsOther (under n key id) bytes m (slot_read (open_frames n max_unit key id bytes) m)
+other_is : (n : ℕ) (max_unit : Option ℕ) (key id bytes : List ℕ) (m : ℕ) → AreBytes bytes → good_regular n (under key id) m (slot_bytes n bytes m) ≡ None
+    → IsOther n (under key id) bytes m (slot_read (open_frames n max_unit key id bytes) m)
 other_is n max_unit key id bytes m fits here =
-    let u : Under = under n key id in
+    let u : Under = under key id in
     let b : OpenBody = open_frames n max_unit key id bytes in
-    let there : List ℕ = slot_bytes u bytes m in
+    let there : List ℕ = slot_bytes n bytes m in
     let r : Reading Piece = slot_read b m in
-    elim (none_or_some (good_final u m there)) [
+    elim (none_or_some (good_final n u m there)) [
       | inl none ↦ elim (cases_lt last_slot m) [
         | inl behind ↦
             (let e : r ≡ Wanting = slot_behind b m behind in
-            other_none u bytes m r none (ap is_more e) (ap unit_content e))
+            other_none n u bytes m r none (ap is_more e) (ap unit_content e))
         | inr within ↦
             (let t = slot_tabled n max_unit key id bytes m within in
             let c = no_content r (t.regular ∙ here) (t.last ∙ none) in
-            other_none u bytes m r none c.0 c.1)
+            other_none n u bytes m r none c.0 c.1)
       ]
       | inr some ↦
-          other_some u bytes some.0 m r some.1 (slot_tabled n max_unit key id bytes m (final_few u m there some.0 (AreBytes-drop (m * (n + 32)) bytes fits) some.1))
+          other_some n u bytes some.0 m r some.1 (slot_tabled n max_unit key id bytes m (final_few n u m there some.0 (AreBytes-drop (m * (n + 32)) bytes fits) some.1))
     ]
 
 -- the judgement of a body of frames, and its slots
@@ -192,31 +192,31 @@ whole_last (Read (Last content) next) e = (content, refl)
 whole_last (Refused fault at) e = absurd cc
 whole_last Wanting e = absurd cc
 
-final_there : (u : Under) (m : ℕ) (bytes : List ℕ) → good_regular u m bytes ≡ None → framed_verdict u m bytes ≡ Whole → (x : List ℕ) × (good_final u m bytes ≡ Some x)
-final_there u m bytes here e =
-    let t = frame_tabled u m 0 bytes in
-    let r : Reading Piece = frame u m (start bytes) in
+final_there : (n : ℕ) (u : Under) (m : ℕ) (bytes : List ℕ) → good_regular n u m bytes ≡ None → framed_verdict n u m bytes ≡ Whole → (x : List ℕ) × (good_final n u m bytes ≡ Some x)
+final_there n u m bytes here e =
+    let t = frame_tabled n u m 0 bytes in
+    let r : Reading Piece = frame n u m (start bytes) in
     let found = whole_last r (t.verdict (more_none r (t.regular ∙ here)) ∙ e) in
     (found.0, sym t.last ∙ found.1)
 
 pub frames_judged : (n : ℕ) (max_unit : Option ℕ) (key id : List ℕ) (p : Place) → AreBytes p.left
-    → FramesJudged n (open_frames n max_unit key id p.left) (judged_frames (under n key id) p)
+    → FramesJudged n (open_frames n max_unit key id p.left) (judged_frames n (under key id) p)
 frames_judged n max_unit key id p fits =
-    let u : Under = under n key id in
+    let u : Under = under key id in
     let b : OpenBody = open_frames n max_unit key id p.left in
-    let m : ℕ = first_not_regular u p.left in
-    let first : IsFirst u p.left m = first_found u p.left in
-    let is : judged_frames u p ≡ decided_at u p.left m = decides u p m first in
-    let there : List ℕ = slot_bytes u p.left m in
+    let m : ℕ = first_not_regular n u p.left in
+    let first : IsFirst n u p.left m = first_found n u p.left in
+    let is : judged_frames n u p ≡ decided_at n u p.left m = decides n u p m first in
+    let there : List ℕ = slot_bytes n p.left m in
     let verdict = ap (λ (j : JudgedBody). j.verdict) is in
     let g : ℕ → List ℕ = λ k. unit_content (slot_read b k) in
-    let f : ℕ → List (List ℕ) = λ i. listed (good_regular u i (slot_bytes u p.left i)) in
-    let final : List (List ℕ) = listed (good_final u m (slot_bytes u p.left m)) in
-    let o : IsOther u p.left m (slot_read b m) = other_is n max_unit key id p.left m fits first.here in
+    let f : ℕ → List (List ℕ) = λ i. listed (good_regular n u i (slot_bytes n p.left i)) in
+    let final : List (List ℕ) = listed (good_final n u m (slot_bytes n p.left m)) in
+    let o : IsOther n u p.left m (slot_read b m) = other_is n max_unit key id p.left m fits first.here in
     let number : (k : ℕ) → k < m → k ≤ last_slot =
-    (λ k h. omega (arith, regular_few u k (slot_bytes u p.left k) (first.before k h).0 (AreBytes-drop (k * (n + 32)) p.left fits) (first.before k h).1)) in
+    (λ k h. omega (arith, regular_few n u k (slot_bytes n p.left k) (first.before k h).0 (AreBytes-drop (k * (n + 32)) p.left fits) (first.before k h).1)) in
     let full : (k : ℕ) → k < m → (is_more (slot_read b k) ≡ true) × ((length (g k) ≡ n) × (unit_fault (slot_read b k) ≡ None)) =
-    (λ k h. full_content u k (slot_bytes u p.left k) (first.before k h).0 (slot_read b k) (slot_tabled n max_unit key id p.left k (number k h)) (first.before k h).1) in
+    (λ k h. full_content n u k (slot_bytes n p.left k) (first.before k h).0 (slot_read b k) (slot_tabled n max_unit key id p.left k (number k h)) (first.before k h).1) in
     let each : (k : ℕ) → 0 ≤ k → k < 0 + m → concat (f k) ≡ g k =
     (λ k low h.
     let text : List ℕ = (first.before k (omega (arith, h))).0 in
@@ -225,7 +225,7 @@ frames_judged n max_unit key id p fits =
     ∙ sym (more_content (slot_read b k) text ((slot_tabled n max_unit key id p.left k (number k (omega (arith, h)))).regular ∙ good)).1.0) in
     let from_none : 0 + m ≡ m = omega arith in
     let one : length (flat_map f (range_with_len 0 m)) ≡ m = one_each f 0 m (λ k low h. ap (λ (x : Option (List ℕ)). length (listed x)) (first.before k (omega (arith, h))).1) in
-    let len : length (judged_frames u p).units ≡ m + length final = ap (λ (j : JudgedBody). length j.units) is ∙ length-append (flat_map f (range_with_len 0 m)) final ∙ ap (λ (w : ℕ). w + length final) one in
+    let len : length (judged_frames n u p).units ≡ m + length final = ap (λ (j : JudgedBody). length j.units) is ∙ length-append (flat_map f (range_with_len 0 m)) final ∙ ap (λ (w : ℕ). w + length final) one in
     record {
       last = m;
       slots = record { read = λ k. refl; good = full; other = o.other; short = o.short };
@@ -233,16 +233,16 @@ frames_judged n max_unit key id p fits =
           ∙ ap (λ (l : List ℕ). l ++ concat final) (concat_flat f g 0 m each)
           ∙ ap (λ (l : List ℕ). flat_map g (range_with_len 0 m) ++ l) (o.joined ∙ ap g (sym from_none))
           ∙ sym (flat_map_next g 0 m);
-      units = omega (arith, len, few_listed (good_final u m (slot_bytes u p.left m)));
+      units = omega (arith, len, few_listed (good_final n u m (slot_bytes n p.left m)));
       sound = λ h. o.sound (omega (arith, len, h));
       whole = λ e.
-          let found = final_there u m there first.here (sym verdict ∙ e) in
+          let found = final_there n u m there first.here (sym verdict ∙ e) in
           omega (arith, len, ap (λ (x : Option (List ℕ)). length (listed x)) found.1);
       long = λ e.
-          let found = final_there u m there first.here (sym verdict ∙ e) in
+          let found = final_there n u m there first.here (sym verdict ∙ e) in
           let text = sym (append-nil found.0)
           ∙ sym (ap (λ (x : Option (List ℕ)). concat (listed x)) found.1) ∙ o.joined in
-          let ends = whole_ends u m there found.0 found.1 (sym verdict ∙ e) in
+          let ends = whole_ends n u m there found.0 found.1 (sym verdict ∙ e) in
           omega (arith, ap length text, ends, length-drop (m * (n + 32)) p.left);
     }
   where

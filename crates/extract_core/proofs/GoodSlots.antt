@@ -35,24 +35,24 @@ number_small bytes n fits long =
 
 -- ---- frames
 
-frame_same : (n : ℕ) (max_unit : Option ℕ) (key id : List ℕ) (k : ℕ) (p : Place) → unit (Framed n) max_unit key id (k + 1) p ≡ frame (record { key = key; id = id; frame = n }) k p
+frame_same : (n : ℕ) (max_unit : Option ℕ) (key id : List ℕ) (k : ℕ) (p : Place) → unit (Framed n) max_unit key id (k + 1) p ≡ frame n (record { key = key; id = id }) k p
 unfolding frame unit unit_head
 frame_same n max_unit key id k p = refl
 
-abbrev pub under : ℕ → List ℕ → List ℕ → Under
-under n key id = record { key = key; id = id; frame = n }
+abbrev pub under : List ℕ → List ℕ → Under
+under key id = record { key = key; id = id }
 
 abbrev pub open_frames : ℕ → Option ℕ → List ℕ → List ℕ → List ℕ → OpenBody
 open_frames n max_unit key id bytes = record { content = Framed n; max_unit = max_unit; key = key; id = id; bytes = bytes }
 
 -- a slot that has a number is what the table says of its bytes
 pub slot_tabled : (n : ℕ) (max_unit : Option ℕ) (key id bytes : List ℕ) (k : ℕ) → k ≤ last_slot
-    → IsTabled (under n key id) k (slot_bytes (under n key id) bytes k) (slot_read (open_frames n max_unit key id bytes) k)
+    → IsTabled n (under key id) k (slot_bytes n bytes k) (slot_read (open_frames n max_unit key id bytes) k)
 slot_tabled n max_unit key id bytes k few =
-    let u : Under = under n key id in
-    subst (IsTabled u k (slot_bytes u bytes k))
+    let u : Under = under key id in
+    subst (IsTabled n u k (slot_bytes n bytes k))
     (sym (slot_alone (open_frames n max_unit key id bytes) k few ∙ frame_same n max_unit key id k (start (drop (k * (n + 32)) bytes))))
-    (frame_tabled u k 0 (slot_bytes u bytes k))
+    (frame_tabled n u k 0 (slot_bytes n bytes k))
 
 -- a test that gives a value holds
 test_holds : (b : Bool) (o : Option (List ℕ)) (text : List ℕ) → cond b o None ≡ Some text
@@ -76,16 +76,16 @@ not_marked m n true e h same = cc
 not_marked m n false e h same = let no : true ≡ false = sym (eq-eqb m n same) ∙ e in cc
 
 -- a good slot has a number of four bytes
-pub regular_few : (u : Under) (k : ℕ) (bytes text : List ℕ) → AreBytes bytes → good_regular u k bytes ≡ Some text → k < last_slot
+pub regular_few : (n : ℕ) (u : Under) (k : ℕ) (bytes text : List ℕ) → AreBytes bytes → good_regular n u k bytes ≡ Some text → k < last_slot
 unfolding good_regular
-regular_few u k bytes text fits e =
-    let there : Bool = not (nat_lt (length bytes) (u.frame + beside_content)) in
+regular_few n u k bytes text fits e =
+    let there : Bool = not (nat_lt (length bytes) (n + beside_content)) in
     let plain : Bool = not (is_final bytes) in
     let numbered : Bool = number_at 0 bytes == k + 1 in
     let held = test_holds (there && plain && numbered) _ text e in
     let rest = both (there && plain) numbered held.0 in
     let first = both there plain rest.0 in
-    let long : u.frame + 32 ≤ length bytes = not_less (length bytes) (u.frame + 32) _ refl first.0 in
+    let long : n + 32 ≤ length bytes = not_less (length bytes) (n + 32) _ refl first.0 in
     let same : number_at 0 bytes ≡ k + 1 = eqb-true (number_at 0 bytes) (k + 1) rest.1 in
     let small : number_at 0 bytes < 2 ^ 32 = number_small bytes 0 fits (omega (arith, long)) in
     elim (cases_lt k last_slot) [
@@ -94,11 +94,11 @@ regular_few u k bytes text fits e =
     ]
 
 -- what is so of a good final slot, up to how many bytes its content has
-pub record IsFinalSlot (u : Under) (k : ℕ) (bytes text : List ℕ) : Type 0 where
+pub record IsFinalSlot (n k : ℕ) (bytes text : List ℕ) : Type 0 where
   pub long : 24 ≤ length bytes
   pub marked : is_final bytes ≡ true
   pub numbered : (number_at 4 bytes == k + 1) ≡ true
-  pub short : nat_lt u.frame (number_at 20 bytes) ≡ false
+  pub short : nat_lt n (number_at 20 bytes) ≡ false
   pub all : number_at 20 bytes + 40 ≤ length bytes
   pub size : length text ≡ number_at 20 bytes
 
@@ -106,18 +106,18 @@ not_true : (b : Bool) → not b ≡ true → b ≡ false
 not_true true e = absurd cc
 not_true false e = refl
 
-pub final_slot : (u : Under) (k : ℕ) (bytes text : List ℕ) → good_final u k bytes ≡ Some text
-    → IsFinalSlot u k bytes text
+pub final_slot : (n : ℕ) (u : Under) (k : ℕ) (bytes text : List ℕ) → good_final n u k bytes ≡ Some text
+    → IsFinalSlot n k bytes text
 unfolding good_final
-final_slot u k bytes text e =
+final_slot n u k bytes text e =
     let size : ℕ = number_at 20 bytes in
     let there : Bool = not (nat_lt (length bytes) 24) in
     let marked : Bool = is_final bytes in
     let numbered : Bool = number_at 4 bytes == k + 1 in
-    let short : Bool = not (nat_lt u.frame size) in
+    let short : Bool = not (nat_lt n size) in
     let whole : Bool = not (nat_lt (length bytes) (size + 40)) in
     let held = test_holds (there && marked && numbered && short && whole)
-    (final_content u k bytes) text e in
+    (final_content n u k bytes) text e in
     let a = both (there && marked && numbered && short) whole held.0 in
     let b = both (there && marked && numbered) short a.0 in
     let c = both (there && marked) numbered b.0 in
@@ -129,15 +129,15 @@ final_slot u k bytes text e =
       long = not_less (length bytes) 24 _ refl d.0;
       marked = d.1;
       numbered = c.1;
-      short = not_true (nat_lt u.frame size) b.1;
+      short = not_true (nat_lt n size) b.1;
       all = all;
       size = omega (arith, same, all, length-take size (drop 24 bytes), length-drop 24 bytes);
     }
 
-pub final_few : (u : Under) (k : ℕ) (bytes text : List ℕ) → AreBytes bytes
-    → good_final u k bytes ≡ Some text → k ≤ last_slot
-final_few u k bytes text fits e =
-    let f = final_slot u k bytes text e in
+pub final_few : (n : ℕ) (u : Under) (k : ℕ) (bytes text : List ℕ) → AreBytes bytes
+    → good_final n u k bytes ≡ Some text → k ≤ last_slot
+final_few n u k bytes text fits e =
+    let f = final_slot n u k bytes text e in
     let same : number_at 4 bytes ≡ k + 1 = eqb-true (number_at 4 bytes) (k + 1) f.numbered in
     let small : number_at 4 bytes < 2 ^ 32 =
     number_small bytes 4 fits (omega (arith, f.long, length-drop 4 bytes)) in
@@ -150,13 +150,13 @@ is_last_line true fault e = refl
 is_last_line false fault e = absurd cc
 
 -- a whole body ends with the tag of the final frame
-pub whole_ends : (u : Under) (k : ℕ) (bytes text : List ℕ) → good_final u k bytes ≡ Some text
-    → framed_verdict u k bytes ≡ Whole → length bytes ≡ length text + 40
+pub whole_ends : (n : ℕ) (u : Under) (k : ℕ) (bytes text : List ℕ) → good_final n u k bytes ≡ Some text
+    → framed_verdict n u k bytes ≡ Whole → length bytes ≡ length text + 40
 unfolding framed_verdict
-whole_ends u k bytes text good e =
-    let f = final_slot u k bytes text good in
+whole_ends n u k bytes text good e =
+    let f = final_slot n u k bytes text good in
     let size : ℕ = number_at 20 bytes in
-    let line : framed_verdict u k bytes
+    let line : framed_verdict n u k bytes
     ≡ cond (length bytes == size + 40) Whole (Faulty TrailingBytes) =
     rw (
       le-ltb (length bytes) 4 (omega (arith, f.long)),

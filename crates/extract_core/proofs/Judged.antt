@@ -207,7 +207,7 @@ block_is : (max_unit : Option ℕ) (key id : List ℕ) (p : Place) → judged_bo
 unfolding judged_body tabled_block
 block_is max_unit key id p = block_tabled max_unit key id p
 
-frames_are : (n : ℕ) (max_unit : Option ℕ) (key id : List ℕ) (p : Place) → judged_frames (under n key id) p ≡ judged_body (Framed n) max_unit key id p
+frames_are : (n : ℕ) (max_unit : Option ℕ) (key id : List ℕ) (p : Place) → judged_frames n (under key id) p ≡ judged_body (Framed n) max_unit key id p
 unfolding judged_body
 frames_are n max_unit key id p = refl
 

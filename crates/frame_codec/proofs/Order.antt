@@ -78,9 +78,9 @@ unfolding unit
 IsSequential-unit content max_unit key id want =
     IsSequential-bind (unit_head content want max_unit) (after_head key id) (IsSequential-unit_head content want max_unit) (λ head. IsSequential-after_head key id head)
 
-pub IsSequential-frame : (u : Under) (k : ℕ) → IsSequential (frame u k)
+pub IsSequential-frame : (frame_length : ℕ) (u : Under) (k : ℕ) → IsSequential (frame frame_length u k)
 unfolding frame
-IsSequential-frame u k = IsSequential-unit (contents.Framed u.frame) None u.key u.id (k + 1)
+IsSequential-frame frame_length u k = IsSequential-unit (contents.Framed frame_length) None u.key u.id (k + 1)
 
 pub IsSequential-block : (max_unit : Option ℕ) (key id : List ℕ) → IsSequential (block max_unit key id)
 unfolding block

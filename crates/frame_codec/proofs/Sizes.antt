@@ -45,12 +45,12 @@ more_kind kinds.Final x text e = absurd cc
 more_kind kinds.Single x text e = absurd cc
 
 -- a regular frame that was read has the frame length and 32 bytes
-pub frame_sized : (u : Under) (k : ℕ) (p : Place) (x : List ℕ) (next : Place) → frame u k p ≡ Read (More x) next → (u.frame + 32 ≤ length p.left) × (next ≡ past (u.frame + 32) p)
+pub frame_sized : (frame_length : ℕ) (u : Under) (k : ℕ) (p : Place) (x : List ℕ) (next : Place) → frame frame_length u k p ≡ Read (More x) next → (frame_length + 32 ≤ length p.left) × (next ≡ past (frame_length + 32) p)
 unfolding frame unit_head
-frame_sized u k p x next e =
-    let r = unit_is_read (contents.Framed u.frame) None u.key u.id (k + 1) p (More x) next e in
-    let sizes = frame_head (k + 1) u.frame p.left r.head _ (r.reads.is 0) (more_kind r.head.kind x r.text r.piece_is) in
-    let sum : unit_size r.head ≡ u.frame + 32 = omega (arith, sizes.0, sizes.1) in
+frame_sized frame_length u k p x next e =
+    let r = unit_is_read (contents.Framed frame_length) None u.key u.id (k + 1) p (More x) next e in
+    let sizes = frame_head (k + 1) frame_length p.left r.head _ (r.reads.is 0) (more_kind r.head.kind x r.text r.piece_is) in
+    let sum : unit_size r.head ≡ frame_length + 32 = omega (arith, sizes.0, sizes.1) in
     (subst (λ (n : ℕ). n ≤ length p.left) sum r.long, r.after ∙ ap (λ (n : ℕ). past n p) sum)
 
 more_text : (kind : UnitKind) (x text : List ℕ) → More x ≡ piece_of kind text → x ≡ text
@@ -67,10 +67,10 @@ opened_length key id head left text long good =
     omega (arith, sym (length-sealed_cipher key head.iv aad text), ap (λ (s : List ℕ × List ℕ). length s.0) sealed_is, length-take head.length left)
 
 -- the content of a regular frame has the frame length
-pub frame_content : (u : Under) (k : ℕ) (p : Place) (x : List ℕ) (next : Place) → frame u k p ≡ Read (More x) next → length x ≡ u.frame
+pub frame_content : (frame_length : ℕ) (u : Under) (k : ℕ) (p : Place) (x : List ℕ) (next : Place) → frame frame_length u k p ≡ Read (More x) next → length x ≡ frame_length
 unfolding frame unit_head
-frame_content u k p x next e =
-    let r = unit_is_read (contents.Framed u.frame) None u.key u.id (k + 1) p (More x) next e in
-    let sizes = frame_head (k + 1) u.frame p.left r.head _ (r.reads.is 0) (more_kind r.head.kind x r.text r.piece_is) in
+frame_content frame_length u k p x next e =
+    let r = unit_is_read (contents.Framed frame_length) None u.key u.id (k + 1) p (More x) next e in
+    let sizes = frame_head (k + 1) frame_length p.left r.head _ (r.reads.is 0) (more_kind r.head.kind x r.text r.piece_is) in
     let len = opened_length u.key u.id r.head (drop r.head.size p.left) r.text (omega (arith, r.long, length-drop r.head.size p.left)) r.good in
     ap length (more_text r.head.kind x r.text r.piece_is) ∙ len ∙ sizes.1

@@ -101,9 +101,9 @@ unit_refuses content max_unit key id want left head at reads long bad =
     refusal f at = Refused f at
 
 -- a framed unit isn't limited by `max_unit`
-pub frame_is : (u : Under) (k : ℕ) (max_unit : Option ℕ) (p : Place) → unit (contents.Framed u.frame) max_unit u.key u.id (k + 1) p ≡ frame u k p
+pub frame_is : (frame_length : ℕ) (u : Under) (k : ℕ) (max_unit : Option ℕ) (p : Place) → unit (contents.Framed frame_length) max_unit u.key u.id (k + 1) p ≡ frame frame_length u k p
 unfolding frame unit unit_head
-frame_is u k max_unit p = refl
+frame_is frame_length u k max_unit p = refl
 
 -- ---- what was read
 

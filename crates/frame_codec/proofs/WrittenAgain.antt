@@ -116,15 +116,15 @@ unfolding iv_of
 length-iv_of n = omega (arith, length-append (replicate 8 0) (to_big_endian w32 n), length-to_big_endian32 n)
 
 -- frame k, counted from 0
-pub regular_frame_again : (u : Under) (k : ℕ) (text rest : List ℕ) (at : ℕ) → k + 1 < final_mark → length text ≡ u.frame
-    → frame u k (place at (regular_frame u (k + 1) text ++ rest)) ≡ Read (More text) (place (at + (length text + 32)) rest)
+pub regular_frame_again : (frame_length : ℕ) (u : Under) (k : ℕ) (text rest : List ℕ) (at : ℕ) → k + 1 < final_mark → length text ≡ frame_length
+    → frame frame_length u k (place at (regular_frame u (k + 1) text ++ rest)) ≡ Read (More text) (place (at + (length text + 32)) rest)
 unfolding frame regular_frame regular_head
-regular_frame_again u k text rest at low whole = regular_again None u.key u.id (k + 1) u.frame (iv_of (k + 1)) text rest at low (length-iv_of (k + 1)) whole
+regular_frame_again frame_length u k text rest at low whole = regular_again None u.key u.id (k + 1) frame_length (iv_of (k + 1)) text rest at low (length-iv_of (k + 1)) whole
 
-pub final_frame_again : (u : Under) (k : ℕ) (text rest : List ℕ) (at : ℕ) → k + 1 < 2 ^ 32 → length text ≤ u.frame → length text < 2 ^ 32
-    → frame u k (place at (final_frame u (k + 1) text ++ rest)) ≡ Read (Last text) (place (at + (length text + 40)) rest)
+pub final_frame_again : (frame_length : ℕ) (u : Under) (k : ℕ) (text rest : List ℕ) (at : ℕ) → k + 1 < 2 ^ 32 → length text ≤ frame_length → length text < 2 ^ 32
+    → frame frame_length u k (place at (final_frame u (k + 1) text ++ rest)) ≡ Read (Last text) (place (at + (length text + 40)) rest)
 unfolding frame final_frame final_head
-final_frame_again u k text rest at low within short = final_again None u.key u.id (k + 1) u.frame (iv_of (k + 1)) text rest at low (length-iv_of (k + 1)) within short
+final_frame_again frame_length u k text rest at low within short = final_again None u.key u.id (k + 1) frame_length (iv_of (k + 1)) text rest at low (length-iv_of (k + 1)) within short
 
 pub single_block_again : (max_unit : Option ℕ) (key id iv text rest : List ℕ) (at : ℕ) → length iv ≡ 12 → length text ≤ longest_block → is_over max_unit (length text) ≡ false
     → block max_unit key id (place at (single_block key id iv text ++ rest)) ≡ Read (Last text) (place (at + (length text + 36)) rest)

@@ -53,12 +53,12 @@ DecidesWithNeededBytes = (content : Content) (want : ℕ) (max_unit : Option ℕ
 
 -- Frame k, counted from 0, is read back at any offset, whatever follows it.
 abbrev pub ReadsBackRegularFrames : Type 0
-ReadsBackRegularFrames = (u : Under) (k : ℕ) (text more : List ℕ) (at : ℕ) → k + 1 < final_mark → length text ≡ u.frame
-    → frame u k (record { at = at; left = regular_frame u (k + 1) text ++ more }) ≡ Read (More text) (record { at = at + (length text + 32); left = more })
+ReadsBackRegularFrames = (frame_length : ℕ) (u : Under) (k : ℕ) (text more : List ℕ) (at : ℕ) → k + 1 < final_mark → length text ≡ frame_length
+    → frame frame_length u k (record { at = at; left = regular_frame u (k + 1) text ++ more }) ≡ Read (More text) (record { at = at + (length text + 32); left = more })
 
 abbrev pub ReadsBackFinalFrames : Type 0
-ReadsBackFinalFrames = (u : Under) (k : ℕ) (text more : List ℕ) (at : ℕ) → k + 1 < 2 ^ 32 → length text ≤ u.frame → length text < 2 ^ 32
-    → frame u k (record { at = at; left = final_frame u (k + 1) text ++ more }) ≡ Read (Last text) (record { at = at + (length text + 40); left = more })
+ReadsBackFinalFrames = (frame_length : ℕ) (u : Under) (k : ℕ) (text more : List ℕ) (at : ℕ) → k + 1 < 2 ^ 32 → length text ≤ frame_length → length text < 2 ^ 32
+    → frame frame_length u k (record { at = at; left = final_frame u (k + 1) text ++ more }) ≡ Read (Last text) (record { at = at + (length text + 40); left = more })
 
 abbrev pub ReadsBackSingleBlocks : Type 0
 ReadsBackSingleBlocks = (max_unit : Option ℕ) (key id iv text more : List ℕ) (at : ℕ) → length iv ≡ 12 → length text ≤ longest_block → IfSome max_unit (λ most. length text ≤ most)
@@ -68,8 +68,8 @@ ReadsBackSingleBlocks = (max_unit : Option ℕ) (key id iv text more : List ℕ)
 
 -- Each regular frame has the frame length, and 32 bytes more.
 abbrev pub HaveOneSize : Type 0
-HaveOneSize = (u : Under) (k : ℕ) (p : Place) (x : List ℕ) (next : Place) → frame u k p ≡ Read (More x) next
-    → (length x ≡ u.frame) × (u.frame + 32 ≤ length p.left) × (next ≡ past (u.frame + 32) p)
+HaveOneSize = (frame_length : ℕ) (u : Under) (k : ℕ) (p : Place) (x : List ℕ) (next : Place) → frame frame_length u k p ≡ Read (More x) next
+    → (length x ≡ frame_length) × (frame_length + 32 ≤ length p.left) × (next ≡ past (frame_length + 32) p)
 
 abbrev pub HasRegularSize : Type 0
 HasRegularSize = (u : Under) (number : ℕ) (text : List ℕ) → length (regular_frame u number text) ≡ length text + 32

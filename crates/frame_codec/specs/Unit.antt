@@ -41,15 +41,14 @@ unit content max_unit key id want = do
   text ← opens (opened_unit key id head cipher tag) (UnitTag head.number)
   done (piece_of head.kind text)
 
--- what the frames of a message stand under: the derived key, the message id, and the frame length
+-- what the frames of a message stand under: the derived key and the message id
 pub record Under : Type 0 where
   pub key : List ℕ
   pub id : List ℕ
-  pub frame : ℕ
 
--- frame k, counted from 0: its sequence number is k + 1
-unfoldable pub frame : Under → ℕ → Reader Piece
-frame u k = unit (contents.Framed u.frame) None u.key u.id (k + 1)
+-- frame k, counted from 0, where frames have this length: its sequence number is k + 1
+unfoldable pub frame : ℕ → Under → ℕ → Reader Piece
+frame frame_length u k = unit (contents.Framed frame_length) None u.key u.id (k + 1)
 
 -- the single block, under a derived key and a message id
 unfoldable pub block : Option ℕ → List ℕ → List ℕ → Reader Piece

@@ -64,14 +64,14 @@ body_trailing content max key id p more e some =
 -- ---- a front of what was written
 
 -- the whole frames of a front, as a number
-frames_are : (u : Under) (size at n count : ℕ) → Releases u size at n count → count ≡ frames_in u.frame (frame_count size u.frame) (n - at)
-frames_are u size at n count r =
-    let width : ℕ = u.frame + beside_content in
-    let few : count ≤ frame_count size u.frame - 1 = omega (arith, r.few) in
+frames_are : (frame_length size at n count : ℕ) → Releases frame_length size at n count → count ≡ frames_in frame_length (frame_count size frame_length) (n - at)
+frames_are frame_length size at n count r =
+    let width : ℕ = frame_length + beside_content in
+    let few : count ≤ frame_count size frame_length - 1 = omega (arith, r.few) in
     let come : count * width ≤ n - at = omega (arith, r.come) in
     let low : count ≤ (n - at) / width = le-div count (n - at) width (omega arith) come in
     elim r.no_more [
-      | inl all ↦ (let last : frame_count size u.frame - 1 ≡ count = omega (arith, all) in sym (min-eq_left (omega (arith, low, last)) ∙ last))
+      | inl all ↦ (let last : frame_count size frame_length - 1 ≡ count = omega (arith, all) in sym (min-eq_left (omega (arith, low, last)) ∙ last))
       | inr early ↦
           (let next : (n - at) < (count + 1) * width = omega (arith, early, r.come) in
           let wide : 0 < width = omega arith in
@@ -80,18 +80,18 @@ frames_are u size at n count r =
           sym (min-eq_right (omega (arith, is, few)) ∙ is))
     ]
 
-pub body_front : (max : Option ℕ) (u : Under) (text : List ℕ) (at n : ℕ) → IsFramed u text → at ≤ n → n < at + length (framed_body u text)
-    → judged_body (Framed u.frame) max u.key u.id (cut n (record { at = at; left = framed_body u text }))
-    ≡ record { units = pieces u.frame text (frames_in u.frame (frame_count (length text) u.frame) (n - at)); verdict = Going }
-body_front max u text at n framed low high =
-    let found = front_releases u text max at n framed low high in
-    found.1.1 ∙ ap (λ (count : ℕ). record { units = pieces u.frame text count; verdict = Going }) (frames_are u (length text) at n found.0 found.1.0)
+pub body_front : (max : Option ℕ) (frame_length : ℕ) (u : Under) (text : List ℕ) (at n : ℕ) → IsFramed frame_length text → at ≤ n → n < at + length (framed_body frame_length u text)
+    → judged_body (Framed frame_length) max u.key u.id (cut n (record { at = at; left = framed_body frame_length u text }))
+    ≡ record { units = pieces frame_length text (frames_in frame_length (frame_count (length text) frame_length) (n - at)); verdict = Going }
+body_front max frame_length u text at n framed low high =
+    let found = front_releases frame_length u text max at n framed low high in
+    found.1.1 ∙ ap (λ (count : ℕ). record { units = pieces frame_length text count; verdict = Going }) (frames_are frame_length (length text) at n found.0 found.1.0)
 
 -- ---- line by line
 
-pub frames_tabled : (max : Option ℕ) (u : Under) (p : Place) → judged_body (Framed u.frame) max u.key u.id p ≡ tabled_frames u p.left
+pub frames_tabled : (max : Option ℕ) (frame_length : ℕ) (u : Under) (p : Place) → judged_body (Framed frame_length) max u.key u.id p ≡ tabled_frames frame_length u p.left
 unfolding judged_body
-frames_tabled max u p = tables.frames_tabled u p
+frames_tabled max frame_length u p = tables.frames_tabled frame_length u p
 
 pub block_tabled : (max : Option ℕ) (key id : List ℕ) (p : Place) → judged_body Single max key id p ≡ tabled_block max key id p.left
 unfolding judged_body

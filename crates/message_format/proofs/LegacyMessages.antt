@@ -89,7 +89,7 @@ body_whole : (m : Legacy) (content : Content) (text : List ℕ) (max_unit : Opti
     → judged_body content max_unit (derived Uncommitted m.key m.id) m.id (record { at = at; left = legacy_body m content text }) ≡ whole (legacy_units content text)
 body_whole m Single text max_unit at is short iv limit = block_whole max_unit (derived Uncommitted m.key m.id) m.id m.block_iv text at iv short (limit_within max_unit (length text) limit)
 body_whole m (Framed size) text max_unit at is short iv limit =
-    framed_whole (record { key = derived Uncommitted m.key m.id; id = m.id; frame = size }) text max_unit at (record { some = is.0; narrow = is.1; few = short })
+    framed_whole size (record { key = derived Uncommitted m.key m.id; id = m.id }) text max_unit at (record { some = is.0; narrow = is.1; few = short })
 
 -- ---- the message
 

@@ -140,8 +140,8 @@ line_by_line bytes settings answer = record {
       let r = read_reading (header settings (start bytes)) parts e in
       unlocked bytes settings answer parts r.0 whole only key r.1 is commits tagged
       ∙ ap (λ (c : Content). opened (judged_body c settings.max_unit (key_of parts key) parts.opening.id r.0)) content
-      ∙ ap opened (frames_tabled settings.max_unit (record { key = key_of parts key; id = parts.opening.id; frame = size }) r.0)
-      ∙ ap (λ (left : List ℕ). opened (tabled_frames (record { key = key_of parts key; id = parts.opening.id; frame = size }) left)) (body_left settings bytes parts r.0 r.1);
+      ∙ ap opened (frames_tabled settings.max_unit size (record { key = key_of parts key; id = parts.opening.id }) r.0)
+      ∙ ap (λ (left : List ℕ). opened (tabled_frames size (record { key = key_of parts key; id = parts.opening.id }) left)) (body_left settings bytes parts r.0 r.1);
   block = λ parts whole only key e is commits tagged content.
       let r = read_reading (header settings (start bytes)) parts e in
       unlocked bytes settings answer parts r.0 whole only key r.1 is commits tagged

@@ -39,11 +39,11 @@ rows_units : (width : ℕ) (unit : ℕ → Reader Piece) (p : Place) (n : ℕ) �
     → (judged_units width unit (cut n p)).verdict ≡ Whole → (judged_units width unit p).units ≡ (judged_units width unit (cut n p)).units
 rows_units width unit p n row within whole = units_by width unit p n row within (cut_cases n (slot width unit p (first_other width unit (cut n p)))) whole
 
-abbrev under : List ℕ → List ℕ → ℕ → Under
-under key id n = record { key = key; id = id; frame = n }
+abbrev under : List ℕ → List ℕ → Under
+under key id = record { key = key; id = id }
 
 pub trailing_units : (content : Content) (max_unit : Option ℕ) (key id : List ℕ) (p : Place) (n : ℕ) → p.at ≤ n
     → (judged_body content max_unit key id (cut n p)).verdict ≡ Whole → (judged_body content max_unit key id p).units ≡ (judged_body content max_unit key id (cut n p)).units
 unfolding judged_body judged_frames judged_block
 trailing_units Single max_unit key id p n within whole = rows_units 1 (λ k. block max_unit key id) p n (block_row max_unit key id) within whole
-trailing_units (Framed size) max_unit key id p n within whole = rows_units (size + beside_content) (frame (under key id size)) p n (frames_row (under key id size)) within whole
+trailing_units (Framed size) max_unit key id p n within whole = rows_units (size + beside_content) (frame size (under key id)) p n (frames_row size (under key id)) within whole

@@ -73,22 +73,22 @@ taken settings text c required size key entries id w limits =
 -- ---- it is read back
 
 pub length-message : (text : List ℕ) (c : List KeyValue) (required : List (List ℕ)) (size : ℕ) (key : List ℕ) (entries : List Entry) (id : List ℕ)
-    → length (message text c required size key entries id) ≡ length (header_body c required size key entries id) + 16 + length (framed_body (under size key id) text)
+    → length (message text c required size key entries id) ≡ length (header_body c required size key entries id) + 16 + length (framed_body size (under key id) text)
 unfolding message
 length-message text c required size key entries id =
     let raw = header_body c required size key entries id in
     let tag = tag_in c required size key entries id in
-    omega (arith, length-append (raw ++ tag) (framed_body (under size key id) text), length-append raw tag, length-header_tag Committing (replicate 12 0) raw (only_of required c) key id)
+    omega (arith, length-append (raw ++ tag) (framed_body size (under key id) text), length-append raw tag, length-header_tag Committing (replicate 12 0) raw (only_of required c) key id)
 
 -- where the body of a message begins, and what stands there
 abbrev pub body_place : List ℕ → List KeyValue → List (List ℕ) → ℕ → List ℕ → List Entry → List ℕ → Place
-body_place text c required size key entries id = record { at = length (header_body c required size key entries id) + 16; left = framed_body (under size key id) text }
+body_place text c required size key entries id = record { at = length (header_body c required size key entries id) + 16; left = framed_body size (under key id) text }
 
 pub begins_written : (settings : Settings) (text : List ℕ) (c : List KeyValue) (required : List (List ℕ)) (size : ℕ) (key : List ℕ) (entries : List Entry) (id : List ℕ) → IsWritable text c required size key entries id
     → IsWithinLimits settings size entries → BeginsWith settings (message text c required size key entries id) (written c required size key entries id) (body_place text c required size key entries id)
 unfolding message header_body
 begins_written settings text c required size key entries id w limits =
-    committing_is_read settings id (stored_of required c) entries size (commitment key id) (tag_in c required size key entries id) (framed_body (under size key id) text)
+    committing_is_read settings id (stored_of required c) entries size (commitment key id) (tag_in c required size key entries id) (framed_body size (under key id) text)
     (parts_are text c required size key entries id w) (length-header_tag Committing (replicate 12 0) (header_body c required size key entries id) (only_of required c) key id)
     (taken settings text c required size key entries id w limits) limits.max_unit
 

@@ -156,7 +156,7 @@ pub record IsLineByLine (bytes : List ℕ) (settings : Settings) (answer : Unloc
   -- frames, by their table
   pub frames : (parts : Head) (whole only : List KeyValue) (key : List ℕ) (size : ℕ) → head settings bytes ≡ Some parts → answer ≡ Unlocks whole only key
       → Commits parts key → parts.tag ≡ tag_due bytes parts only key → parts.content ≡ Framed size
-      → judged bytes settings answer ≡ opened_as (tabled_frames (record { key = key_of parts key; id = parts.opening.id; frame = size }) (drop (body_start_of parts) bytes))
+      → judged bytes settings answer ≡ opened_as (tabled_frames size (record { key = key_of parts key; id = parts.opening.id }) (drop (body_start_of parts) bytes))
   -- a single block, by its table
   pub block : (parts : Head) (whole only : List KeyValue) (key : List ℕ) → head settings bytes ≡ Some parts → answer ≡ Unlocks whole only key
       → Commits parts key → parts.tag ≡ tag_due bytes parts only key → parts.content ≡ Single

@@ -44,7 +44,7 @@ legacy_tag m = header_tag Uncommitted m.iv (legacy_raw m) (only_of m.required m.
 -- the body, cut so
 abbrev pub legacy_body : Legacy → Content → List ℕ → List ℕ
 legacy_body m Single text = single_block (derived Uncommitted m.key m.id) m.id m.block_iv text
-legacy_body m (Framed size) text = framed_body (record { key = derived Uncommitted m.key m.id; id = m.id; frame = size }) text
+legacy_body m (Framed size) text = framed_body size (record { key = derived Uncommitted m.key m.id; id = m.id }) text
 
 -- header body, header authentication, body
 unfoldable pub legacy_message : Legacy → List ℕ → List ℕ

@@ -27,16 +27,16 @@ header_tag suite iv raw only key id = tag_under (derived suite key id) iv raw on
 unfoldable pub header_body : List KeyValue → List (List ℕ) → ℕ → List ℕ → List Entry → List ℕ → List ℕ
 header_body c required size key entries id = written_header id (stored_of required c) entries size (commitment key id)
 
--- what frames of this length stand under
-abbrev pub under : ℕ → List ℕ → List ℕ → Under
-under size key id = record { key = derived Committing key id; id = id; frame = size }
+-- what the frames stand under, of the data key and the message id
+abbrev pub under : List ℕ → List ℕ → Under
+under key id = record { key = derived Committing key id; id = id }
 
 -- The message of a text: its context, the keys of it that are required of the reader, the frame length, the data key, the entries that hold this key wrapped, and the
 -- message id. The required pairs are authenticated with the header, and not stored.
 unfoldable pub message : List ℕ → List KeyValue → List (List ℕ) → ℕ → List ℕ → List Entry → List ℕ → List ℕ
 message text c required size key entries id =
     let raw = header_body c required size key entries id in
-    raw ++ header_tag Committing zero_iv raw (only_of required c) key id ++ framed_body (under size key id) text
+    raw ++ header_tag Committing zero_iv raw (only_of required c) key id ++ framed_body size (under key id) text
 
 -- What can be written: four bytes hold the frame length and each frame's number, the context has a text, what is required is in it, and the header's fields hold its parts.
 pub record IsWritable (text : List ℕ) (c : List KeyValue) (required : List (List ℕ)) (size : ℕ) (key : List ℕ) (entries : List Entry) (id : List ℕ) : Type 0 where

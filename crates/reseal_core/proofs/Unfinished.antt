@@ -53,9 +53,9 @@ good_is_plain true true n o e = absurd (let no : false ≡ true = e in cc)
 good_is_plain false true n o e = absurd (let no : false ≡ true = e in cc)
 
 -- a good regular slot doesn't
-good_plain : (u : Under) (k : ℕ) (b : List ℕ) → is_some (good_regular u k b) ≡ true → is_final b ≡ false
+good_plain : (size : ℕ) (u : Under) (k : ℕ) (b : List ℕ) → is_some (good_regular size u k b) ≡ true → is_final b ≡ false
 unfolding good_regular
-good_plain u k b some = good_is_plain (not (nat_lt (length b) (u.frame + beside_content))) (is_final b) (number_at 0 b == k + 1) _ some
+good_plain size u k b some = good_is_plain (not (nat_lt (length b) (size + beside_content))) (is_final b) (number_at 0 b == k + 1) _ some
 
 no_verdict : (a f n s : Bool) (wrong tag : Fault) (rest : Verdict) → f ≡ false
     → (if a then Going else if not f && not n then Faulty wrong else if not f && s then Going else if not f then Faulty tag else rest) ≡ Whole → ⊥
@@ -66,53 +66,48 @@ no_verdict false false true true wrong tag rest plain e = let no : Going ≡ Who
 no_verdict false false true false wrong tag rest plain e = let no : Faulty tag ≡ Whole = e in absurd cc
 
 -- and of one that doesn't, and decides, no body is whole
-plain_verdict : (u : Under) (k : ℕ) (b : List ℕ) → is_final b ≡ false → framed_verdict u k b ≡ Whole → ⊥
+plain_verdict : (size : ℕ) (u : Under) (k : ℕ) (b : List ℕ) → is_final b ≡ false → framed_verdict size u k b ≡ Whole → ⊥
 unfolding framed_verdict
-plain_verdict u k b plain e =
-    no_verdict (nat_lt (length b) 4) (is_final b) (number_at 0 b == k + 1) (nat_lt (length b) (u.frame + beside_content)) (WrongSequence (k + 1) (number_at 0 b)) (UnitTag (k + 1)) _ plain e
+plain_verdict size u k b plain e =
+    no_verdict (nat_lt (length b) 4) (is_final b) (number_at 0 b == k + 1) (nat_lt (length b) (size + beside_content)) (WrongSequence (k + 1) (number_at 0 b)) (UnitTag (k + 1)) _ plain e
 
-short_verdict : (u : Under) (k : ℕ) (b : List ℕ) → length b < 4 → framed_verdict u k b ≡ Whole → ⊥
+short_verdict : (size : ℕ) (u : Under) (k : ℕ) (b : List ℕ) → length b < 4 → framed_verdict size u k b ≡ Whole → ⊥
 unfolding framed_verdict
-short_verdict u k b short e = let no : Going ≡ Whole = rw (lt-ltb (length b) 4 short) at e in absurd cc
+short_verdict size u k b short e = let no : Going ≡ Whole = rw (lt-ltb (length b) 4 short) at e in absurd cc
 
 -- ---- regular frames, judged under any key
 
-module _ (u u0 : Under) (same : u.frame ≡ u0.frame) (text : List ℕ) (m : ℕ) (full : AreFull u0 text m) where
+module _ (size : ℕ) (u u0 : Under) (text : List ℕ) (m : ℕ) (full : AreFull size text m) where
   abbrev body : List ℕ
-  body = regular_frames u0 text m
+  body = regular_frames size u0 text m
 
-  slot_is : (k : ℕ) → slot_bytes u body k ≡ slot_bytes u0 body k
-  slot_is k = ap (λ (n : ℕ). drop (k * (n + beside_content)) body) same
-
-  plain_at : (k : ℕ) → k < m → is_final (slot_bytes u body k) ≡ false
+  plain_at : (k : ℕ) → k < m → is_final (slot_bytes size body k) ≡ false
   plain_at k lt =
-      let some : is_some (good_regular u0 k (slot_bytes u0 (body ++ []) k)) ≡ true = sym (some_is u0 (behind_frames u0 text m [] 0) k) ∙ regular_is_more u0 text m k [] 0 full lt in
-      ap is_final (slot_is k)
-      ∙ good_plain u0 k (slot_bytes u0 body k) (ap (λ (b : List ℕ). is_some (good_regular u0 k (slot_bytes u0 b k))) (sym (append-nil body)) ∙ some)
+      let some : is_some (good_regular size u0 k (slot_bytes size (body ++ []) k)) ≡ true = sym (some_is size u0 (behind_frames size u0 text m [] 0) k) ∙ regular_is_more size u0 text m k [] 0 full lt in
+      good_plain size u0 k (slot_bytes size body k) (ap (λ (b : List ℕ). is_some (good_regular size u0 k (slot_bytes size b k))) (sym (append-nil body)) ∙ some)
 
-  none_at : (k : ℕ) → m ≤ k → length (slot_bytes u body k) < 4
+  none_at : (k : ℕ) → m ≤ k → length (slot_bytes size body k) < 4
   none_at k low =
       omega (
         arith,
-        ap (length {A = ℕ}) (slot_is k),
-        length-drop (k * (u0.frame + beside_content)) body,
-        length-regular_frames u0 text m full,
-        mul-le-mul_right (u0.frame + beside_content) low,
+        length-drop (k * (size + beside_content)) body,
+        length-regular_frames size u0 text m full,
+        mul-le-mul_right (size + beside_content) low,
       )
 
-  never : (k : ℕ) → framed_verdict u k (slot_bytes u body k) ≡ Whole → ⊥
+  never : (k : ℕ) → framed_verdict size u k (slot_bytes size body k) ≡ Whole → ⊥
   never k e = elim (cases_lt k m) [
-    | inl lt ↦ plain_verdict u k (slot_bytes u body k) (plain_at k lt) e
-    | inr low ↦ short_verdict u k (slot_bytes u body k) (none_at k low) e
+    | inl lt ↦ plain_verdict size u k (slot_bytes size body k) (plain_at k lt) e
+    | inr low ↦ short_verdict size u k (slot_bytes size body k) (none_at k low) e
   ]
 
-  tabled_unfinished : (tabled_frames u body).verdict ≡ Whole → ⊥
+  tabled_unfinished : (tabled_frames size u body).verdict ≡ Whole → ⊥
   unfolding tabled_frames
-  tabled_unfinished e = never (first_not_regular u body) e
+  tabled_unfinished e = never (first_not_regular size u body) e
 
-  pub frames_unfinished : (p : Place) → p.left ≡ body → (judged_frames u p).verdict ≡ Whole → ⊥
+  pub frames_unfinished : (p : Place) → p.left ≡ body → (judged_frames size u p).verdict ≡ Whole → ⊥
   frames_unfinished p left e =
-      tabled_unfinished (sym (ap (λ (j : JudgedBody). j.verdict) (frames_tabled u p ∙ ap (tabled_frames u) left)) ∙ e)
+      tabled_unfinished (sym (ap (λ (j : JudgedBody). j.verdict) (frames_tabled size u p ∙ ap (tabled_frames size u) left)) ∙ e)
 
 -- ---- behind a header
 
@@ -121,13 +116,13 @@ module _ (m : EncMaterialsValue) (size : ℕ) (random text : List ℕ) (w : IsWr
   id = drawn_id random
 
   abbrev u0 : Under
-  u0 = under size m.key id
+  u0 = under m.key id
 
   abbrev count : ℕ
   count = frames_given (length text) size
 
   abbrev frames : List ℕ
-  frames = regular_frames u0 text count
+  frames = regular_frames size u0 text count
 
   abbrev front : List ℕ
   front = written_so_far m size id text
@@ -138,8 +133,8 @@ module _ (m : EncMaterialsValue) (size : ℕ) (random text : List ℕ) (w : IsWr
   abbrev head : HeaderValue
   head = written m.context m.required size m.key m.entries id
 
-  full : AreFull u0 text count
-  full = all_full u0 text (record { some = w.some; narrow = w.narrow; few = w.short })
+  full : AreFull size text count
+  full = all_full size text (record { some = w.some; narrow = w.narrow; few = w.short })
 
   length-start : length (start_of m size id) ≡ place.at
   unfolding start_of
@@ -167,7 +162,7 @@ module _ (m : EncMaterialsValue) (size : ℕ) (random text : List ℕ) (w : IsWr
   unfolding judged_body
   body_unfinished only k (Some fault) e = let no : Faulty fault ≡ Whole = e in absurd cc
   body_unfinished only k None e =
-      frames_unfinished (record { key = derived head.suite k head.message_id; id = head.message_id; frame = size }) u0 refl text count full (cut (length front) place) left_is e
+      frames_unfinished size (record { key = derived head.suite k head.message_id; id = head.message_id }) u0 text count full (cut (length front) place) left_is e
 
   header_unfinished : (answer : Unlocking) → (judged_header settings head (cut (length front) place) answer).verdict ≡ Whole → ⊥
   header_unfinished (Refuses fault) e = let no : Faulty fault ≡ Whole = e in absurd cc

@@ -56,11 +56,11 @@ row_of Single max_unit key id = record {
   empty = λ k at. no_block max_unit key id at;
 }
 row_of (Framed size) max_unit key id = record {
-  row = frame (record { key = key; id = id; frame = size });
-  is_row = frames_row (record { key = key; id = id; frame = size });
-  reads = λ k p. frame_is (record { key = key; id = id; frame = size }) k max_unit p;
+  row = frame size (record { key = key; id = id });
+  is_row = frames_row size (record { key = key; id = id });
+  reads = λ k p. frame_is size (record { key = key; id = id }) k max_unit p;
   judges = λ p. refl;
-  empty = λ k at. no_frame (record { key = key; id = id; frame = size }) k at;
+  empty = λ k at. no_frame size (record { key = key; id = id }) k at;
 }
 
 -- ---- units that more bytes follow

@@ -49,9 +49,9 @@ pub record IsKept (v : SealingValue) (ended : Bool) (given : List ℕ) : Type 0 
   pub high : length v.taken ≤ v.handed * v.size + v.size
   pub numbered : v.handed < most_frames
   pub within : IfSome v.declared (λ whole. length v.taken ≤ whole)
-  pub going : ended ≡ false → given ≡ regular_frames (under_of v) v.taken v.handed
+  pub going : ended ≡ false → given ≡ regular_frames v.size (under_of v) v.taken v.handed
   pub stops : ended ≡ true → v.stopped ≡ true
-  pub whole : ended ≡ true → given ≡ regular_frames (under_of v) v.taken v.handed ++ final_frame (under_of v) (v.handed + 1) (held v)
+  pub whole : ended ≡ true → given ≡ regular_frames v.size (under_of v) v.taken v.handed ++ final_frame (under_of v) (v.handed + 1) (held v)
 
 all_within : (declared : Option ℕ) → IfSome declared (λ whole. 0 ≤ whole)
 all_within None = tt
@@ -92,7 +92,7 @@ kept_doing v piece given Gives so kept =
       high = omega (arith, so.full, kept.high);
       numbered = omega (arith, so.more, kept.numbered);
       within = kept.within;
-      going = λ e. ap (λ (l : List ℕ). l ++ regular_frame (under_of v) (v.handed + 1) (held v)) (kept.going e) ∙ sym (frames_more (under_of v) v.taken v.handed so.full);
+      going = λ e. ap (λ (l : List ℕ). l ++ regular_frame (under_of v) (v.handed + 1) (held v)) (kept.going e) ∙ sym (frames_more v.size (under_of v) v.taken v.handed so.full);
       stops = λ e. absurd (false≢true e);
       whole = λ e. absurd (false≢true e);
     }
@@ -106,7 +106,7 @@ kept_doing v piece given (Takes count) so kept =
       high = omega (arith, so.room, kept.low, kept.high);
       numbered = kept.numbered;
       within = more_within v.declared (length v.taken) count (length more) (length (v.taken ++ more)) few sum kept.within so.within;
-      going = λ e. append-nil given ∙ kept.going e ∙ sym (frames_front (under_of v) v.taken more v.handed kept.low);
+      going = λ e. append-nil given ∙ kept.going e ∙ sym (frames_front v.size (under_of v) v.taken more v.handed kept.low);
       stops = λ e. absurd (false≢true e);
       whole = λ e. absurd (false≢true e);
     }
@@ -168,21 +168,21 @@ kept_all (e ∷ es) v false given kept =
 
 -- ---- the message
 
-pub message_is : (v : SealingValue) (text : List ℕ) → message_of v.materials v.size v.id text ≡ beginning v ++ framed_body (under_of v) text
+pub message_is : (v : SealingValue) (text : List ℕ) → message_of v.materials v.size v.id text ≡ beginning v ++ framed_body v.size (under_of v) text
 unfolding message start_of
 message_is v text = refl
 
-begins : (v : SealingValue) (text given : List ℕ) → 1 ≤ v.size → LeavesOne v.size text v.handed → given ≡ regular_frames (under_of v) text v.handed
+begins : (v : SealingValue) (text given : List ℕ) → 1 ≤ v.size → LeavesOne v.size text v.handed → given ≡ regular_frames v.size (under_of v) text v.handed
     → BeginsMessage v text (beginning v ++ given)
 begins v text given wide leaves is =
-    let frames : List ℕ = regular_frames (under_of v) text v.handed in
+    let frames : List ℕ = regular_frames v.size (under_of v) text v.handed in
     let last : List ℕ = final_frame (under_of v) (v.handed + 1) (drop (v.handed * v.size) text) in
     record {
       few = omega (arith, count_of v.size text v.handed wide leaves);
       are = ap (λ (l : List ℕ). beginning v ++ l) is;
       more = last;
       front = message_is v text
-          ∙ ap (λ (l : List ℕ). beginning v ++ l) (body_of (under_of v) text v.handed wide leaves)
+          ∙ ap (λ (l : List ℕ). beginning v ++ l) (body_of v.size (under_of v) text v.handed wide leaves)
           ∙ sym (append_assoc (beginning v) frames last)
           ∙ ap (λ (l : List ℕ). beginning v ++ l ++ last) (sym is);
     }
@@ -204,14 +204,14 @@ leaves_one v x wide none =
     let sum : length (v.taken ++ x ∷ []) ≡ length v.taken + 1 = length-append v.taken (x ∷ []) in
     record { low = omega (arith, none.all); high = omega (arith, none.all); rest = λ more. omega (arith, none.all) }
 
-even_frames : (v : SealingValue) (x : ℕ) (given : List ℕ) → HoldsNone v → given ≡ regular_frames (under_of v) v.taken v.handed
-    → given ≡ regular_frames (under_of v) (v.taken ++ x ∷ []) v.handed
-even_frames v x given none is = is ∙ sym (frames_front (under_of v) v.taken (x ∷ []) v.handed (omega (arith, none.all)))
+even_frames : (v : SealingValue) (x : ℕ) (given : List ℕ) → HoldsNone v → given ≡ regular_frames v.size (under_of v) v.taken v.handed
+    → given ≡ regular_frames v.size (under_of v) (v.taken ++ x ∷ []) v.handed
+even_frames v x given none is = is ∙ sym (frames_front v.size (under_of v) v.taken (x ∷ []) v.handed (omega (arith, none.all)))
 
 sealed_of : (v : SealingValue) (ended : Bool) (given : List ℕ) → 1 ≤ v.size → IsKept v ended given → IsSealed v ended (beginning v ++ given)
 sealed_of v ended given wide kept =
     let product : (v.handed + 1) * v.size ≡ v.handed * v.size + v.size = omega arith in
-    let frames : List ℕ = regular_frames (under_of v) v.taken v.handed in
+    let frames : List ℕ = regular_frames v.size (under_of v) v.taken v.handed in
     record {
       low = kept.low;
       high = omega (arith, kept.high);
@@ -219,7 +219,7 @@ sealed_of v ended given wide kept =
       within = kept.within;
       going = λ on some. begins v v.taken given wide (leaves_some v ended given kept some) (kept.going on);
       going_even = λ on none x. begins v (v.taken ++ x ∷ []) given wide (leaves_one v x wide none) (even_frames v x given none (kept.going on));
-      whole = λ end some. ap (λ (l : List ℕ). beginning v ++ l) (kept.whole end ∙ sym (body_of (under_of v) v.taken v.handed wide (leaves_some v ended given kept some)))
+      whole = λ end some. ap (λ (l : List ℕ). beginning v ++ l) (kept.whole end ∙ sym (body_of v.size (under_of v) v.taken v.handed wide (leaves_some v ended given kept some)))
           ∙ sym (message_is v v.taken);
       whole_even = λ end none.
           let rest : held v ≡ [] = drop_all (v.handed * v.size) v.taken (omega (arith, none.all)) in

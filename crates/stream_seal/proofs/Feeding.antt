@@ -48,7 +48,7 @@ feeding_ends v f =
           ∙ ap (λ (b : Bool). record v { taken = take (most_taken v) all; handed = frames_given (length (take (most_taken v) all)) v.size; stopped = b }) (is.on ∙ sym (ap is_some why))
           ∙ ap (λ (o : List ℕ). record v { taken = take (most_taken v) all; handed = frames_given (length (take (most_taken v) all)) v.size; stopped = is_some (refusal_with v all); out = o }) is.quiet
           ∙ sym (fed_is v []);
-      none = out_is v [] ∙ frames_none (under_of v) (take (most_taken v) all) v.handed (frames_given (length (take (most_taken v) all)) v.size - v.handed) (omega (arith, handed));
+      none = out_is v [] ∙ frames_none v.size (under_of v) (take (most_taken v) all) v.handed (frames_given (length (take (most_taken v) all)) v.size - v.handed) (omega (arith, handed));
     }
 
 -- ---- on the way
@@ -155,8 +155,8 @@ last_held v wide handed =
     let are : AreGiven (length v.taken) v.size v.handed = subst (λ (m : ℕ). AreGiven (length v.taken) v.size m) (sym handed) (are_given (length v.taken) v.size wide) in
     let leaves : LeavesOne v.size v.taken v.handed = record { low = are.low; high = are.high; rest = are.rest } in
     message_is v v.taken
-    ∙ ap (λ (l : List ℕ). beginning v ++ l) (body_of (under_of v) v.taken v.handed wide leaves)
-    ∙ sym (append_assoc (beginning v) (regular_frames (under_of v) v.taken v.handed) (final_frame (under_of v) (v.handed + 1) (held v)))
+    ∙ ap (λ (l : List ℕ). beginning v ++ l) (body_of v.size (under_of v) v.taken v.handed wide leaves)
+    ∙ sym (append_assoc (beginning v) (regular_frames v.size (under_of v) v.taken v.handed) (final_frame (under_of v) (v.handed + 1) (held v)))
 
 pub finishes : (v : SealingValue) → IsFed v → given_so_far v ++ (finished v).out ≡ message_of v.materials v.size v.id v.taken
 finishes v is = ap (λ (w : SealingValue). given_so_far v ++ w.out) (finished_on v is.on) ∙ sym (last_held v is.wide is.handed)
@@ -172,16 +172,16 @@ begin_fed m declared size id wide = record {
 }
 
 -- more frames of a text
-frames_add : (u : Under) (text : List ℕ) (m count : ℕ) → regular_frames u text (m + count) ≡ regular_frames u text m ++ frames_behind u text m count
+frames_add : (size : ℕ) (u : Under) (text : List ℕ) (m count : ℕ) → regular_frames size u text (m + count) ≡ regular_frames size u text m ++ frames_behind size u text m count
 unfolding regular_frames frames_behind
-frames_add u text m count = flat_map_add (λ i. regular_frame u (i + 1) (piece u.frame text i)) m count
+frames_add size u text m count = flat_map_add (λ i. regular_frame u (i + 1) (piece size text i)) m count
 
-frames_since : (u : Under) (text taken more : List ℕ) (m n : ℕ) → text ≡ taken ++ more → m * u.frame ≤ length taken → m ≤ n
-    → regular_frames u text n ≡ regular_frames u taken m ++ frames_behind u text m (n - m)
-frames_since u text taken more m n is low few =
+frames_since : (size : ℕ) (u : Under) (text taken more : List ℕ) (m n : ℕ) → text ≡ taken ++ more → m * size ≤ length taken → m ≤ n
+    → regular_frames size u text n ≡ regular_frames size u taken m ++ frames_behind size u text m (n - m)
+frames_since size u text taken more m n is low few =
     let e : n ≡ m + (n - m) = omega arith in
-    ap (regular_frames u text) e ∙ frames_add u text m (n - m)
-    ∙ ap (λ (l : List ℕ). l ++ frames_behind u text m (n - m)) (ap (λ (t : List ℕ). regular_frames u t m) is ∙ frames_front u taken more m low)
+    ap (regular_frames size u text) e ∙ frames_add size u text m (n - m)
+    ∙ ap (λ (l : List ℕ). l ++ frames_behind size u text m (n - m)) (ap (λ (t : List ℕ). regular_frames size u t m) is ∙ frames_front size u taken more m low)
 
 given_with : (v : SealingValue) (all : List ℕ) → IsFed v → (more : List ℕ) → take (most_taken v) all ≡ v.taken ++ more
     → given_so_far (fed_with v all) ≡ given_so_far v ++ out_with v all
@@ -191,8 +191,8 @@ given_with v all is more front =
     let are : AreGiven (length v.taken) v.size v.handed = subst (λ (m : ℕ). AreGiven (length v.taken) v.size m) (sym is.handed) (are_given (length v.taken) v.size is.wide) in
     let longer : length v.taken ≤ length text = omega (arith, ap length front, length-append v.taken more) in
     ap (λ (l : List ℕ). beginning v ++ l)
-    (frames_since (under_of v) text v.taken more v.handed (frames_given (length text) v.size) front are.low (given_more (length v.taken) v.size v.handed (length text) is.wide are longer))
-    ∙ sym (append_assoc (beginning v) (regular_frames (under_of v) v.taken v.handed) (out_with v all))
+    (frames_since v.size (under_of v) text v.taken more v.handed (frames_given (length text) v.size) front are.low (given_more (length v.taken) v.size v.handed (length text) is.wide are longer))
+    ∙ sym (append_assoc (beginning v) (regular_frames v.size (under_of v) v.taken v.handed) (out_with v all))
 
 whole_with : (v : SealingValue) (all : List ℕ) → IsFed v → refusal_with v all ≡ None → (take (most_taken v) all ≡ all) × IsFed (fed_with v all)
 whole_with v all is why =

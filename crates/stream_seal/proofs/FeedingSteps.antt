@@ -31,7 +31,7 @@ fed_with v all =
     record v { taken = take (most_taken v) all; handed = frames_given (length (take (most_taken v) all)) v.size; stopped = is_some (refusal_with v all); out = [] }
 
 abbrev pub out_with : SealingValue → List ℕ → List ℕ
-out_with v all = frames_behind (under_of v) (fed_with v all).taken v.handed ((fed_with v all).handed - v.handed)
+out_with v all = frames_behind v.size (under_of v) (fed_with v all).taken v.handed ((fed_with v all).handed - v.handed)
 
 pub refusal_is : (v : SealingValue) (piece : List ℕ) → feed_refusal v piece ≡ refusal_with v (v.taken ++ piece)
 unfolding feed_refusal
@@ -54,20 +54,20 @@ refusal_some v all refusal long why = let test : nat_le (length all) (most_taken
 
 -- ---- frames behind others
 
-pub frames_none : (u : Under) (text : List ℕ) (m count : ℕ) → count ≡ 0 → frames_behind u text m count ≡ []
+pub frames_none : (size : ℕ) (u : Under) (text : List ℕ) (m count : ℕ) → count ≡ 0 → frames_behind size u text m count ≡ []
 unfolding frames_behind
-frames_none u text m count none = rw none refl
+frames_none size u text m count none = rw none refl
 
-frames_next : (u : Under) (text : List ℕ) (m count : ℕ) → frames_behind u text m (suc count) ≡ regular_frame u (m + 1) (piece u.frame text m) ++ frames_behind u text (m + 1) count
+frames_next : (size : ℕ) (u : Under) (text : List ℕ) (m count : ℕ) → frames_behind size u text m (suc count) ≡ regular_frame u (m + 1) (piece size text m) ++ frames_behind size u text (m + 1) count
 unfolding frames_behind
-frames_next u text m count = flat_map-cons (λ i. regular_frame u (i + 1) (piece u.frame text i)) m (range_with_len (m + 1) count)
+frames_next size u text m count = flat_map-cons (λ i. regular_frame u (i + 1) (piece size text i)) m (range_with_len (m + 1) count)
 
 -- the next frame of a text is of the bytes held, where these are a full frame
-frame_held : (u : Under) (taken more : List ℕ) (m : ℕ) → m * u.frame ≤ length taken → length (drop (m * u.frame) taken) ≡ u.frame → piece u.frame (taken ++ more) m ≡ drop (m * u.frame) taken
-frame_held u taken more m low full =
-    ap (take u.frame) (drop-append-le (m * u.frame) taken more low)
-    ∙ take-append-le u.frame (drop (m * u.frame) taken) more (omega (arith, full))
-    ∙ take_all u.frame (drop (m * u.frame) taken) (omega (arith, full))
+frame_held : (size : ℕ) (taken more : List ℕ) (m : ℕ) → m * size ≤ length taken → length (drop (m * size) taken) ≡ size → piece size (taken ++ more) m ≡ drop (m * size) taken
+frame_held size taken more m low full =
+    ap (take size) (drop-append-le (m * size) taken more low)
+    ∙ take-append-le size (drop (m * size) taken) more (omega (arith, full))
+    ∙ take_all size (drop (m * size) taken) (omega (arith, full))
 
 -- what is taken begins with what was
 pub front_taken : (most : ℕ) (taken rest : List ℕ) → length taken ≤ most → take most (taken ++ rest) ≡ taken ++ take (most - length taken) rest
@@ -127,7 +127,7 @@ quiet_stop v rest refusal f some most does =
           ∙ ap (λ (m : ℕ). record v { taken = take (most_taken v) all; handed = m; stopped = true; out = [] }) (sym handed)
           ∙ ap (λ (o : Option Refusal). record v { taken = take (most_taken v) all; handed = frames_given (length (take (most_taken v) all)) v.size; stopped = is_some o; out = [] }) (sym why)
           ∙ sym (fed_is v rest);
-      none = out_is v rest ∙ frames_none (under_of v) (take (most_taken v) all) v.handed (frames_given (length (take (most_taken v) all)) v.size - v.handed) (omega (arith, handed));
+      none = out_is v rest ∙ frames_none v.size (under_of v) (take (most_taken v) all) v.handed (frames_given (length (take (most_taken v) all)) v.size - v.handed) (omega (arith, handed));
     }
 
 -- ---- a step that takes bytes
@@ -142,7 +142,7 @@ pub record CanTake (v : SealingValue) (rest : List ℕ) (count : ℕ) : Type 0 w
 given_quiet : (v : SealingValue) (more : List ℕ) → v.handed * v.size ≤ length v.taken → given_so_far (record v { taken = v.taken ++ more; out = [] }) ≡ given_so_far v ++ []
 unfolding given_so_far
 given_quiet v more low =
-    ap (λ (l : List ℕ). beginning v ++ l) (frames_front (under_of v) v.taken more v.handed low) ∙ sym (append-nil (beginning v ++ regular_frames (under_of v) v.taken v.handed))
+    ap (λ (l : List ℕ). beginning v ++ l) (frames_front v.size (under_of v) v.taken more v.handed low) ∙ sym (append-nil (beginning v ++ regular_frames v.size (under_of v) v.taken v.handed))
 
 one_at_most : (b : Bool) → (if b then 1 else 0) ≤ 1
 one_at_most true = omega arith
@@ -184,8 +184,8 @@ given_frame : (v : SealingValue) → length (held v) ≡ v.size
     → given_so_far (record v { handed = v.handed + 1; out = regular_frame (under_of v) (v.handed + 1) (held v) }) ≡ given_so_far v ++ regular_frame (under_of v) (v.handed + 1) (held v)
 unfolding given_so_far
 given_frame v full =
-    ap (λ (l : List ℕ). beginning v ++ l) (frames_more (under_of v) v.taken v.handed full)
-    ∙ sym (append_assoc (beginning v) (regular_frames (under_of v) v.taken v.handed) (regular_frame (under_of v) (v.handed + 1) (held v)))
+    ap (λ (l : List ℕ). beginning v ++ l) (frames_more v.size (under_of v) v.taken v.handed full)
+    ∙ sym (append_assoc (beginning v) (regular_frames v.size (under_of v) v.taken v.handed) (regular_frame (under_of v) (v.handed + 1) (held v)))
 
 gives : (v : SealingValue) (rest : List ℕ) → IsFeeding v rest → 1 ≤ length rest → length (held v) ≡ v.size → length v.taken < most_taken v → doing v rest ≡ Gives
     → StepsOn v rest (stepped v rest) 0
@@ -201,16 +201,16 @@ gives v rest f some full room does =
     let longer : length v.taken < length text = omega (arith, ap length front, length-append v.taken (take (most_taken v - length v.taken) rest), length-take (most_taken v - length v.taken) rest, room, some) in
     let later : v.handed + 1 ≤ frames_given (length text) v.size = given_next (length text) v.size v.handed f.wide (omega (arith, all, longer)) in
     let count : frames_given (length text) v.size - v.handed ≡ suc (frames_given (length text) v.size - (v.handed + 1)) = omega (arith, later) in
-    let content : piece v.size text v.handed ≡ held v = ap (λ (t : List ℕ). piece v.size t v.handed) front ∙ frame_held (under_of v) v.taken (take (most_taken v - length v.taken) rest) v.handed is.low full in
+    let content : piece v.size text v.handed ≡ held v = ap (λ (t : List ℕ). piece v.size t v.handed) front ∙ frame_held v.size v.taken (take (most_taken v - length v.taken) rest) v.handed is.low full in
     subst (λ (w : SealingValue). StepsOn v rest w 0) (sym is_now) (record {
       within = omega arith;
       feeding = record { wide = f.wide; on = f.on; short = f.short; stage = inr (record { none = record { some = omega arith; all = all }; more = some; room = room }) };
       same = fed_is now rest ∙ sym (fed_is v rest);
       same_refusal = refusal_is now rest ∙ sym (refusal_is v rest);
       out = out_is v rest
-          ∙ ap (frames_behind (under_of v) text v.handed) count
-          ∙ frames_next (under_of v) text v.handed (frames_given (length text) v.size - (v.handed + 1))
-          ∙ ap (λ (l : List ℕ). regular_frame (under_of v) (v.handed + 1) l ++ frames_behind (under_of v) text (v.handed + 1) (frames_given (length text) v.size - (v.handed + 1))) content
+          ∙ ap (frames_behind v.size (under_of v) text v.handed) count
+          ∙ frames_next v.size (under_of v) text v.handed (frames_given (length text) v.size - (v.handed + 1))
+          ∙ ap (λ (l : List ℕ). regular_frame (under_of v) (v.handed + 1) l ++ frames_behind v.size (under_of v) text (v.handed + 1) (frames_given (length text) v.size - (v.handed + 1))) content
           ∙ ap (λ (l : List ℕ). frame ++ l) (sym (out_is now rest));
       given = given_frame v full;
       less = omega (

@@ -16,22 +16,22 @@ piece_front frame text more i full =
     ∙ take-append-le frame (drop (i * frame) text) more (omega (arith, length-drop (i * frame) text))
 
 -- and so are the full frames
-pub frames_front : (u : Under) (text more : List ℕ) (m : ℕ) → m * u.frame ≤ length text → regular_frames u (text ++ more) m ≡ regular_frames u text m
+pub frames_front : (size : ℕ) (u : Under) (text more : List ℕ) (m : ℕ) → m * size ≤ length text → regular_frames size u (text ++ more) m ≡ regular_frames size u text m
 unfolding regular_frames
-frames_front u text more m full =
-    flat_map_same (λ i. regular_frame u (i + 1) (piece u.frame (text ++ more) i)) (λ i. regular_frame u (i + 1) (piece u.frame text i)) 0 m
+frames_front size u text more m full =
+    flat_map_same (λ i. regular_frame u (i + 1) (piece size (text ++ more) i)) (λ i. regular_frame u (i + 1) (piece size text i)) 0 m
     (λ k low high.
     let below : k + 1 ≤ m = omega arith in
-    let within : (k + 1) * u.frame ≤ m * u.frame = mul-le-mul_right u.frame below in
-    ap (regular_frame u (k + 1)) (piece_front u.frame text more k (omega arith)))
+    let within : (k + 1) * size ≤ m * size = mul-le-mul_right size below in
+    ap (regular_frame u (k + 1)) (piece_front size text more k (omega arith)))
 
 -- one frame more, of the bytes held
-pub frames_more : (u : Under) (text : List ℕ) (m : ℕ) → length (drop (m * u.frame) text) ≡ u.frame
-    → regular_frames u text (m + 1) ≡ regular_frames u text m ++ regular_frame u (m + 1) (drop (m * u.frame) text)
+pub frames_more : (size : ℕ) (u : Under) (text : List ℕ) (m : ℕ) → length (drop (m * size) text) ≡ size
+    → regular_frames size u text (m + 1) ≡ regular_frames size u text m ++ regular_frame u (m + 1) (drop (m * size) text)
 unfolding regular_frames
-frames_more u text m full =
-    flat_map_one (λ i. regular_frame u (i + 1) (piece u.frame text i)) m
-    ∙ ap (λ (l : List ℕ). regular_frames u text m ++ regular_frame u (m + 1) l) (take_all u.frame (drop (m * u.frame) text) (omega arith))
+frames_more size u text m full =
+    flat_map_one (λ i. regular_frame u (i + 1) (piece size text i)) m
+    ∙ ap (λ (l : List ℕ). regular_frames size u text m ++ regular_frame u (m + 1) l) (take_all size (drop (m * size) text) (omega arith))
 
 -- The first m frames of a text are full, and what is left of it is the content of one frame; this is empty only where the text is.
 pub record LeavesOne (frame : ℕ) (text : List ℕ) (m : ℕ) : Type 0 where
@@ -52,10 +52,10 @@ count_of frame text m wide leaves =
     count_unique (length text) frame (m + 1) wide is
 
 -- then the body is these frames and a final one
-pub body_of : (u : Under) (text : List ℕ) (m : ℕ) → 1 ≤ u.frame → LeavesOne u.frame text m
-    → framed_body u text ≡ regular_frames u text m ++ final_frame u (m + 1) (drop (m * u.frame) text)
+pub body_of : (size : ℕ) (u : Under) (text : List ℕ) (m : ℕ) → 1 ≤ size → LeavesOne size text m
+    → framed_body size u text ≡ regular_frames size u text m ++ final_frame u (m + 1) (drop (m * size) text)
 unfolding framed_body
-body_of u text m wide leaves =
+body_of size u text m wide leaves =
     let back : m + 1 - 1 ≡ m = omega arith in
-    ap (λ (n : ℕ). regular_frames u text (n - 1) ++ final_frame u n (drop ((n - 1) * u.frame) text)) (count_of u.frame text m wide leaves)
-    ∙ ap (λ (n : ℕ). regular_frames u text n ++ final_frame u (m + 1) (drop (n * u.frame) text)) back
+    ap (λ (n : ℕ). regular_frames size u text (n - 1) ++ final_frame u n (drop ((n - 1) * size) text)) (count_of size text m wide leaves)
+    ∙ ap (λ (n : ℕ). regular_frames size u text n ++ final_frame u (m + 1) (drop (n * size) text)) back

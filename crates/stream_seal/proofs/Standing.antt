@@ -128,23 +128,23 @@ stands_takes old v opened frame declared piece used stands on within is pushed_i
           ∙ sym (drop-append-le (v.handed * v.size) v.taken more stands.full);
     }
 
-abbrev pub under_with : List ℕ → List ℕ → ℕ → Under
-under_with key id size = record { key = key; id = id; frame = size }
+abbrev pub under_with : List ℕ → List ℕ → Under
+under_with key id = record { key = key; id = id }
 
-under_is : (old : Sealer) (v : SealingValue) → Stands old v → under_with old.key old.message_id v.size ≡ under_of v
+under_is : (old : Sealer) (v : SealingValue) → Stands old v → under_with old.key old.message_id ≡ under_of v
 under_is old v stands =
-    ap (λ (k : List ℕ). under_with k old.message_id v.size) stands.key ∙ ap (λ (i : List ℕ). under_with (derived Committing v.materials.key v.id) i v.size) stands.id
+    ap (λ (k : List ℕ). under_with k old.message_id) stands.key ∙ ap (λ (i : List ℕ). under_with (derived Committing v.materials.key v.id) i) stands.id
 
 -- a frame that is sealed as these words say is the session's
 sealed_is : (old : Sealer) (v : SealingValue) (opened : FrameValue) (seal : Under → ℕ → List ℕ → List ℕ) → Stands old v → v.stopped ≡ false → opened ≡ record old.frame { out = [] }
-    → seal (under_with old.key old.message_id v.size) old.number opened.text ≡ seal (under_of v) (v.handed + 1) (held v)
+    → seal (under_with old.key old.message_id) old.number opened.text ≡ seal (under_of v) (v.handed + 1) (held v)
 sealed_is old v opened seal stands on is =
     ap (λ (u : Under). seal u old.number opened.text) (under_is old v stands) ∙ ap (λ (n : ℕ). seal (under_of v) n opened.text) stands.number
     ∙ ap (λ (l : List ℕ). seal (under_of v) (v.handed + 1) l) (ap (λ (f : FrameValue). f.text) is ∙ stands.text on)
 
 -- a regular frame given
 pub stands_gives : (old : Sealer) (v : SealingValue) (opened frame : FrameValue) (number : ℕ) (piece : List ℕ) → Stands old v → v.stopped ≡ false → length (held v) ≡ v.size
-    → opened ≡ record old.frame { out = [] } → frame ≡ record opened { text = []; out = regular_frame (under_with old.key old.message_id v.size) old.number opened.text }
+    → opened ≡ record old.frame { out = [] } → frame ≡ record opened { text = []; out = regular_frame (under_with old.key old.message_id) old.number opened.text }
     → number ≡ old.number + 1 → Stands (record old { frame = frame; number = number }) (after_doing v piece Gives)
 stands_gives old v opened frame number piece stands on full is sealed_now next =
     let product : (v.handed + 1) * v.size ≡ v.handed * v.size + v.size = omega arith in
@@ -164,7 +164,7 @@ stands_gives old v opened frame number piece stands on full is sealed_now next =
 
 -- the final frame given
 pub stands_finished : (old : Sealer) (v : SealingValue) (opened frame : FrameValue) → Stands old v → v.stopped ≡ false
-    → opened ≡ record old.frame { out = [] } → frame ≡ record opened { text = []; out = final_frame (under_with old.key old.message_id v.size) old.number opened.text }
+    → opened ≡ record old.frame { out = [] } → frame ≡ record opened { text = []; out = final_frame (under_with old.key old.message_id) old.number opened.text }
     → Stands (record old { frame = frame; stopped = true }) (finished v)
 stands_finished old v opened frame stands on is sealed_now = subst (λ w. Stands (record old { frame = frame; stopped = true }) w) (sym (finished_on v on)) (record {
   header = stands.header;

@@ -44,16 +44,16 @@ fed v piece =
     record v { taken = text; handed = frames_given (length text) v.size; stopped = is_some (feed_refusal v piece); out = [] }
 
 -- so many regular frames of a text, behind the first m
-unfoldable pub frames_behind : Under → List ℕ → ℕ → ℕ → List ℕ
-frames_behind u text m count = flat_map (λ i. regular_frame u (i + 1) (piece u.frame text i)) (range_with_len m count)
+unfoldable pub frames_behind : ℕ → Under → List ℕ → ℕ → ℕ → List ℕ
+frames_behind size u text m count = flat_map (λ i. regular_frame u (i + 1) (piece size text i)) (range_with_len m count)
 
 -- what these steps give, one after another: the frames handed out since
 unfoldable pub fed_out : SealingValue → List ℕ → List ℕ
-fed_out v piece = frames_behind (under_of v) (fed v piece).taken v.handed ((fed v piece).handed - v.handed)
+fed_out v piece = frames_behind v.size (under_of v) (fed v piece).taken v.handed ((fed v piece).handed - v.handed)
 
 -- what was given from the start: the header with its tag, and the frames handed out
 unfoldable pub given_so_far : SealingValue → List ℕ
-given_so_far v = beginning v ++ regular_frames (under_of v) v.taken v.handed
+given_so_far v = beginning v ++ regular_frames v.size (under_of v) v.taken v.handed
 
 -- ---- sessions that are fed
 

@@ -63,7 +63,7 @@ pub record HoldsNone (v : SealingValue) : Type 0 where
 -- The bytes are the header with its tag and the frames handed out, which are regular, of the message of this text; more of it follows.
 pub record BeginsMessage (v : SealingValue) (text bytes : List ℕ) : Type 0 where
   pub few : v.handed < frame_count (length text) v.size
-  pub are : bytes ≡ beginning v ++ regular_frames (under_of v) text v.handed
+  pub are : bytes ≡ beginning v ++ regular_frames v.size (under_of v) text v.handed
   pub more : List ℕ
   pub front : message_of v.materials v.size v.id text ≡ bytes ++ more
 
@@ -84,7 +84,7 @@ pub record IsSealed (v : SealingValue) (ended : Bool) (given : List ℕ) : Type 
   pub going : ended ≡ false → HoldsSome v → BeginsMessage v v.taken given
   pub going_even : ended ≡ false → HoldsNone v → (x : ℕ) → BeginsMessage v (v.taken ++ x ∷ []) given
   pub whole : ended ≡ true → HoldsSome v → given ≡ message_of v.materials v.size v.id v.taken
-  pub whole_even : ended ≡ true → HoldsNone v → given ≡ beginning v ++ regular_frames (under_of v) v.taken v.handed ++ final_frame (under_of v) (v.handed + 1) []
+  pub whole_even : ended ≡ true → HoldsNone v → given ≡ beginning v ++ regular_frames v.size (under_of v) v.taken v.handed ++ final_frame (under_of v) (v.handed + 1) []
 
 -- After any calls of a session that began with these materials, this declared length, frame length and message id.
 pub record SealsAnyCutOf (begun : SealingValue) (events : List Event) : Type 0 where

@@ -33,7 +33,7 @@ beginning v = start_of v.materials v.size v.id
 
 -- what the frames stand under
 abbrev pub under_of : SealingValue → Under
-under_of v = under v.size v.materials.key v.id
+under_of v = under v.materials.key v.id
 
 -- the bytes that are held: those taken that aren't in a frame handed out
 abbrev pub held : SealingValue → List ℕ

@@ -1,6 +1,6 @@
 //! The buffer of one frame.
 
-ghost use Rattle.std.specs.Prelude.{◌≡◌, ◌+◌, ◌-◌, ◌^◌, ◌<◌, ◌≤◌, ℕ, [], ◌++◌, length, drop, vec_capacity, IfOk};
+ghost use Rattle.std.specs.Prelude.{◌≡◌, ◌+◌, ◌-◌, ◌^◌, ◌<◌, ◌≤◌, [], ◌++◌, length, drop, vec_capacity, IfOk};
 ghost use Rattle.frame_codec.specs.UnitAad.{iv_of};
 ghost use Rattle.frame_codec.specs.Written.{final_frame, regular_frame, sealed_unit};
 
@@ -119,10 +119,9 @@ impl FrameBuffer {
     #[tactic(auto, unfolding(frame_codec::specs::Written::regular_frame))]
     pub(crate) fn seal_regular(&mut self, key: &mut GcmKey, message_id: &[u8; 32], number: u32)
         requires open { self.old.out ≡ [] }
-        ensures sealed { (frame : ℕ) → self.new ≡ record self.old {
+        ensures sealed { self.new ≡ record self.old {
           text = [];
-          out = regular_frame (record { key = key.old; id = message_id.now; frame = frame }) number
-              self.old.text;
+          out = regular_frame (record { key = key.old; id = message_id.now }) number self.old.text;
         } }
         ensures same { key.new ≡ key.old }
     {
@@ -143,10 +142,9 @@ impl FrameBuffer {
     #[tactic(auto, unfolding(frame_codec::specs::Written::final_frame))]
     pub(crate) fn seal_final(&mut self, key: &mut GcmKey, message_id: &[u8; 32], number: u32)
         requires open { self.old.out ≡ [] }
-        ensures sealed { (frame : ℕ) → self.new ≡ record self.old {
+        ensures sealed { self.new ≡ record self.old {
           text = [];
-          out = final_frame (record { key = key.old; id = message_id.now; frame = frame }) number
-              self.old.text;
+          out = final_frame (record { key = key.old; id = message_id.now }) number self.old.text;
         } }
         ensures same { key.new ≡ key.old }
     {

@@ -4,7 +4,7 @@ use Rattle.frame_codec.proofs.laws.units_have_their_sizes.Goals as goal
 
 pub returns : goal.returns
 returns c = record {
-  read = λ u k p x next e. let size = frame_sized u k p x next e in (frame_content u k p x next e, size.0, size.1);
+  read = λ frame_length u k p x next e. let size = frame_sized frame_length u k p x next e in (frame_content frame_length u k p x next e, size.0, size.1);
   regular = length-regular_frame;
   last = length-final_frame;
   block = length-single_block;

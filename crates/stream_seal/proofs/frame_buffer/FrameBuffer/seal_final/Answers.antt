@@ -24,7 +24,7 @@ seal_behind-requires-clause-room c =
 
 pub returns-clause-sealed : goal.returns-clause-sealed
 unfolding final_frame
-returns-clause-sealed c = λ frame.
+returns-clause-sealed c =
     let bytes : List ℕ = c.self.inside.bytes.items in
     let text : List ℕ = c.args.self.now.text in
     let number : ℕ = c.args.number in

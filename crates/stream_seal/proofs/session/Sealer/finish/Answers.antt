@@ -16,4 +16,4 @@ pub returns-clause-stands : goal.returns-clause-stands
 returns-clause-stands c = λ v stands.
     rw c.seal_final.ensures.same
     (stands_finished c.args.self.now v c.go_on.new.self c.seal_final.new.self stands (sym stands.stopped ∙ c.if-self.false) c.go_on.ensures
-    (c.seal_final.ensures.sealed v.size))
+    c.seal_final.ensures.sealed)

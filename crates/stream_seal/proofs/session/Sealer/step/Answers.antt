@@ -72,9 +72,9 @@ returns-in-Some-number_after-clause-falls c = λ some.
     let quiet = ap (λ (f : FrameValue). f.size) c.go_on.ensures in
     let text = ap (λ (f : FrameValue). length f.text) c.go_on.ensures in
     gives_less c.args.self.now.frame c.seal_regular.new.self (length c.args.piece.now)
-    (omega (arith, ap (λ (f : FrameValue). f.size) (c.seal_regular.ensures.sealed 0), c.room-room.ensures.some))
+    (omega (arith, ap (λ (f : FrameValue). f.size) c.seal_regular.ensures.sealed, c.room-room.ensures.some))
     (omega (arith, quiet, text, c.room-room.ensures.room, c.room-room.ensures.short, c.if-room-gt0.false))
-    (ap (λ (f : FrameValue). f.text) (c.seal_regular.ensures.sealed 0))
+    (ap (λ (f : FrameValue). f.text) c.seal_regular.ensures.sealed)
 
 pub returns-in-Some-number_after-clause-answer : goal.returns-in-Some-number_after-clause-answer
 returns-in-Some-number_after-clause-answer c = λ v stands.
@@ -93,7 +93,7 @@ returns-in-Some-number_after-clause-stands c = λ v stands.
     rw c.seal_regular.ensures.same
     (stands_after _ v c.args.piece.now _ (doing_gives v c.args.piece.now goes full (λ last. next.more (stands.number ∙ last)))
     (stands_gives c.args.self.now v c.go_on.new.self c.seal_regular.new.self c.in-Some-number_after.next c.args.piece.now stands goes.on full c.go_on.ensures
-    (c.seal_regular.ensures.sealed v.size) next.is))
+    c.seal_regular.ensures.sealed next.is))
 
 pub returns-in-None-clause-answer : goal.returns-in-None-clause-answer
 returns-in-None-clause-answer c = λ v stands.
