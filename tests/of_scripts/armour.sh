@@ -24,6 +24,8 @@ armoured_vectors() {
         as_text "in one line" one-line "$name"
         sed 's/$/\r/' armoured >returns
         as_text "with carriage returns" returns "$name"
+        base64 -w 64 "$file" >lines-of-64
+        as_text "in lines of 64" lines-of-64 "$name"
         base64 -w 1 "$file" >short-lines
         as_text "in lines of one character" short-lines "$name"
         "$ESDK" list <"$file" >listing
@@ -32,7 +34,7 @@ armoured_vectors() {
         if [ -e "$top/vectors/armoured/$name" ]; then
             want "$name: the text of vectors/armoured" cmp "$top/vectors/armoured/$name" armoured
         fi
-        rm -f "$name".* armoured one-line returns short-lines listing
+        rm -f "$name".* armoured one-line returns lines-of-64 short-lines listing
     done
 }
 
@@ -49,6 +51,11 @@ armoured_by_esdk() {
         want "$size bytes: the message is opened" cmp output text
         run "$ESDK" decrypt --keyring=key --armour <armoured
         want "$size bytes: the text is opened" cmp output text
+        for width in 0 16 60 64; do
+            base64 -w "$width" <message >other-lines
+            run "$ESDK" decrypt --keyring=key --armour <other-lines
+            want "$size bytes: the text is opened by lines of $width" cmp output text
+        done
     done
     "$ESDK" encrypt --keyring=key --armour <text | "$ESDK" decrypt --keyring=key --armour >output 2>report
     want "from one to the other" cmp output text

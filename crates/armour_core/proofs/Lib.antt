@@ -4,6 +4,7 @@ pub mod Lanes
 pub mod Outlooks
 pub mod Outputs
 pub mod Reachable
+pub mod ReadAtOnce
 pub mod ReadBack
 pub mod Readers
 pub mod Reading
@@ -14,6 +15,5 @@ pub mod Stepping
 pub mod Symbols
 pub mod Taking
 pub mod Whole
-pub mod WholeLines
 pub mod Wide
 pub mod Written

@@ -13,8 +13,9 @@
 //! What goes into an `ArmouredOutput` comes out of it as armour text, and an `UnarmouredSource` is
 //! a source of the bytes that the text of another one gives: so whoever puts and reads bytes puts
 //! and reads armour. `specs/ArmouredOutput.antt` says what a receiver gains then, and
-//! `specs/Outlook.antt` what is to come of a text, and how it ends. Both work on full lines, in
-//! vectors (`lines`, `vectors`), and only on the rest byte by byte.
+//! `specs/Outlook.antt` what is to come of a text, and how it ends. Both work in vectors (`lines`,
+//! `vectors`), on full lines and on the symbols of lines of any length, and only on the rest byte
+//! by byte.
 #![tactic(auto)]
 
 mod armour;

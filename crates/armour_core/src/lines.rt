@@ -1,10 +1,10 @@
-//! Full lines of base64, twelve bytes or 16 characters at a time.
+//! Lines of base64, twelve bytes or 16 characters at a time.
 
-ghost use Rattle.std.specs.Prelude.{◌≡◌, ◌+◌, ◌%◌, ◌≤◌, true, length, take};
+ghost use Rattle.std.specs.Prelude.{◌≡◌, ◌+◌, ◌*◌, ◌%◌, ◌≤◌, length, take};
 ghost use Rattle.armour_core.specs.ArmourText.{armour_text};
-ghost use Rattle.armour_core.specs.Sextets.{symbols_in};
+ghost use Rattle.armour_core.specs.Sextets.{AreGroups, symbols_in};
 
-use crate::vectors::{are_symbols, last_twelve, numbers, packed, sextets, symbols};
+use crate::vectors::{last_twelve, numbers, packed, sextets, symbol_groups, symbols};
 use std::simd::prelude::*;
 
 /// Writes the symbols of the twelve bytes from a place on, behind those of the bytes before it.
@@ -46,61 +46,84 @@ pub(crate) fn put_line_symbols(bytes: &[u8], text: &mut [u8])
     put_last_symbols(bytes, text);
 }
 
-/// Writes the twelve bytes of the 16 characters from a place on, behind those of the characters
-/// before it, and answers whether all of them are symbols. Four bytes behind them are written too.
+/// Writes the bytes of the four groups of characters behind the first ones, whose bytes stand at
+/// the front. Answers how many groups are read then: all before the first character that is no
+/// symbol. Four bytes behind these twelve are written too.
 #[inline(always)]
-fn put_bytes(characters: &[u8], from: usize, bytes: &mut [u8], to: usize) -> bool
-    requires within { from + 16 ≤ length characters.now }
-    requires room { to + 16 ≤ length bytes.old }
-    requires groups { to % 3 ≡ 0 }
-    requires front { symbols_in (take to bytes.old) ≡ take from characters.now }
-    ensures { result ≡ true → symbols_in (take (to + 12) bytes.new)
-        ≡ take (from + 16) characters.now }
+fn put_bytes(characters: &[u8], done: usize, bytes: &mut [u8]) -> usize
+    requires within { 4 * done + 16 ≤ length characters.now }
+    requires room { 3 * done + 16 ≤ length bytes.old }
+    requires front { AreGroups done characters.now bytes.old }
+    ensures groups { AreGroups result characters.now bytes.new }
+    ensures few { result ≤ done + 4 }
 {
-    let sixteen = u8x16::from_slice(&characters[from..]);
+    let sixteen = u8x16::from_slice(&characters[4 * done..]);
     let numbers = numbers(sixteen);
-    packed(numbers).copy_to_slice(&mut bytes[to..]);
-    are_symbols(sixteen, numbers)
+    packed(numbers).copy_to_slice(&mut bytes[3 * done..]);
+    done + symbol_groups(sixteen, numbers)
 }
 
-/// Writes the twelve bytes of the last 16 of 76 characters, behind those of the first 60, and
-/// answers whether all of them are symbols.
+/// The same where there is room for twelve bytes alone.
 #[inline(always)]
-fn put_last_bytes(characters: &[u8], bytes: &mut [u8]) -> bool
-    requires full { length characters.now ≡ 76 }
-    requires room { length bytes.old ≡ 57 }
-    requires front { symbols_in (take 45 bytes.old) ≡ take 60 characters.now }
-    ensures { result ≡ true → symbols_in bytes.new ≡ characters.now }
+fn put_twelve(characters: &[u8], done: usize, bytes: &mut [u8]) -> usize
+    requires within { 4 * done + 16 ≤ length characters.now }
+    requires room { 3 * done + 12 ≤ length bytes.old }
+    requires front { AreGroups done characters.now bytes.old }
+    ensures groups { AreGroups result characters.now bytes.new }
+    ensures few { result ≤ done + 4 }
 {
-    let sixteen = u8x16::from_slice(&characters[60..]);
+    let sixteen = u8x16::from_slice(&characters[4 * done..]);
     let numbers = numbers(sixteen);
     let twelve = packed(numbers).to_array();
-    bytes[45..57].copy_from_slice(&twelve[..12]);
-    are_symbols(sixteen, numbers)
+    bytes[3 * done..3 * done + 12].copy_from_slice(&twelve[..12]);
+    done + symbol_groups(sixteen, numbers)
 }
 
-/// Writes the 57 bytes of the 76 characters of a line, and answers whether all of them are
-/// symbols.
+/// Writes the bytes of the next 76 characters, or of the groups before the first of them that is
+/// no symbol, and answers how many groups these are.
 #[inline(always)]
-pub(crate) fn line_bytes(characters: &[u8], bytes: &mut [u8]) -> bool
-    requires full { length characters.now ≡ 76 }
-    requires room { length bytes.old ≡ 57 }
-    ensures { result ≡ true → symbols_in bytes.new ≡ characters.now }
+fn put_line_bytes(characters: &[u8], bytes: &mut [u8]) -> usize
+    requires within { 76 ≤ length characters.now }
+    requires room { 57 ≤ length bytes.old }
+    ensures groups { AreGroups result characters.now bytes.new }
+    ensures few { result ≤ 19 }
 {
-    if !put_bytes(characters, 0, bytes, 0) {
-        return false;
+    let first = put_bytes(characters, 0, bytes);
+    if first < 4 {
+        return first;
     }
-    if !put_bytes(characters, 16, bytes, 12) {
-        return false;
+    let second = put_bytes(characters, 4, bytes);
+    if second < 8 {
+        return second;
     }
-    if !put_bytes(characters, 32, bytes, 24) {
-        return false;
+    let third = put_bytes(characters, 8, bytes);
+    if third < 12 {
+        return third;
     }
-    if !put_bytes(characters, 48, bytes, 36) {
-        return false;
+    let fourth = put_bytes(characters, 12, bytes);
+    if fourth < 16 {
+        return fourth;
     }
-    // The last twelve, of which three were written before.
-    put_last_bytes(characters, bytes)
+    // The last four groups, of which one was read before.
+    put_twelve(characters, 15, bytes)
+}
+
+/// Writes the bytes of the next groups of characters, at most 19, up to the first character that
+/// is no symbol, and answers how many groups these are. None are read where fewer than 16
+/// characters are left, or there is room for fewer than twelve bytes.
+#[inline(always)]
+pub(crate) fn put_groups(characters: &[u8], bytes: &mut [u8]) -> usize
+    ensures groups { AreGroups result characters.now bytes.new }
+    ensures within { 4 * result ≤ length characters.now }
+    ensures room { 3 * result ≤ length bytes.old }
+{
+    if characters.len() >= 76 && bytes.len() >= 57 {
+        return put_line_bytes(characters, bytes);
+    }
+    if characters.len() >= 16 && bytes.len() >= 12 {
+        return put_twelve(characters, 0, bytes);
+    }
+    0
 }
 
 /// Writes the text of a line of 57 bytes: 76 symbols and a line feed.

@@ -1,25 +1,19 @@
 //! Armour text that is taken from a source in pieces, and read into a buffer.
 
-ghost use Rattle.std.specs.Prelude.{◌≡◌, ◌≢◌, ◌+◌, ◌^◌, ◌<◌, ◌≤◌, ℕ, List, [], None, Some, true, false, length, take, OnErr, OnOk};
+ghost use Rattle.std.specs.Prelude.{◌≡◌, ◌≢◌, ◌<◌, ◌≤◌, ℕ, List, [], None, Some, true, false, length, take, OnErr, OnOk};
 ghost use Rattle.esdk_fields.specs.Counts.{Rose};
 ghost use Rattle.whole_input.specs.Pieces.{most_input};
 ghost use Rattle.armour_core.specs.Unarmouring.{IsBadGroup};
 ghost use Rattle.armour_core.specs.declared.text_end.TextEnd.TheVariants.{TooLong};
 
-use crate::armour::LINE;
 use crate::base64_groups::is_character;
 use crate::errors::ArmourError;
-use crate::lines::line_bytes;
+use crate::lines::put_groups;
 use crate::text_end::TextEnd;
 use crate::unarmour::Unarmour;
 use esdk_base::{Failed, Source};
 use esdk_fields::Fault;
 use whole_input::{End, Pieces};
-
-/// How many characters a full line has, and how many groups of four these are.
-const LINE_CHARACTERS: usize = 76;
-
-const LINE_GROUPS: u64 = 19;
 
 /// Reads armour text that it takes from a source in pieces, until a group is bad, the text ends or
 /// 2^62 bytes of it were taken.
@@ -151,63 +145,43 @@ impl ArmourReader {
         }
     }
 
-    /// Whether a line may be read next: a group may begin here, and 76 bytes of the last piece are
-    /// left.
-    fn may_read_line(&self) -> bool
-        ensures read { result ≡ true → (pending self.now ≡ []) × (self.now.ending ≡ None) }
-        ensures line { result ≡ true → self.now.at + 76 ≤ length self.now.pieces.piece }
-        ensures fits { result ≡ true → self.now.at + 76 < 2 ^ 64 }
+    /// Whether groups may be read at once next: one may begin here, and some text of the last piece
+    /// is left.
+    fn may_read_groups(&self) -> bool
+        ensures read { result ≡ true → (pending self.now ≡ []) × (self.now.ending ≡ None)
+            × (self.now.at < length self.now.pieces.piece) }
         ensures between { result ≡ true → (self.now.unarmour.held ≡ 0)
             × (self.now.unarmour.padded ≡ false) }
     {
-        if !self.may_read() || !self.unarmour.is_between() {
-            return false;
-        }
-        self.pieces.piece().len() - self.at >= LINE_CHARACTERS
+        self.may_read() && self.unarmour.is_between()
     }
 
-    /// Hands the 57 bytes of the next 76 characters on, if all of them are symbols of base64, and
-    /// answers whether they are.
-    fn read_line(&mut self, out: &mut [u8]) -> bool
-        requires room { length out.old ≡ 57 }
-        ensures outlook { (text : List ℕ) → result ≡ true → reader_outlook self.old text
-            ≡ with_front out.new (reader_outlook self.new text) }
-        ensures pieces { self.new.pieces ≡ self.old.pieces }
-        ensures same { result ≡ false → self.new ≡ self.old }
-    {
-        if !self.may_read_line() {
-            return false;
-        }
-        let end = self.at + LINE_CHARACTERS;
-        if !line_bytes(&self.pieces.piece()[self.at..end], out) {
-            return false;
-        }
-        self.at = end;
-        self.unarmour.pass_groups(LINE_GROUPS);
-        self.pass_breaks();
-        true
-    }
-
-    /// Hands the bytes of whole lines on, as many as have room, and answers how many.
-    fn read_lines(&mut self, out: &mut [u8]) -> usize
+    /// Hands the bytes of the next groups on, up to those of a line, if all of their characters are
+    /// symbols of base64. Passes over the line breaks behind them, and answers how many bytes these
+    /// are.
+    fn read_groups(&mut self, out: &mut [u8]) -> usize
         ensures outlook { (text : List ℕ) → reader_outlook self.old text
             ≡ with_front (take result out.new) (reader_outlook self.new text) }
         ensures pieces { self.new.pieces ≡ self.old.pieces }
         ensures room { result ≤ length out.old }
         ensures none { result ≡ 0 → self.new ≡ self.old }
     {
-        let mut filled = 0;
-        while out.len() - filled >= LINE {
-            if !self.read_line(&mut out[filled..filled + LINE]) {
-                return filled;
-            }
-            filled += LINE;
+        if !self.may_read_groups() {
+            return 0;
         }
-        filled
+        let groups = put_groups(&self.pieces.piece()[self.at..], out);
+        if groups == 0 {
+            return 0;
+        }
+        self.at += 4 * groups;
+        self.unarmour.pass_groups(groups as u64);
+        self.pass_breaks();
+        3 * groups
     }
 
-    /// Hands bytes of the last piece on: those of whole lines, or else those of the next group that
-    /// gives some. Answers how many: none only where none are left or have room.
+    /// Hands bytes of the last piece on: those of groups that are read at once, or else those of
+    /// the next group that gives some. Answers how many: none only where none are left or have
+    /// room.
     fn fill_some(&mut self, out: &mut [u8]) -> usize
         ensures outlook { (text : List ℕ) → reader_outlook self.old text
             ≡ with_front (take result out.new) (reader_outlook self.new text) }
@@ -215,9 +189,9 @@ impl ArmourReader {
         ensures room { result ≤ length out.old }
         ensures some { 1 ≤ length (pending self.old) → 1 ≤ length out.old → 1 ≤ result }
     {
-        let lines = self.read_lines(out);
-        if lines > 0 {
-            return lines;
+        let count = self.read_groups(out);
+        if count > 0 {
+            return count;
         }
         if !self.has_some() {
             return 0;

@@ -1,7 +1,8 @@
 //! Numbers of six bits in vectors.
 
-ghost use Rattle.std.specs.Prelude.{◌≡◌, ℕ, ◌-◌, ◌<◌, map, length, take, drop, slice_index, true};
+ghost use Rattle.std.specs.Prelude.{◌≡◌, ℕ, ◌-◌, ◌*◌, ◌/◌, ◌<◌, ◌≤◌, map, length, take, drop, slice_index};
 ghost use Rattle.armour_core.specs.Sextets.{sextets_of, symbols_of};
+ghost use lib.Count.{count_trailing_zeros};
 
 use crate::widths::{double_word_bytes, double_words, word_bytes, words};
 use std::simd::prelude::*;
@@ -100,15 +101,30 @@ pub(crate) fn numbers(characters: u8x16) -> u8x16
     (shifts + characters) & u8x16::splat(63)
 }
 
-/// Whether these characters are the symbols of these numbers.
+/// How many groups of four of these characters, from the first on, are the symbols of these
+/// numbers: those before the first character that isn't.
 #[inline(always)]
-pub(crate) fn are_symbols(characters: u8x16, numbers: u8x16) -> bool
+pub(crate) fn symbol_groups(characters: u8x16, numbers: u8x16) -> usize
     requires sixteen { length characters ≡ 16 }
     requires long { length numbers ≡ 16 }
     requires small { (j : ℕ) → slice_index numbers j < 64 }
-    ensures { result ≡ true → symbols_of numbers ≡ characters }
+    ensures same { take (4 * result) (symbols_of numbers) ≡ take (4 * result) characters }
+    ensures few { result ≤ 4 }
 {
-    symbols(numbers).simd_ne(characters).to_bitmask() == 0
+    let others = symbols(numbers).simd_ne(characters).to_bitmask();
+    if others == 0 {
+        return 4;
+    }
+    groups_before(others)
+}
+
+/// How many groups of four lanes come before the first of these. It is no part of its caller, so
+/// that where all lanes are symbols the next ones need not wait for this number.
+#[inline(never)]
+fn groups_before(lanes: u64) -> usize
+    ensures { result ≡ count_trailing_zeros 64 lanes / 4 }
+{
+    lanes.trailing_zeros() as usize / 4
 }
 
 /// The twelve bytes of 16 numbers below 64, and four more.

@@ -1,6 +1,6 @@
 use Rattle.std.proofs.Common.{◌≡◌, length, slice_index, false, refl, sym, ap, subst, ◌<◌, ◌∙◌, arith}
 use Rattle.armour_core.specs.Unarmoured.{is_character}
-use Rattle.armour_core.proofs.WholeLines.{break_passed}
+use Rattle.armour_core.proofs.ReadAtOnce.{break_passed}
 use Rattle.armour_core.proofs.reader.ArmourReader.pass_breaks.Goals as goal
 
 pub loop-self-preserved : goal.loop-self-preserved

@@ -1,6 +1,6 @@
 use Rattle.std.proofs.Common.{sym, subst}
 use Rattle.armour_core.specs.GroupState.{IsGroupState}
-use Rattle.armour_core.proofs.WholeLines.{groups_passed}
+use Rattle.armour_core.proofs.ReadAtOnce.{groups_passed}
 use Rattle.armour_core.proofs.unarmour.Unarmour.pass_groups.Goals as goal
 
 pub invariant_of-self : goal.invariant_of-self

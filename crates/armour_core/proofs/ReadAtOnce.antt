@@ -1,5 +1,5 @@
--- Whole lines of a text that are read at once, and line breaks that are passed over.
-use Rattle.std.proofs.Common.{◌≡◌, ℕ, ◌+◌, ◌-◌, ◌/◌, ◌%◌, ◌^◌, ◌<◌, nat_le, min, Bool, false, List, [], ◌∷◌, ◌++◌, length, take, drop, slice_index, Option, Some, None, refl, sym, ap, ◌∙◌, arith, if◌then◌else◌}
+-- Groups of a text that are read at once, and line breaks that are passed over.
+use Rattle.std.proofs.Common.{◌≡◌, ℕ, ◌+◌, ◌-◌, ◌*◌, ◌/◌, ◌%◌, ◌^◌, ◌<◌, nat_le, min, Bool, false, List, [], ◌∷◌, ◌++◌, length, take, drop, slice_index, Option, Some, None, refl, sym, ap, ◌∙◌, arith, if◌then◌else◌}
 use Rattle.std.proofs.lemmas.List.{append_assoc, drop-drop, drop_more, take-append-drop}
 use Rattle.base64.specs.GeneralPurpose.{IsBytes}
 use Rattle.whole_input.specs.Pieces.{most_input}
@@ -49,7 +49,7 @@ break_passed r new text within is pieces at unarmour handed ending =
         (passed (slice_index r.pieces.piece r.at) (drop (r.at + 1) r.pieces.piece ++ T) is))
         ∙ ap (λ (x : List ℕ). read_out (open_of r.unarmour) (x ++ T) long) (sym left)
 
--- ---- lines
+-- ---- groups
 
 -- groups that were counted
 pub groups_passed : (group : List ℕ) (held number count : ℕ) (padded : Bool) → IsGroupState group held number padded → padded ≡ false → IsGroupState group held (min (number + count) (2 ^ 64 - 1)) padded
@@ -63,15 +63,15 @@ groups_passed group held number count padded state off = record {
   kept = state.kept;
 }
 
--- The groups of a line were counted, and nothing else changed.
-pub record PassedLine (u new : Unarmour) : Type 0 where
-  pub number : new.number ≡ min (u.number + 19) (2 ^ 64 - 1)
+-- So many groups were counted, and nothing else changed.
+pub record PassedGroups (count : ℕ) (u new : Unarmour) : Type 0 where
+  pub number : new.number ≡ min (u.number + count) (2 ^ 64 - 1)
   pub group : (new.group ≡ u.group) × (new.held ≡ u.held) × (new.padded ≡ u.padded)
   pub given : (new.bytes ≡ u.bytes) × (new.given ≡ u.given)
 
-pub line_outlook : (u new : Unarmour) (bytes more : List ℕ) (long : Bool) → IsBytes bytes → length bytes ≡ 57 → u.held ≡ 0 → u.padded ≡ false → PassedLine u new
+groups_outlook : (u new : Unarmour) (count : ℕ) (bytes more : List ℕ) (long : Bool) → IsBytes bytes → length bytes ≡ 3 * count → u.held ≡ 0 → u.padded ≡ false → PassedGroups count u new
     → read_out (open_of u) (symbols_in bytes ++ more) long ≡ with_front bytes (read_out (open_of new) more long)
-line_outlook u new bytes more long are full held padded line =
+groups_outlook u new count bytes more long are full held padded passed =
     let whole : length bytes % 3 ≡ 0 = omega (arith, full) in
     let text : List ℕ = symbols_in bytes in
     let q : OpenGroup = record { number = u.number; padded = false; held = [] } in
@@ -82,9 +82,9 @@ line_outlook u new bytes more long are full held padded line =
     let reads : read_on q (characters text) ≡ record { bytes = bytes; bad = None } = ap (read_on q) kept ∙ groups_in u.number bytes whole are in
     let opens : open_on q (characters text) ≡ record { number = u.number + length bytes / 3; padded = false; held = [] } = ap (open_on q) kept ∙ open_in u.number bytes whole in
     let same : SameGroup (open_on q (characters text)) (open_of new) = record {
-      number = let n = ap (λ (o : OpenGroup). o.number) opens in omega (arith, n, line.number, full);
-      padded = ap (λ (o : OpenGroup). o.padded) opens ∙ sym (line.group.2 ∙ padded);
-      held = ap (λ (o : OpenGroup). o.held) opens ∙ sym (ap (λ (n : ℕ). take n new.group) (line.group.1 ∙ held));
+      number = let n = ap (λ (o : OpenGroup). o.number) opens in omega (arith, n, passed.number, full);
+      padded = ap (λ (o : OpenGroup). o.padded) opens ∙ sym (passed.group.2 ∙ padded);
+      held = ap (λ (o : OpenGroup). o.held) opens ∙ sym (ap (λ (n : ℕ). take n new.group) (passed.group.1 ∙ held));
     } in
     ap (λ (o : OpenGroup). read_out o (text ++ more) long) is
     ∙ outlook_behind q text more long (ap (λ (r : GroupsRead). r.bad) reads)
@@ -95,22 +95,23 @@ goes_outlook : (r : ArmourReader) (text : List ℕ) → pending r ≡ [] → r.e
 unfolding reader_outlook
 goes_outlook r text handed goes = ap (λ (b : List ℕ). with_front b (coming r.ending r text)) handed ∙ ap (λ (e : Option TextEnd). coming e r text) goes
 
--- a line of the last piece
-pub line_read : (r new : ArmourReader) (line out text : List ℕ) → pending r ≡ [] → r.ending ≡ None → r.unarmour.held ≡ 0 → r.unarmour.padded ≡ false
-    → line ≡ take 76 (unread r) → symbols_in out ≡ line → IsBytes out → length out ≡ 57
-    → new.pieces ≡ r.pieces → new.at ≡ r.at + 76 → new.handed ≡ r.handed → new.ending ≡ r.ending → PassedLine r.unarmour new.unarmour
-    → reader_outlook r text ≡ with_front out (reader_outlook new text)
-line_read r new line out text handed goes held padded is good are full pieces at same_handed ending passed =
+-- groups of the last piece
+pub groups_read_at : (r new : ArmourReader) (count : ℕ) (bytes text : List ℕ) → pending r ≡ [] → r.ending ≡ None → r.unarmour.held ≡ 0 → r.unarmour.padded ≡ false
+    → symbols_in bytes ≡ take (4 * count) (unread r) → IsBytes bytes → length bytes ≡ 3 * count
+    → new.pieces ≡ r.pieces → new.at ≡ r.at + 4 * count → new.handed ≡ r.handed → new.ending ≡ r.ending → PassedGroups count r.unarmour new.unarmour
+    → reader_outlook r text ≡ with_front bytes (reader_outlook new text)
+groups_read_at r new count bytes text handed goes held padded good are full pieces at same_handed ending passed =
+    let n : ℕ = 4 * count in
     let T : List ℕ = take (room_of r) text in
     let long : Bool = nat_le (room_of r) (length text) in
     let none : pending new ≡ [] =
-    ap (λ (n : ℕ). drop n (take new.unarmour.given new.unarmour.bytes)) same_handed ∙ ap (λ (n : ℕ). drop r.handed (take n new.unarmour.bytes)) passed.given.1
+    ap (λ (k : ℕ). drop k (take new.unarmour.given new.unarmour.bytes)) same_handed ∙ ap (λ (k : ℕ). drop r.handed (take k new.unarmour.bytes)) passed.given.1
     ∙ ap (λ (b : List ℕ). drop r.handed (take r.unarmour.given b)) passed.given.0 ∙ handed in
-    let left : unread new ≡ drop 76 (unread r) = ap (λ (n : ℕ). drop n new.pieces.piece) at ∙ ap (λ p. drop (r.at + 76) p.piece) pieces ∙ sym (drop-drop 76 r.at r.pieces.piece) in
-    let cut : unread r ++ T ≡ symbols_in out ++ (unread new ++ T) =
-    ap (λ (x : List ℕ). x ++ T) (sym (take-append-drop 76 (unread r))) ∙ append_assoc (take 76 (unread r)) (drop 76 (unread r)) T
-    ∙ ap (λ (x : List ℕ). x ++ (drop 76 (unread r) ++ T)) (sym (good ∙ is)) ∙ ap (λ (x : List ℕ). symbols_in out ++ (x ++ T)) (sym left) in
+    let left : unread new ≡ drop n (unread r) = ap (λ (k : ℕ). drop k new.pieces.piece) at ∙ ap (λ p. drop (r.at + n) p.piece) pieces ∙ sym (drop-drop n r.at r.pieces.piece) in
+    let cut : unread r ++ T ≡ symbols_in bytes ++ (unread new ++ T) =
+    ap (λ (x : List ℕ). x ++ T) (sym (take-append-drop n (unread r))) ∙ append_assoc (take n (unread r)) (drop n (unread r)) T
+    ∙ ap (λ (x : List ℕ). x ++ (drop n (unread r) ++ T)) (sym good) ∙ ap (λ (x : List ℕ). symbols_in bytes ++ (x ++ T)) (sym left) in
     goes_outlook r text handed goes ∙ ap (λ (x : List ℕ). read_out (open_of r.unarmour) x long) cut
-    ∙ line_outlook r.unarmour new.unarmour out (unread new ++ T) long are full held padded passed
-    ∙ ap (λ p. with_front out (read_out (open_of new.unarmour) (unread new ++ take (most_input - p.taken) text) (nat_le (most_input - p.taken) (length text)))) (sym pieces)
-    ∙ ap (with_front out) (sym (goes_outlook new text none (ending ∙ goes)))
+    ∙ groups_outlook r.unarmour new.unarmour count bytes (unread new ++ T) long are full held padded passed
+    ∙ ap (λ p. with_front bytes (read_out (open_of new.unarmour) (unread new ++ take (most_input - p.taken) text) (nat_le (most_input - p.taken) (length text)))) (sym pieces)
+    ∙ ap (with_front bytes) (sym (goes_outlook new text none (ending ∙ goes)))
