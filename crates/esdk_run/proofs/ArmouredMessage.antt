@@ -1,5 +1,5 @@
 -- A message that goes into an armoured output over a sink.
-use Rattle.std.proofs.Common.{◌≡◌, ◌∙◌, ℕ, ◌+◌, ◌≤◌, Bool, true, false, List, [], ◌++◌, length, take, Result, IfErr, OnOk, refl, sym, ap, subst, arith}
+use Rattle.std.proofs.Common.{◌≡◌, ◌∙◌, ℕ, ◌+◌, ◌≤◌, Bool, true, false, List, [], ◌++◌, length, take, Result, IfErr, OnOk, sym, ap, subst, arith}
 use Rattle.std.proofs.lemmas.List.{append_assoc, length-append}
 use Rattle.std.proofs.lemmas.Result.{on_ok_weaker, IfErr-weaker}
 use Rattle.std.proofs.Math.Seq.{take-append-add}
@@ -218,10 +218,6 @@ ends_untouched asked input taken gains entropy spent from to unasked errors.Memo
 
 -- ---- how the writing of an armoured message ended
 
--- what is so of the value behind a reference that was lent is so of the one that came back
-pub along : {R : Type 0} (So : R → Type 0) (back now : R) → So now → back ≡ now → So back
-along So back now so is = subst So (sym is) so
-
 module _ {R : Type 0} (state : R → SinkState) (before : R) (old mid : ArmouredOutput R) (asked : Asked) (input taken : SourceState) (entropy spent : EntropyState) where
   -- the receiver is lent by the same name still
   pub lent_done : Encrypts asked input taken (armour_gaining state old mid) entropy spent → mid.output.ghost_name ≡ old.output.ghost_name
@@ -233,28 +229,34 @@ module _ {R : Type 0} (state : R → SinkState) (before : R) (old mid : Armoured
       ends_so (armour_gaining state old mid) (mid.output.ghost_name ≡ old.output.ghost_name) (λ extent bytes took. took.0) (λ extent first all beyond. beyond.failed.0 ∙ beyond.taken.0)
       input taken asked entropy spent (same × (mid ≡ old)) unasked error (λ both. ap (λ (a : ArmouredOutput R). a.output.ghost_name) both.1) ends
 
-  module _ (empty : held_of old.armour ≡ []) (is : old.output.now ≡ before) where
+  -- `back` is the receiver that came back
+  module _ (empty : held_of old.armour ≡ []) (is : old.output.now ≡ before) (back : R) where
     -- it ended early
     pub armour_ends : (same unasked : Type 0) (error : EncryptError) → EncryptEnds asked input taken (armour_gaining state old mid) entropy spent (same × (mid ≡ old)) unasked error
-        → EncryptEnds asked input taken (gained_as as_armour (state before) (state mid.output.now)) entropy spent (same × (mid.output.now ≡ before)) unasked error
-    armour_ends same unasked error ends =
+        → back ≡ mid.output.now → EncryptEnds asked input taken (gained_as as_armour (state before) (state back)) entropy spent (same × (back ≡ before)) unasked error
+    armour_ends same unasked error ends is_back =
         let gains : Gaining = gained_as as_armour (state old.output.now) (state mid.output.now) in
-        subst (λ (b : R). EncryptEnds asked input taken (gained_as as_armour (state b) (state mid.output.now)) entropy spent (same × (mid.output.now ≡ b)) unasked error) is
+        subst (λ (o : R). EncryptEnds asked input taken (gained_as as_armour (state before) (state o)) entropy spent (same × (o ≡ before)) unasked error) (sym is_back)
+        (subst (λ (b : R). EncryptEnds asked input taken (gained_as as_armour (state b) (state mid.output.now)) entropy spent (same × (mid.output.now ≡ b)) unasked error) is
         (ends_untouched asked input taken gains entropy spent (same × (mid ≡ old)) (same × (mid.output.now ≡ old.output.now)) unasked error
         (λ both. (both.0, ap (λ (a : ArmouredOutput R). a.output.now) both.1))
-        (ends_as (armour_gaining state old mid) gains (front_gained state old mid empty) (stop_gained state old mid empty) input taken asked entropy spent (same × (mid ≡ old)) unasked error ends))
+        (ends_as (armour_gaining state old mid) gains (front_gained state old mid empty) (stop_gained state old mid empty) input taken asked entropy spent (same × (mid ≡ old)) unasked error ends)))
 
     -- the whole message was handed on, and then the last line, or not all of it
-    module _ (encrypts : Encrypts asked input taken (armour_gaining state old mid) entropy spent) (new : SinkState) where
-      pub armour_done : SinkTakes (state mid.output.now) new (armour_text (held_of mid.armour)) → Encrypts asked input taken (gained_as as_armour (state before) new) entropy spent
+    module _ (encrypts : Encrypts asked input taken (armour_gaining state old mid) entropy spent) (new : R) (is_back : back ≡ new) where
+      pub armour_done : SinkTakes (state mid.output.now) (state new) (armour_text (held_of mid.armour))
+          → Encrypts asked input taken (gained_as as_armour (state before) (state back)) entropy spent
       armour_done line =
-          subst (λ (b : R). Encrypts asked input taken (gained_as as_armour (state b) new) entropy spent) is
-          (encrypts_as (armour_gaining state old mid) (gained_as as_armour (state old.output.now) new) asked input taken entropy spent encrypts
-          (λ bytes took. whole_gained state old mid empty new bytes line took))
+          subst (λ (o : R). Encrypts asked input taken (gained_as as_armour (state before) (state o)) entropy spent) (sym is_back)
+          (subst (λ (b : R). Encrypts asked input taken (gained_as as_armour (state b) (state new)) entropy spent) is
+          (encrypts_as (armour_gaining state old mid) (gained_as as_armour (state old.output.now) (state new)) asked input taken entropy spent encrypts
+          (λ bytes took. whole_gained state old mid empty (state new) bytes line took)))
 
-      pub armour_undone : (untouched unasked : Type 0) → 1 ≤ asked.size → 1 ≤ length (armour_text (held_of mid.armour)) → SinkFails (state mid.output.now) new (armour_text (held_of mid.armour))
-          → EncryptEnds asked input taken (gained_as as_armour (state before) new) entropy spent untouched unasked (errors.Outside outsides.SinkFault)
+      pub armour_undone : (untouched unasked : Type 0) → 1 ≤ asked.size → 1 ≤ length (armour_text (held_of mid.armour))
+          → SinkFails (state mid.output.now) (state new) (armour_text (held_of mid.armour))
+          → EncryptEnds asked input taken (gained_as as_armour (state before) (state back)) entropy spent untouched unasked (errors.Outside outsides.SinkFault)
       armour_undone untouched unasked wide some line =
-          subst (λ (b : R). EncryptEnds asked input taken (gained_as as_armour (state b) new) entropy spent untouched unasked (errors.Outside outsides.SinkFault)) is
-          (encrypts_not (armour_gaining state old mid) (gained_as as_armour (state old.output.now) new) asked input taken entropy spent encrypts untouched unasked wide
-          (λ first all more are took. end_fails state old mid empty new some line first all more are took))
+          subst (λ (o : R). EncryptEnds asked input taken (gained_as as_armour (state before) (state o)) entropy spent untouched unasked (errors.Outside outsides.SinkFault)) (sym is_back)
+          (subst (λ (b : R). EncryptEnds asked input taken (gained_as as_armour (state b) (state new)) entropy spent untouched unasked (errors.Outside outsides.SinkFault)) is
+          (encrypts_not (armour_gaining state old mid) (gained_as as_armour (state old.output.now) (state new)) asked input taken entropy spent encrypts untouched unasked wide
+          (λ first all more are took. end_fails state old mid empty (state new) some line first all more are took)))

@@ -9,7 +9,7 @@ use Rattle.esdk_fields.specs.declared.refusals.Outside.TheVariants as outsides
 use Rattle.esdk_fields.specs.declared.refusals.Refusal.TheVariants as refusals
 use Rattle.esdk_args.specs.declared.pair_words.PairWord.{PairWord}
 use Rattle.esdk_args.specs.declared.request.EncryptWords.{EncryptWords}
-use Rattle.esdk_base.specs.Streams.{EntropyState, SinkState, SourceState}
+use Rattle.esdk_base.specs.Streams.{EntropyState, SourceState}
 use Rattle.context_codec.specs.Context.{KeyValue}
 use Rattle.context_codec.specs.KeySet.{AreAscendingKeys, with_keys}
 use Rattle.context_codec.proofs.KeySets.{AreAscendingKeys-with_keys, with_keys-from_nil}
@@ -109,29 +109,30 @@ chain_gives_none asked context tree left keys managers.Memory cause = tt
 abbrev asked_of_chain : EncryptWords → ManagerNow → ManagerNow → EncRequestValue → ℕ → Asked
 asked_of_chain asked old new r now = encryption_of (said_last old new) r now asked.frame asked.max_keys
 
--- What is asked of the chain is what the words ask for. The chain held the tree `node` and then `left`, of which `meaning` says what they mean.
+-- What is asked of the chain is what the words ask for, whose keys it requires. It held a tree and then `left`, of which `meaning` says what they mean.
 pub chain_says_more : {N : Type 0} (meaning : N → KeyringMeaning) (p q : N × List (List ℕ)) (r : EncRequestValue) (now : ℕ) (asked : EncryptWords)
-    (context : List KeyValue) (node left : N) → p ≡ (node, required_in asked.pairs) → r ≡ request_of context → left ≡ q.0
+    (context : List KeyValue) (left : N) → p.1 ≡ required_in asked.pairs → r ≡ request_of context → left ≡ q.0
     → SaysMore (encryption_of (said_last (chain (meaning p.0) p.1) (chain (meaning q.0) q.1)) r now asked.frame asked.max_keys)
-    (encrypt_asked asked context (meaning node) (meaning left))
-chain_says_more {N} meaning p q r now asked context node left is_p is_r is_left =
-    let keys : List (List ℕ) = required_in asked.pairs in
-    let more : SaysMore (asked_of_chain asked (chain (meaning node) keys) (chain (meaning q.0) q.1) (request_of context) now) (encrypt_asked asked context (meaning node) (meaning q.0)) =
+    (encrypt_asked asked context (meaning p.0) (meaning left))
+chain_says_more {N} meaning p q r now asked context left is_keys is_r is_left =
+    let tree : KeyringMeaning = meaning p.0 in
+    let later : ManagerNow = chain (meaning q.0) q.1 in
+    let more : SaysMore (asked_of_chain asked (chain tree (required_in asked.pairs)) later (request_of context) now) (encrypt_asked asked context tree (meaning q.0)) =
     record {
       wraps = refl;
-      gives = λ random m given. chain_gives asked context (meaning node) random m given.0;
-      gives_none = λ error cause. chain_gives_none asked context (meaning node) (meaning q.0) q.1 error cause;
+      gives = λ random m given. chain_gives asked context tree random m given.0;
+      gives_none = λ error cause. chain_gives_none asked context tree (meaning q.0) q.1 error cause;
       size = refl;
       max_keys = refl;
     } in
-    subst (λ (l : N). SaysMore (asked_of_chain asked (chain (meaning p.0) p.1) (chain (meaning q.0) q.1) r now) (encrypt_asked asked context (meaning node) (meaning l))) (sym is_left)
-    (subst (λ (v : N × List (List ℕ)). SaysMore (asked_of_chain asked (chain (meaning v.0) v.1) (chain (meaning q.0) q.1) r now) (encrypt_asked asked context (meaning node) (meaning q.0))) (sym is_p)
-    (subst (λ (s : EncRequestValue). SaysMore (asked_of_chain asked (chain (meaning node) keys) (chain (meaning q.0) q.1) s now) (encrypt_asked asked context (meaning node) (meaning q.0))) (sym is_r) more))
+    subst (λ (l : N). SaysMore (asked_of_chain asked (chain tree p.1) later r now) (encrypt_asked asked context tree (meaning l))) (sym is_left)
+    (subst (λ (keys : List (List ℕ)). SaysMore (asked_of_chain asked (chain tree keys) later r now) (encrypt_asked asked context tree (meaning q.0))) (sym is_keys)
+    (subst (λ (s : EncRequestValue). SaysMore (asked_of_chain asked (chain tree (required_in asked.pairs)) later s now) (encrypt_asked asked context tree (meaning q.0))) (sym is_r) more))
 
 -- what the chain leaves of its tree
-pub chain_goes : {N : Type 0} (meaning : N → KeyringMeaning) (p q : N × List (List ℕ)) (keys : List (List ℕ)) (node left : N) → p ≡ (node, keys) → left ≡ q.0
-    → Went (chain (meaning p.0) p.1) (chain (meaning q.0) q.1) → TreeGoes (meaning node) (meaning left)
-chain_goes {N} meaning p q keys node left is_p is_left went =
+pub chain_goes : {N : Type 0} (meaning : N → KeyringMeaning) (p q : N × List (List ℕ)) (left : N) → left ≡ q.0
+    → Went (chain (meaning p.0) p.1) (chain (meaning q.0) q.1) → TreeGoes (meaning p.0) (meaning left)
+chain_goes {N} meaning p q left is_left went =
     let on : TreeGoes (meaning p.0) (meaning q.0) = record {
       keys = same_keys (meaning p.0).keys (meaning q.0).keys went.tells (went.same refl);
       wraps = went.goes.wraps;
@@ -140,7 +141,7 @@ chain_goes {N} meaning p q keys node left is_p is_left went =
       later = went.goes.later;
       still = went.goes.still;
     } in
-    subst (λ (l : N). TreeGoes (meaning node) (meaning l)) (sym is_left) (subst (λ (v : N × List (List ℕ)). TreeGoes (meaning v.0) (meaning q.0)) is_p on)
+    subst (λ (l : N). TreeGoes (meaning p.0) (meaning l)) (sym is_left) on
 
 -- what an encryption leaves of its manager plays no part
 ends_unasked : (asked : Asked) (input taken : SourceState) (gains : Gaining) (entropy spent : EntropyState) (untouched unasked : Type 0) (error : EncryptError)
@@ -198,15 +199,16 @@ abbrev tree_answers : List (List ℕ) → KeyringMeaning → KeyringMeaning → 
 tree_answers required tree left = record { finds = TreeFinds required tree left; finds_none = TreeFindsNone required tree left }
 
 -- what the chain may answer, the tree may
-pub chain_allows : {N : Type 0} (now : ℕ) (meaning : N → KeyringMeaning) (p q : N × List (List ℕ)) (required : List (List ℕ)) (node left : N)
-    → p ≡ (node, required) → left ≡ q.0
+pub chain_allows : {N : Type 0} (now : ℕ) (meaning : N → KeyringMeaning) (p q : N × List (List ℕ)) (required : List (List ℕ)) (left : N)
+    → p.1 ≡ required → left ≡ q.0
     → Allows (answering_of (chain (meaning p.0) p.1) (chain (meaning q.0) q.1) now)
-    (record { finds = TreeFinds required (meaning node) (meaning left); finds_none = TreeFindsNone required (meaning node) (meaning left) })
-chain_allows {N} now meaning p q required node left is_p is_left =
-    let allows : Allows (answering_of (chain (meaning node) required) (chain (meaning q.0) q.1) now) (tree_answers required (meaning node) (meaning q.0)) =
+    (record { finds = TreeFinds required (meaning p.0) (meaning left); finds_none = TreeFindsNone required (meaning p.0) (meaning left) })
+chain_allows {N} now meaning p q required left is_keys is_left =
+    let tree : KeyringMeaning = meaning p.0 in
+    let allows : Allows (answering_of (chain tree required) (chain (meaning q.0) q.1) now) (tree_answers required tree (meaning q.0)) =
     record {
-      finds = λ request m finds. chain_finds required q.1 (meaning node) (meaning q.0) request m finds.0;
-      finds_none = λ request error finds. chain_finds_none required q.1 (meaning node) (meaning q.0) request error finds;
+      finds = λ request m finds. chain_finds required q.1 tree (meaning q.0) request m finds.0;
+      finds_none = λ request error finds. chain_finds_none required q.1 tree (meaning q.0) request error finds;
     } in
-    subst (λ (l : N). Allows (answering_of (chain (meaning p.0) p.1) (chain (meaning q.0) q.1) now) (tree_answers required (meaning node) (meaning l))) (sym is_left)
-    (subst (λ (v : N × List (List ℕ)). Allows (answering_of (chain (meaning v.0) v.1) (chain (meaning q.0) q.1) now) (tree_answers required (meaning node) (meaning q.0))) (sym is_p) allows)
+    subst (λ (l : N). Allows (answering_of (chain tree p.1) (chain (meaning q.0) q.1) now) (tree_answers required tree (meaning l))) (sym is_left)
+    (subst (λ (keys : List (List ℕ)). Allows (answering_of (chain tree keys) (chain (meaning q.0) q.1) now) (tree_answers required tree (meaning q.0))) (sym is_keys) allows)

@@ -1,5 +1,5 @@
 -- What is left where `encrypt` ends early.
-use Rattle.std.proofs.Common.{◌≡◌, ◌≢◌, ◌⊎◌, ◌≤◌, ◌∙◌, ℕ, List, Option, Some, Ok, inl, inr, sym, subst}
+use Rattle.std.proofs.Common.{◌≡◌, ◌≢◌, ◌⊎◌, ◌≤◌, ℕ, List, Option, Some, inl, inr, subst}
 use Rattle.std.specs.Prelude.{⊤}
 use Rattle.esdk_args.specs.declared.request.EncryptWords.{EncryptWords}
 use Rattle.esdk_fields.specs.declared.refusals.Outside.TheVariants as outsides
@@ -11,9 +11,9 @@ use Rattle.keyring_trait.specs.Materials.{EncMaterialsValue}
 use Rattle.keyring_trait.specs.Wrapping.{WrapKeyValue}
 use Rattle.esdk_encrypt.specs.declared.errors.EncryptError.{EncryptError}
 use Rattle.esdk_encrypt.specs.declared.errors.EncryptError.TheVariants as errors
-use Rattle.esdk_encrypt.specs.Encrypt.{EncryptEnds, EndsAfter, drawn_id, drawn_rest}
+use Rattle.esdk_encrypt.specs.Encrypt.{EncryptEnds, EndsAfter, drawn_id}
 use Rattle.esdk_encrypt.specs.Laws.{GainsFront}
-use Rattle.esdk_encrypt.specs.Told.{Writer, asked_by, materials_of}
+use Rattle.esdk_encrypt.specs.Told.{Writer, asked_by}
 use Rattle.esdk_encrypt.proofs.EarlyEnds.{leaves_front}
 use Rattle.esdk_encrypt.proofs.Telling.{ends_more}
 use Rattle.esdk_run.specs.ArmouredMessage.{form_of, output_gains}

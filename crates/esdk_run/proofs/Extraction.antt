@@ -23,7 +23,7 @@ use Rattle.esdk_decrypt.proofs.Readers.{answers_unlocking, never_fails}
 use Rattle.extract_core.specs.declared.errors.ExtractError.{ExtractError}
 use Rattle.extract_core.specs.declared.errors.ExtractError.TheVariants as errors
 use Rattle.extract_core.specs.Extracted.{ByteRange, Extraction, extracted}
-use Rattle.extract_core.specs.Extract.{ExtractEnds, Extracts, OnFile, UnlessMemory, most_read}
+use Rattle.extract_core.specs.Extract.{ExtractEnds, Extracts, UnlessMemory, most_read}
 use Rattle.extract_core.specs.Laws.{EndsAsItBegins, ExtractsOfWhole}
 use Rattle.extract_core.proofs.Judged.{extracts_whole}
 use Rattle.extract_core.proofs.Allowed.{extract_ends_allowed, extracts_allowed}
@@ -32,19 +32,19 @@ use Rattle.whole_input.specs.Pieces.{most_piece}
 use Rattle.esdk_report.specs.Report.{Reports}
 use Rattle.esdk_report.specs.declared.failure.Failure.{Failure}
 use Rattle.esdk_report.specs.declared.failure.Failure.TheVariants as failures
-use Rattle.esdk_run.specs.Extract.{ExtractFails, ExtractionFails, ExtractsRange, HasTreeFor, ReadsOfFile, as_decryption, extract_asked, extract_reader, no_limits, range_asked}
+use Rattle.esdk_run.specs.Extract.{ExtractFails, ExtractionFails, HasTreeFor, ReadsOfFile, as_decryption, extract_asked, extract_reader, no_limits, range_asked}
 use Rattle.esdk_run.specs.ExtractTold.{ComesBackBefore, ExtractsOfContent, ExtractsSoundRanges, GainsRange, NamesExtractFault, NothingFailsOf, ReadsFile, ReadsNoMore, SaysWhatItExtracts, WritesOfContent, extracted_by}
 use Rattle.esdk_run.specs.Failures.{extraction_failure}
-use Rattle.esdk_run.specs.FileReading.{FileFails}
 use Rattle.esdk_run.specs.Objects.{Objects, Unchanged}
 use Rattle.esdk_run.specs.Pairs.{context_in}
 use Rattle.esdk_run.specs.Prepared.{IsNotPrepared}
 use Rattle.esdk_run.specs.Run.{ExtractRuns, IsDone}
-use Rattle.esdk_run.specs.Told.{GivesTree, HoldsTree, IfNoneFailed, IsDoneOrMemory, IsLeft}
-use Rattle.esdk_run.specs.Trees.{HasTree, IsUntouched, Trees}
+use Rattle.esdk_run.specs.Told.{GivesTree, HoldsTree, IfNoneFailed, IsDoneOrMemory}
+use Rattle.esdk_run.specs.Trees.{IsUntouched, Trees}
 use Rattle.esdk_run.proofs.Files.{held_is_read, held_is_taken, no_read_fails}
 use Rattle.esdk_run.proofs.Given.{one_context, pairs_not_refused}
 use Rattle.esdk_run.proofs.Keys.{reader_allows}
+use Rattle.esdk_run.proofs.Preparing.{by_cause}
 use Rattle.esdk_run.proofs.Statuses.{fault_status, memory_status, not_done}
 use Rattle.esdk_run.proofs.TreesBack.{gives_held, left_is, none_is_some, told_then}
 
@@ -52,15 +52,9 @@ use Rattle.esdk_run.proofs.TreesBack.{gives_held, left_is, none_is_some, told_th
 
 pub extract_not_begun : (trees : Trees) (asked : ExtractWords) (before after : Objects) (unchanged : Unchanged) (failure : Failure)
     → IsNotPrepared trees asked.pairs asked.keyring before.shelf after.shelf unchanged.shelf failure → IsUntouched trees unchanged.output → ExtractFails trees asked before after unchanged failure
-extract_not_begun trees asked before after unchanged failures.NotRead cause same = absurd cause
-extract_not_begun trees asked before after unchanged (failures.BadNumber option) cause same = absurd cause
-extract_not_begun trees asked before after unchanged (failures.BadPair number) cause same = absurd cause
-extract_not_begun trees asked before after unchanged (failures.Fault fault) cause same = absurd cause
-extract_not_begun trees asked before after unchanged (failures.File refusal) cause same = (cause, same)
-extract_not_begun trees asked before after unchanged (failures.Outside outsides.ShelfFault) cause same = inl (cause, same)
-extract_not_begun trees asked before after unchanged (failures.Outside outside) cause same = absurd cause
-extract_not_begun trees asked before after unchanged (failures.Refusal refusal) cause same = (cause, same)
-extract_not_begun trees asked before after unchanged failures.Memory cause same = inl same
+extract_not_begun trees asked before after unchanged failure cause same =
+    by_cause trees asked.pairs asked.keyring before.shelf after.shelf unchanged.shelf (ExtractFails trees asked before after unchanged)
+    (λ refusal pairs. (pairs, same)) (λ refusal none. (none, same)) (λ none. inl (none, same)) (inl same) failure cause
 
 extraction_fails : (trees : Trees) (asked : ExtractWords) (before after : Objects) (unchanged : Unchanged) (error : ExtractError)
     → ExtractionFails trees asked before after unchanged.output error → ExtractFails trees asked before after unchanged (extraction_failure error)

@@ -1,5 +1,5 @@
 -- What a run keeps beside what follows from its course, command by command.
-use Rattle.std.proofs.Common.{◌≡◌, ℕ, List, Bool, ◌+◌, ◌≤◌, ◌^◌, Some, None, Ok, Err, true, false, refl, sym, subst, arith}
+use Rattle.std.proofs.Common.{◌≡◌, ℕ, List, ◌+◌, ◌≤◌, ◌^◌, Some, None, Ok, Err, true, false, refl, sym, subst, arith}
 use Rattle.std.specs.declared.option.Option.{Option}
 use Rattle.esdk_args.specs.declared.request.DecryptWords.{DecryptWords}
 use Rattle.esdk_args.specs.declared.request.EncryptWords.{EncryptWords}

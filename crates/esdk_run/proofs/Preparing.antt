@@ -1,5 +1,5 @@
 -- Why a file gives nothing, and why a command doesn't begin, by what its calls answer.
-use Rattle.std.proofs.Common.{◌≡◌, ℕ, List, Err, inl, refl, sym, ap, subst}
+use Rattle.std.proofs.Common.{◌≡◌, ℕ, List, None, Some, Err, inl, refl, sym, ap, subst}
 use Rattle.std.specs.declared.result.Result.{Result}
 use Rattle.context_codec.specs.declared.insert.PairError.{PairError}
 use Rattle.context_codec.specs.declared.insert.PairError.TheVariants as pairs
@@ -11,6 +11,7 @@ use Rattle.esdk_args.specs.declared.request.MigrateWords.{MigrateWords}
 use Rattle.esdk_base.specs.Streams.{ShelfState}
 use Rattle.esdk_fields.specs.declared.refusals.FileRefusal.{FileRefusal}
 use Rattle.esdk_fields.specs.declared.refusals.Outside.TheVariants as outsides
+use Rattle.esdk_fields.specs.declared.refusals.Refusal.{Refusal}
 use Rattle.job_file.specs.Found.{Reads}
 use Rattle.job_file.specs.JobFile.{JobFile}
 use Rattle.job_file.specs.Jobs.{jobs_of}
@@ -21,6 +22,9 @@ use Rattle.keyring_file.specs.Found.{wraps_of}
 use Rattle.keyring_file.specs.KeyFile.{FileAnswers, tree_of}
 use Rattle.keyring_file.specs.Migrate.{Migrates, migration}
 use Rattle.keyring_trait.specs.Keyring.{KeyringMeaning}
+use Rattle.keyring_trait.specs.Manager.{Went}
+use Rattle.multi_keyring.specs.declared.tree.Node.{Node}
+use Rattle.multi_keyring.specs.Tree.{tree_meaning}
 use Rattle.whole_input.specs.declared.file.FileError.{FileError}
 use Rattle.whole_input.specs.declared.file.FileError.TheVariants as files
 use Rattle.whole_input.specs.File.{FileCause}
@@ -33,9 +37,10 @@ use Rattle.esdk_run.specs.Failures.{file_failure, pairs_failure, tree_failure}
 use Rattle.esdk_run.specs.FileReading.{FileFails, ReadCause}
 use Rattle.esdk_run.specs.Migrate.{value_asked}
 use Rattle.esdk_run.specs.Objects.{Objects, Unchanged, same_streams}
-use Rattle.esdk_run.specs.Pairs.{GivesContext, RefusesPairs, context_in}
-use Rattle.esdk_run.specs.Prepared.{IsNotPrepared}
-use Rattle.esdk_run.specs.Trees.{IsUntouched, Trees, means, reading}
+use Rattle.esdk_run.specs.Pairs.{GivesContext, RefusesPairs, RefusesWordPairs, context_in}
+use Rattle.esdk_run.specs.Prepared.{IsNotPrepared, IsPrepared}
+use Rattle.esdk_run.specs.Trees.{HasNoTree, HasTree, IsUntouched, Trees, means, reading, trees_of}
+use Rattle.esdk_run.proofs.Chain.{chain, chain_goes}
 
 -- ---- files
 
@@ -104,30 +109,50 @@ tree_not_prepared has words name old new unread context (failures.Outside outsid
 tree_not_prepared has words name old new unread context (failures.Refusal refusal) given fails = absurd fails
 tree_not_prepared has words name old new unread context failures.Memory given fails = tt
 
+-- what is so for each reason is so for the one that there is
+pub by_cause : (has : Trees) (words : List PairWord) (name : List ℕ) (old new : ShelfState) (unread : Type 0) (So : Failure → Type 0)
+    → ((refusal : Refusal) → RefusesWordPairs words refusal unread → So (failures.Refusal refusal))
+    → ((refusal : FileRefusal) → HasNoTree has words name old new (failures.File refusal) → So (failures.File refusal))
+    → (HasNoTree has words name old new (failures.Outside outsides.ShelfFault) → So (failures.Outside outsides.ShelfFault))
+    → So failures.Memory → (failure : Failure) → IsNotPrepared has words name old new unread failure → So failure
+by_cause has words name old new unread So refused file shelf memory failures.NotRead cause = absurd cause
+by_cause has words name old new unread So refused file shelf memory (failures.BadNumber option) cause = absurd cause
+by_cause has words name old new unread So refused file shelf memory (failures.BadPair number) cause = absurd cause
+by_cause has words name old new unread So refused file shelf memory (failures.Fault fault) cause = absurd cause
+by_cause has words name old new unread So refused file shelf memory (failures.File refusal) cause = file refusal cause
+by_cause has words name old new unread So refused file shelf memory (failures.Outside outsides.ShelfFault) cause = shelf cause
+by_cause has words name old new unread So refused file shelf memory (failures.Outside outside) cause = absurd cause
+by_cause has words name old new unread So refused file shelf memory (failures.Refusal refusal) cause = refused refusal cause
+by_cause has words name old new unread So refused file shelf memory failures.Memory cause = memory
+
 -- then `encrypt` fails so, and leaves all but the shelf untouched
 pub encrypt_not_begun : (has : Trees) (asked : EncryptWords) (before after : Objects) (unchanged : Unchanged)
     (failure : Failure) → IsNotPrepared has asked.pairs asked.keyring before.shelf after.shelf unchanged.shelf failure
     → IsUntouched has (same_streams unchanged × unchanged.entropy) → EncryptFails has asked before after unchanged failure
-encrypt_not_begun has asked before after unchanged failures.NotRead cause same = absurd cause
-encrypt_not_begun has asked before after unchanged (failures.BadNumber option) cause same = absurd cause
-encrypt_not_begun has asked before after unchanged (failures.BadPair number) cause same = absurd cause
-encrypt_not_begun has asked before after unchanged (failures.Fault fault) cause same = absurd cause
-encrypt_not_begun has asked before after unchanged (failures.File refusal) cause same = (cause, same)
-encrypt_not_begun has asked before after unchanged (failures.Outside outsides.ShelfFault) cause same = (cause, same)
-encrypt_not_begun has asked before after unchanged (failures.Outside outside) cause same = absurd cause
-encrypt_not_begun has asked before after unchanged (failures.Refusal refusal) cause same = inl (cause, same)
-encrypt_not_begun has asked before after unchanged failures.Memory cause same = inl same
+encrypt_not_begun has asked before after unchanged failure cause same =
+    by_cause has asked.pairs asked.keyring before.shelf after.shelf unchanged.shelf (EncryptFails has asked before after unchanged)
+    (λ refusal pairs. inl (pairs, same)) (λ refusal none. (none, same)) (λ none. (none, same)) (inl same) failure cause
 
 -- and so does `decrypt`
 pub decrypt_not_begun : (has : Trees) (asked : DecryptWords) (before after : Objects) (unchanged : Unchanged)
     (failure : Failure) → IsNotPrepared has asked.pairs asked.keyring before.shelf after.shelf unchanged.shelf failure
     → IsUntouched has (same_streams unchanged) → DecryptFails has asked before after unchanged failure
-decrypt_not_begun has asked before after unchanged failures.NotRead cause same = absurd cause
-decrypt_not_begun has asked before after unchanged (failures.BadNumber option) cause same = absurd cause
-decrypt_not_begun has asked before after unchanged (failures.BadPair number) cause same = absurd cause
-decrypt_not_begun has asked before after unchanged (failures.Fault fault) cause same = absurd cause
-decrypt_not_begun has asked before after unchanged (failures.File refusal) cause same = (cause, same)
-decrypt_not_begun has asked before after unchanged (failures.Outside outsides.ShelfFault) cause same = (cause, same)
-decrypt_not_begun has asked before after unchanged (failures.Outside outside) cause same = absurd cause
-decrypt_not_begun has asked before after unchanged (failures.Refusal refusal) cause same = (cause, same)
-decrypt_not_begun has asked before after unchanged failures.Memory cause same = inl same
+decrypt_not_begun has asked before after unchanged failure cause same =
+    by_cause has asked.pairs asked.keyring before.shelf after.shelf unchanged.shelf (DecryptFails has asked before after unchanged)
+    (λ refusal pairs. (pairs, same)) (λ refusal none. (none, same)) (λ none. (none, same)) (inl same) failure cause
+
+-- ---- what a command has that began
+
+-- The words give a context, and the file a tree; of that this is left, when the chain of managers over it went so.
+pub has_tree : {P : Type 0} (meaning : P → KeyringMeaning) (plugs : List (Plug P)) (words : List PairWord) (name : List ℕ) (old new : ShelfState)
+    (context : List KeyValue) (p q : Node P × List (List ℕ)) (left : Node P)
+    → IsPrepared (trees_of meaning plugs None) words name old new context p.1 (tree_meaning meaning p.0)
+    → left ≡ q.0 → Went (chain (tree_meaning meaning p.0) p.1) (chain (tree_meaning meaning q.0) q.1)
+    → HasTree (trees_of meaning plugs (Some left)) words name old new context (tree_meaning meaning p.0) (tree_meaning meaning left)
+has_tree meaning plugs words name old new context p q left has is went = record {
+  given = has.given;
+  file = has.file;
+  lawful = has.lawful;
+  kept = refl;
+  goes = chain_goes (tree_meaning meaning) p q left is went;
+}

@@ -34,6 +34,7 @@ use Rattle.esdk_run.specs.Reseal.{HasFirst, HasSecond, ResealFails, ResealingFai
 use Rattle.esdk_run.specs.Run.{ResealRuns, TellsOrLacksMemory}
 use Rattle.esdk_run.specs.Trees.{IsUntouched, TreeGoes, Trees}
 use Rattle.esdk_run.proofs.Chain.{same_keys, where_some}
+use Rattle.esdk_run.proofs.Preparing.{by_cause}
 
 -- ---- the second tree
 
@@ -173,15 +174,9 @@ resealing_ran trees asked before after unchanged code given tree left between se
 pub reseal_not_begun : (trees : Trees) (asked : ResealWords) (before after : Objects) (unchanged : Unchanged)
     (failure : Failure) → IsNotPrepared trees asked.pairs asked.keyring before.shelf after.shelf unchanged.shelf failure
     → IsUntouched trees (untouched unchanged) → ResealFails trees asked before after unchanged failure
-reseal_not_begun trees asked before after unchanged failures.NotRead cause same = absurd cause
-reseal_not_begun trees asked before after unchanged (failures.BadNumber option) cause same = absurd cause
-reseal_not_begun trees asked before after unchanged (failures.BadPair number) cause same = absurd cause
-reseal_not_begun trees asked before after unchanged (failures.Fault fault) cause same = absurd cause
-reseal_not_begun trees asked before after unchanged (failures.File refusal) cause same = inl (cause, same)
-reseal_not_begun trees asked before after unchanged (failures.Outside outsides.ShelfFault) cause same = inl (cause, same)
-reseal_not_begun trees asked before after unchanged (failures.Outside outside) cause same = absurd cause
-reseal_not_begun trees asked before after unchanged (failures.Refusal refusal) cause same = inl (cause, same)
-reseal_not_begun trees asked before after unchanged failures.Memory cause same = inl same
+reseal_not_begun trees asked before after unchanged failure cause same =
+    by_cause trees asked.pairs asked.keyring before.shelf after.shelf unchanged.shelf (ResealFails trees asked before after unchanged)
+    (λ refusal pairs. inl (pairs, same)) (λ refusal none. inl (none, same)) (λ none. inl (none, same)) (inl same) failure cause
 
 -- and so does one whose second file gives no tree
 pub no_second : (trees : Trees) (asked : ResealWords) (before after : Objects) (unchanged : Unchanged) (given : List KeyValue) (tree : KeyringMeaning) (between : ShelfState)

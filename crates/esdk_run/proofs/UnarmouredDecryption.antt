@@ -1,6 +1,6 @@
 -- What decrypting an input comes to that is read as armour text, by how the decryption of what the
 -- text gives ended, and by the text's end.
-use Rattle.std.proofs.Common.{◌≡◌, ◌∙◌, ℕ, ◌-◌, ◌^◌, ◌<◌, true, false, List, Some, None, Ok, Err, refl, sym, ap, subst, inl, inr}
+use Rattle.std.proofs.Common.{◌≡◌, ℕ, true, List, Ok, Err, refl, ap, inl, inr}
 use Rattle.std.specs.Prelude.{IfErr, IfOk, ⊤}
 use Rattle.std.specs.declared.result.Result.{Result}
 use Rattle.esdk_fields.specs.declared.faults.Fault.{Fault}
@@ -8,9 +8,6 @@ use Rattle.esdk_fields.specs.declared.faults.Fault.TheVariants.{BadArmour, Trunc
 use Rattle.esdk_fields.specs.declared.refusals.Outside.TheVariants.{InputTooLong, SourceFault}
 use Rattle.esdk_base.specs.Streams.{SinkState, SourceState}
 use Rattle.whole_input.specs.Taken.{EndSeen}
-use Rattle.armour_core.specs.declared.reader.ArmourReader.{ArmourReader}
-use Rattle.armour_core.specs.ReaderLaws.{outlasts_none}
-use Rattle.armour_core.specs.ReaderOutlook.{Outlasts}
 use Rattle.context_codec.specs.Context.{KeyValue}
 use Rattle.header_codec.specs.declared.settings.Settings.{Settings}
 use Rattle.keyring_trait.specs.Manager.{ManagerNow}
@@ -18,18 +15,18 @@ use Rattle.keyring_trait.specs.Unlocking.{Unlocks}
 use Rattle.message_format.specs.Judgement.{judged}
 use Rattle.esdk_decrypt.specs.declared.errors.DecryptError.{DecryptError}
 use Rattle.esdk_decrypt.specs.declared.errors.DecryptError.TheVariants as errors
-use Rattle.esdk_decrypt.specs.Decrypt.{Asked, Decrypts, DecryptEnds, HasFault, Releases, asked_from, fault_of}
+use Rattle.esdk_decrypt.specs.Decrypt.{Asked, Decrypts, DecryptEnds, HasFault, asked_from, fault_of}
+use Rattle.esdk_run.specs.Failures.{decryption_failure}
 use Rattle.esdk_run.specs.UnarmouredDecrypt.{DecryptsAs, DecryptEndsAs, ReleasesSound, is_open}
-use Rattle.esdk_run.specs.UnarmouredEnd.{SeesAs}
 use Rattle.esdk_run.proofs.FormatFaults.{NamesFormat, cut_is_sound, never_armour, never_armour_before, never_cut, verdict_format}
-use Rattle.esdk_run.proofs.Unarmouring.{IsReading, end_decides, ends_whole, long_untold, reads_text, rose_text}
+use Rattle.esdk_run.proofs.Unarmouring.{IsOfBytes, ReadsOver, judged_sound, text_decides, text_ends, text_reads, text_whole}
 
 -- ---- bytes without a fault
 
 abbrev pub AllSound : Asked → SourceState → SourceState → SinkState → SinkState → Type 0
 AllSound asked seen read output put = ReleasesSound asked seen read output put (EndSeen seen read)
 
-pub front_sound : {asked : Asked} {seen read : SourceState} {output put : SinkState} → AllSound asked seen read output put
+front_sound : {asked : Asked} {seen read : SourceState} {output put : SinkState} → AllSound asked seen read output put
     → ReleasesSound asked seen read output put (λ bytes. ⊤)
 front_sound all = record { bytes = all.bytes; answer = all.answer; releases = all.releases; sound = all.sound; because = tt }
 
@@ -75,7 +72,7 @@ never_m27 old new now settings given seen read output put number has =
       | inr late ↦ never_armour (judged has.bytes settings has.answer).verdict number names late.1
     ]
 
-pub open_sound : (old new : ManagerNow) (now : ℕ) (settings : Settings) (given : List KeyValue) (seen read : SourceState) (output put : SinkState) (unwritten : Type 0)
+open_sound : (old new : ManagerNow) (now : ℕ) (settings : Settings) (given : List KeyValue) (seen read : SourceState) (output put : SinkState) (unwritten : Type 0)
     (r : Result (List KeyValue) DecryptError) → is_open r ≡ true → IfOk r (Decrypts (asked_from old new now settings given) seen read output put)
     → IfErr r (DecryptEnds (asked_from old new now settings given) seen read output put unwritten) → AllSound (asked_from old new now settings given) seen read output put
 open_sound old new now settings given seen read output put unwritten (Ok context) undecided done ends = whole_sound done
@@ -85,66 +82,47 @@ open_sound old new now settings given seen read output put unwritten (Err (error
 open_sound old new now settings given seen read output put unwritten (Err (errors.Outside outside)) undecided done ends = absurd (cc undecided)
 open_sound old new now settings given seen read output put unwritten (Err errors.Memory) undecided done ends = absurd (cc undecided)
 
--- ---- a fault stands in the bytes, or their source or the output fails
-
-pub passed_done : (asked : Asked) (input taken : SourceState) (output put : SinkState) (r : Result (List KeyValue) DecryptError) → is_open r ≡ false
-    → IfOk r (DecryptsAs true asked input taken output put)
-passed_done asked input taken output put (Ok context) shut = absurd (cc shut)
-passed_done asked input taken output put (Err error) shut = tt
-
-pub passed_ends : (old new : ManagerNow) (now : ℕ) (settings : Settings) (given : List KeyValue) (input mid : SourceState) (r s : ArmourReader) (f m : ℕ)
-    (seen read : SourceState) (output put : SinkState) (unwritten : Type 0) (result : Result (List KeyValue) DecryptError) → is_open result ≡ false
-    → IsReading input mid r s f m seen read → IfErr result (DecryptEnds (asked_from old new now settings given) seen read output put unwritten)
-    → IfErr result (DecryptEndsAs true (asked_from old new now settings given) input mid output put unwritten)
-passed_ends old new now settings given input mid r s f m seen read output put unwritten (Ok context) shut reading ends = tt
-passed_ends old new now settings given input mid r s f m seen read output put unwritten (Err (errors.Fault (BadArmour number))) shut reading has =
-    absurd (never_m27 old new now settings given seen read output put number has)
-passed_ends old new now settings given input mid r s f m seen read output put unwritten (Err (errors.Fault Truncated)) shut reading has = absurd (cc shut)
-passed_ends old new now settings given input mid r s f m seen read output put unwritten (Err (errors.Fault fault)) shut reading has =
-    reads_text input mid mid r s s f m m seen read _ reading (outlasts_none mid s m) has
-passed_ends old new now settings given input mid r s f m seen read output put unwritten (Err (errors.Outside SourceFault)) shut reading fails = (
-  rose_text input mid mid r s s f m m seen read reading (outlasts_none mid s m) fails.rose,
-  reads_text input mid mid r s s f m m seen read _ reading (outlasts_none mid s m)
-      (record { bytes = fails.bytes; answer = fails.answer; releases = fails.releases; sound = fails.sound; because = tt }),
+-- what is so of the bytes, by how their decryption ended
+ends_known : (old new : ManagerNow) (now : ℕ) (settings : Settings) (given : List KeyValue) (seen read : SourceState) (output put : SinkState) (unwritten : Type 0)
+    (error : DecryptError) → DecryptEnds (asked_from old new now settings given) seen read output put unwritten error
+    → IsOfBytes (decryption_failure error) seen read (is_open (Err error)) (ReleasesSound (asked_from old new now settings given) seen read output put (λ bytes. ⊤))
+ends_known old new now settings given seen read output put unwritten (errors.Fault (BadArmour number)) has = never_m27 old new now settings given seen read output put number has
+ends_known old new now settings given seen read output put unwritten (errors.Fault Truncated) has =
+    let all = cut_sound old new now settings given seen read output put has in (refl, record { bytes = all.bytes; came = all.releases.came; end = all.because })
+ends_known old new now settings given seen read output put unwritten (errors.Fault fault) has = tt
+ends_known old new now settings given seen read output put unwritten (errors.Outside SourceFault) fails =
+    (fails.rose, record { bytes = fails.bytes; answer = fails.answer; releases = fails.releases; sound = fails.sound; because = tt })
+ends_known old new now settings given seen read output put unwritten (errors.Outside InputTooLong) long = (
+  record { bytes = long.bytes; came = long.releases.came; most = long.most },
+  record { bytes = long.bytes; answer = long.answer; releases = long.releases; sound = long.sound; because = tt },
 )
-passed_ends old new now settings given input mid r s f m seen read output put unwritten (Err (errors.Outside InputTooLong)) shut reading long =
-    long_untold input mid mid r s s f m m seen read _ _ long.bytes reading (outlasts_none mid s m) long.releases.came long.most long
-    (record { bytes = long.bytes; answer = long.answer; releases = long.releases; sound = long.sound; because = tt })
-passed_ends old new now settings given input mid r s f m seen read output put unwritten (Err (errors.Outside outside)) shut reading fails =
-    reads_text input mid mid r s s f m m seen read _ reading (outlasts_none mid s m) fails
-passed_ends old new now settings given input mid r s f m seen read output put unwritten (Err errors.Memory) shut reading lacks =
-    reads_text input mid mid r s s f m m seen read _ reading (outlasts_none mid s m) lacks
+ends_known old new now settings given seen read output put unwritten (errors.Outside outside) fails = tt
+ends_known old new now settings given seen read output put unwritten errors.Memory lacks = tt
 
--- ---- the text is whole
+-- ---- the text that gives them
 
-pub whole_done : (asked : Asked) (input mid taken : SourceState) (r s t : ArmourReader) (f m n : ℕ) (seen read : SourceState) (output put : SinkState)
-    (result : Result (List KeyValue) DecryptError) → IsReading input mid r s f m seen read → Outlasts mid taken s t m n → SeesAs mid taken s t (Ok tt)
-    → IfOk result (Decrypts asked seen read output put) → IfOk result (DecryptsAs true asked input taken output put)
-whole_done asked input mid taken r s t f m n seen read output put (Ok context) reading out sees done = (
-  ends_whole input mid taken r s t f m seen read done.bytes reading done.releases.came done.end sees,
-  reads_text input mid taken r s t f m n seen read _ reading out done,
-)
-whole_done asked input mid taken r s t f m n seen read output put (Err error) reading out sees done = tt
+module _ (old new : ManagerNow) (now : ℕ) (settings : Settings) (given : List KeyValue) (input taken seen read : SourceState) (output put : SinkState) (unwritten : Type 0) where
+  abbrev asked : Asked
+  asked = asked_from old new now settings given
 
-pub whole_ends : (old new : ManagerNow) (now : ℕ) (settings : Settings) (given : List KeyValue) (input mid taken : SourceState) (r s t : ArmourReader) (f m n : ℕ)
-    (seen read : SourceState) (output put : SinkState) (unwritten : Type 0) (result : Result (List KeyValue) DecryptError) → is_open result ≡ true
-    → IsReading input mid r s f m seen read → Outlasts mid taken s t m n → SeesAs mid taken s t (Ok tt)
-    → IfErr result (DecryptEnds (asked_from old new now settings given) seen read output put unwritten)
-    → IfErr result (DecryptEndsAs true (asked_from old new now settings given) input taken output put unwritten)
-whole_ends old new now settings given input mid taken r s t f m n seen read output put unwritten (Ok context) undecided reading out sees ends = tt
-whole_ends old new now settings given input mid taken r s t f m n seen read output put unwritten (Err (errors.Fault Truncated)) undecided reading out sees has =
-    let all = cut_sound old new now settings given seen read output put has in (
-      ends_whole input mid taken r s t f m seen read all.bytes reading all.releases.came all.because sees,
-      reads_text input mid taken r s t f m n seen read _ reading out has,
-    )
-whole_ends old new now settings given input mid taken r s t f m n seen read output put unwritten (Err (errors.Fault fault)) undecided reading out sees has = absurd (cc undecided)
-whole_ends old new now settings given input mid taken r s t f m n seen read output put unwritten (Err (errors.Outside outside)) undecided reading out sees has = absurd (cc undecided)
-whole_ends old new now settings given input mid taken r s t f m n seen read output put unwritten (Err errors.Memory) undecided reading out sees has = absurd (cc undecided)
+  pub decrypted_text : (result : Result (List KeyValue) DecryptError) → ReadsOver input taken seen read (is_open result) (Ok tt) → IfOk result (Decrypts asked seen read output put)
+      → IfOk result (DecryptsAs true asked input taken output put)
+  decrypted_text (Ok context) over done = (
+    text_whole over refl (record { bytes = done.bytes; came = done.releases.came; end = done.end }),
+    text_reads over _ done,
+  )
+  decrypted_text (Err error) over done = tt
 
--- ---- it isn't
+  pub text_undone : (result : Result (List KeyValue) DecryptError) → ReadsOver input taken seen read (is_open result) (Ok tt)
+      → IfErr result (DecryptEnds asked seen read output put unwritten) → IfErr result (DecryptEndsAs true asked input taken output put unwritten)
+  text_undone (Ok context) over ends = tt
+  text_undone (Err error) over ends =
+      text_ends over _ _ _ (decryption_failure error) ends (ends_known old new now settings given seen read output put unwritten error ends)
 
-pub judged_ends : (asked : Asked) (input mid taken : SourceState) (r s t : ArmourReader) (f m n : ℕ) (seen read : SourceState) (output put : SinkState) (unwritten : Type 0)
-    (error : DecryptError) → IsReading input mid r s f m seen read → Outlasts mid taken s t m n → AllSound asked seen read output put → SeesAs mid taken s t (Err error)
-    → DecryptEndsAs true asked input taken output put unwritten error
-judged_ends asked input mid taken r s t f m n seen read output put unwritten error reading out all sees =
-    end_decides input mid taken r s t f m n seen read _ _ _ error reading out all.because.faults all (front_sound all) sees
+  -- the text's end decides
+  pub text_refused : (result : Result (List KeyValue) DecryptError) (error : DecryptError) → ReadsOver input taken seen read (is_open result) (Err error)
+      → IfOk result (Decrypts asked seen read output put) → IfErr result (DecryptEnds asked seen read output put unwritten)
+      → DecryptEndsAs true asked input taken output put unwritten error
+  text_refused result error over done ends =
+      let all = open_sound old new now settings given seen read output put unwritten result (judged_sound error over) done ends in
+      text_decides _ _ _ error over all.because.faults all (front_sound all)

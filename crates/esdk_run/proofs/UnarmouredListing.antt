@@ -8,10 +8,6 @@ use Rattle.esdk_fields.specs.declared.faults.Fault.TheVariants.{BadArmour, Trunc
 use Rattle.esdk_fields.specs.declared.refusals.Outside.TheVariants.{InputTooLong, SourceFault}
 use Rattle.esdk_fields.specs.Place.{start}
 use Rattle.esdk_base.specs.Streams.{OnTold, SinkState, SourceState}
-use Rattle.armour_core.specs.declared.reader.ArmourReader.{ArmourReader}
-use Rattle.armour_core.specs.Outlook.{text_outlook}
-use Rattle.armour_core.specs.ReaderLaws.{outlasts_none}
-use Rattle.armour_core.specs.ReaderOutlook.{Outlasts}
 use Rattle.header_codec.specs.Header.{HeaderValue}
 use Rattle.header_input.specs.Taking.{EndCame}
 use Rattle.esdk_decrypt.specs.declared.errors.DecryptError.{DecryptError}
@@ -21,11 +17,10 @@ use Rattle.esdk_report.specs.declared.failure.Failure.TheVariants as failures
 use Rattle.esdk_run.specs.Failures.{decryption_failure}
 use Rattle.esdk_run.specs.Run.{AgreesWith, EndsBy}
 use Rattle.esdk_run.specs.Unarmoured.{given_by, outlook_of}
-use Rattle.esdk_run.specs.UnarmouredEnd.{SeesAs}
 use Rattle.esdk_run.specs.UnarmouredList.{ListEndsAs, ListsAs, WantsHeader, wants_header}
 use Rattle.esdk_run.proofs.FormatFaults.{header_names, is_format}
 use Rattle.esdk_run.proofs.Statuses.{IsFault, fault_status, not_done}
-use Rattle.esdk_run.proofs.Unarmouring.{IsReading, end_decides, ends_whole, long_untold, of_told, on_told, reads_text, rose_text}
+use Rattle.esdk_run.proofs.Unarmouring.{IsOfBytes, ReadsOver, judged_sound, of_told, on_told, text_decides, text_ends, text_reads}
 
 -- ---- bytes that end within a header
 
@@ -46,57 +41,29 @@ never_m27 uncommitted number seen read has = elim has.came [
   | inr end ↦ (let same : BadArmour number ≡ Truncated = end.0 in cc same)
 ]
 
-wants : (uncommitted : Bool) (seen read : SourceState) → EndCame (limits_of uncommitted) seen read → WantsHeader uncommitted seen read
-wants uncommitted seen read came = record { bytes = came.bytes; came = came.came; wanting = came.wanting }
-
--- ---- the listing ends by itself
+-- ---- how a listing ended
 
 -- why a listing ended, and what it left
-abbrev pub Ended : Bool → Failure → SinkState → SinkState → Type 0 → SourceState → SourceState → Type 0
+abbrev Ended : Bool → Failure → SinkState → SinkState → Type 0 → SourceState → SourceState → Type 0
 Ended uncommitted failure output put unwritten seen read =
     IsListCause uncommitted failure seen read output put × LeavesOutput uncommitted failure seen read output put unwritten
 
-pub listed : (uncommitted : Bool) (input mid : SourceState) (r s : ArmourReader) (f m : ℕ) (seen read : SourceState) (old new : Option (List ℕ))
-    (result : Result (Unit {0}) Failure) → IsReading input mid r s f m seen read → OnOk result (Lists uncommitted seen read old new)
-    → OnOk result (ListsAs true uncommitted input mid old new)
-listed uncommitted input mid r s f m seen read old new (Ok done) reading lists = reads_text input mid mid r s s f m m seen read _ reading (outlasts_none mid s m) lists
-listed uncommitted input mid r s f m seen read old new (Err failure) reading lists = tt
-
-passed_failure : (uncommitted : Bool) (input mid : SourceState) (r s : ArmourReader) (f m : ℕ) (seen read : SourceState) (output put : SinkState) (unwritten : Type 0)
-    (failure : Failure) → wants_header (Err failure) ≡ false → IsReading input mid r s f m seen read → Ended uncommitted failure output put unwritten seen read
-    → ListEndsAs true uncommitted input mid output put unwritten failure
-passed_failure uncommitted input mid r s f m seen read output put unwritten (failures.Fault (BadArmour number)) shut reading ended =
-    absurd (never_m27 uncommitted number seen read ended.0)
-passed_failure uncommitted input mid r s f m seen read output put unwritten (failures.Fault Truncated) shut reading ended = absurd (cc shut)
-passed_failure uncommitted input mid r s f m seen read output put unwritten (failures.Fault fault) shut reading ended =
-    reads_text input mid mid r s s f m m seen read _ reading (outlasts_none mid s m) ended
-passed_failure uncommitted input mid r s f m seen read output put unwritten (failures.Outside SourceFault) shut reading ended = (
-  rose_text input mid mid r s s f m m seen read reading (outlasts_none mid s m) ended.0.rose,
-  reads_text input mid mid r s s f m m seen read _ reading (outlasts_none mid s m)
-      (record { bytes = ended.0.bytes; came = ended.0.came; wanting = ended.0.wanting }, ended.1),
+-- what is so of the bytes then
+ends_known : (uncommitted : Bool) (seen read : SourceState) (output put : SinkState) (unwritten : Type 0) (failure : Failure) → Ended uncommitted failure output put unwritten seen read
+    → IsOfBytes failure seen read (wants_header (Err failure)) (WantsHeader uncommitted seen read × unwritten)
+ends_known uncommitted seen read output put unwritten (failures.Fault (BadArmour number)) ended = never_m27 uncommitted number seen read ended.0
+ends_known uncommitted seen read output put unwritten (failures.Fault Truncated) ended =
+    let came = cut_came uncommitted seen read ended.0 in (refl, record { bytes = came.bytes; came = came.came; end = came.end })
+ends_known uncommitted seen read output put unwritten (failures.Outside SourceFault) ended =
+    (ended.0.rose, (record { bytes = ended.0.bytes; came = ended.0.came; wanting = ended.0.wanting }, ended.1))
+ends_known uncommitted seen read output put unwritten (failures.Outside InputTooLong) ended = (
+  record { bytes = ended.0.bytes; came = ended.0.came; most = ended.0.most },
+  (record { bytes = ended.0.bytes; came = ended.0.came; wanting = ended.0.wanting }, ended.1),
 )
-passed_failure uncommitted input mid r s f m seen read output put unwritten (failures.Outside InputTooLong) shut reading ended =
-    long_untold input mid mid r s s f m m seen read _ _ ended.0.bytes reading (outlasts_none mid s m) ended.0.came ended.0.most ended
-    (record { bytes = ended.0.bytes; came = ended.0.came; wanting = ended.0.wanting }, ended.1)
-passed_failure uncommitted input mid r s f m seen read output put unwritten (failures.Outside outside) shut reading ended =
-    reads_text input mid mid r s s f m m seen read _ reading (outlasts_none mid s m) ended
-passed_failure uncommitted input mid r s f m seen read output put unwritten failures.Memory shut reading ended =
-    reads_text input mid mid r s s f m m seen read _ reading (outlasts_none mid s m) ended
-passed_failure uncommitted input mid r s f m seen read output put unwritten failure shut reading ended = absurd ended.0
+ends_known uncommitted seen read output put unwritten failure ended = tt
 
-pub passed_ends : (uncommitted : Bool) (input mid : SourceState) (r s : ArmourReader) (f m : ℕ) (seen read : SourceState) (output put : SinkState) (unwritten : Type 0)
-    (result : Result (Unit {0}) Failure) → wants_header result ≡ false → IsReading input mid r s f m seen read
-    → IfErr result (λ failure. IsListCause uncommitted failure seen read output put)
-    → IfErr result (λ failure. LeavesOutput uncommitted failure seen read output put unwritten)
-    → IfErr result (ListEndsAs true uncommitted input mid output put unwritten)
-passed_ends uncommitted input mid r s f m seen read output put unwritten (Ok done) shut reading cause leaves = tt
-passed_ends uncommitted input mid r s f m seen read output put unwritten (Err failure) shut reading cause leaves =
-    passed_failure uncommitted input mid r s f m seen read output put unwritten failure shut reading (cause, leaves)
-
--- ---- the text's end is judged
-
--- the listing ended within a header
-pub is_cut : (uncommitted : Bool) (seen read : SourceState) (output put : SinkState) (unwritten : Type 0) (result : Result (Unit {0}) Failure) → wants_header result ≡ true
+-- it ended within a header
+is_cut : (uncommitted : Bool) (seen read : SourceState) (output put : SinkState) (unwritten : Type 0) (result : Result (Unit {0}) Failure) → wants_header result ≡ true
     → IfErr result (λ failure. IsListCause uncommitted failure seen read output put)
     → IfErr result (λ failure. LeavesOutput uncommitted failure seen read output put unwritten)
     → HasFault uncommitted Truncated seen read × unwritten
@@ -105,32 +72,33 @@ is_cut uncommitted seen read output put unwritten (Err (failures.Fault Truncated
 is_cut uncommitted seen read output put unwritten (Err (failures.Fault fault)) undecided cause leaves = absurd (cc undecided)
 is_cut uncommitted seen read output put unwritten (Err failure) undecided cause leaves = absurd (cc undecided)
 
-pub never_listed : (uncommitted : Bool) (input taken : SourceState) (old new : Option (List ℕ)) (result : Result (Unit {0}) Failure) → wants_header result ≡ true
-    → OnOk result (ListsAs true uncommitted input taken old new)
-never_listed uncommitted input taken old new (Ok done) undecided = absurd (cc undecided)
-never_listed uncommitted input taken old new (Err failure) undecided = tt
+-- ---- the text that gives the bytes
 
-pub whole_ends : (uncommitted : Bool) (input mid taken : SourceState) (r s t : ArmourReader) (f m n : ℕ) (seen read : SourceState) (output put : SinkState) (unwritten : Type 0)
-    (result : Result (Unit {0}) Failure) → wants_header result ≡ true → IsReading input mid r s f m seen read → Outlasts mid taken s t m n → SeesAs mid taken s t (Ok tt)
-    → HasFault uncommitted Truncated seen read × unwritten → IfErr result (ListEndsAs true uncommitted input taken output put unwritten)
-whole_ends uncommitted input mid taken r s t f m n seen read output put unwritten (Ok done) undecided reading out sees cut = tt
-whole_ends uncommitted input mid taken r s t f m n seen read output put unwritten (Err (failures.Fault Truncated)) undecided reading out sees cut =
-    let came = cut_came uncommitted seen read cut.0 in (
-      ends_whole input mid taken r s t f m seen read came.bytes reading came.came came.end sees,
-      reads_text input mid taken r s t f m n seen read _ reading out cut,
-    )
-whole_ends uncommitted input mid taken r s t f m n seen read output put unwritten (Err (failures.Fault fault)) undecided reading out sees cut = absurd (cc undecided)
-whole_ends uncommitted input mid taken r s t f m n seen read output put unwritten (Err failure) undecided reading out sees cut = absurd (cc undecided)
+module _ (uncommitted : Bool) (input taken seen read : SourceState) where
+  pub listed_text : (old new : Option (List ℕ)) (result : Result (Unit {0}) Failure) → ReadsOver input taken seen read (wants_header result) (Ok tt)
+      → OnOk result (Lists uncommitted seen read old new) → OnOk result (ListsAs true uncommitted input taken old new)
+  listed_text old new (Ok done) over lists = text_reads over _ lists
+  listed_text old new (Err failure) over lists = tt
 
-pub cut_counts : (uncommitted : Bool) (seen read : SourceState) → HasFault uncommitted Truncated seen read → read.faults ≡ seen.faults
-cut_counts uncommitted seen read has = (cut_came uncommitted seen read has).end.faults
+  module _ (output put : SinkState) (unwritten : Type 0) where
+    pub text_undone : (result : Result (Unit {0}) Failure) → ReadsOver input taken seen read (wants_header result) (Ok tt)
+        → IfErr result (λ failure. IsListCause uncommitted failure seen read output put)
+        → IfErr result (λ failure. LeavesOutput uncommitted failure seen read output put unwritten)
+        → IfErr result (ListEndsAs true uncommitted input taken output put unwritten)
+    text_undone (Ok done) over cause leaves = tt
+    text_undone (Err failure) over cause leaves =
+        text_ends over _ _ _ failure (cause, leaves) (ends_known uncommitted seen read output put unwritten failure (cause, leaves))
 
-pub judged_ends : (uncommitted : Bool) (input mid taken : SourceState) (r s t : ArmourReader) (f m n : ℕ) (seen read : SourceState) (output put : SinkState) (unwritten : Type 0)
-    (error : DecryptError) → IsReading input mid r s f m seen read → Outlasts mid taken s t m n → HasFault uncommitted Truncated seen read × unwritten → SeesAs mid taken s t (Err error)
-    → ListEndsAs true uncommitted input taken output put unwritten (decryption_failure error)
-judged_ends uncommitted input mid taken r s t f m n seen read output put unwritten error reading out cut sees =
-    let came = cut_came uncommitted seen read cut.0 in
-    end_decides input mid taken r s t f m n seen read _ _ _ error reading out came.end.faults cut (wants uncommitted seen read came, cut.1) sees
+    -- the text's end decides
+    pub text_refused : (result : Result (Unit {0}) Failure) (error : DecryptError) → ReadsOver input taken seen read (wants_header result) (Err error)
+        → IfErr result (λ failure. IsListCause uncommitted failure seen read output put)
+        → IfErr result (λ failure. LeavesOutput uncommitted failure seen read output put unwritten)
+        → ListEndsAs true uncommitted input taken output put unwritten (decryption_failure error)
+    text_refused result error over cause leaves =
+        let cut = is_cut uncommitted seen read output put unwritten result (judged_sound error over) cause leaves in
+        let came = cut_came uncommitted seen read cut.0 in
+        text_decides _ _ _ error over came.end.faults cut
+        (record { bytes = came.bytes; came = came.came; wanting = came.wanting }, cut.1)
 
 -- ---- the status agrees with the header of the input
 

@@ -1,5 +1,5 @@
 -- What is so of the bytes that an input gives, and then something else.
-use Rattle.std.proofs.Common.{◌≡◌, Bool, true, false, inl, inr}
+use Rattle.std.proofs.Common.{Bool, true, false, inl, inr}
 use Rattle.esdk_fields.specs.declared.faults.Fault.TheVariants.{BadArmour, Truncated}
 use Rattle.esdk_fields.specs.declared.refusals.Outside.TheVariants.{InputTooLong, SourceFault}
 use Rattle.esdk_base.specs.Streams.{SourceState}

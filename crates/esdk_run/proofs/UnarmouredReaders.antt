@@ -1,5 +1,5 @@
 -- What is decrypted of an input that may be read as armour, over a manager that may answer more.
-use Rattle.std.proofs.Common.{◌≡◌, ℕ, Bool, true, false, List, Ok, Err, refl}
+use Rattle.std.proofs.Common.{ℕ, Bool, true, false, List, Ok, Err}
 use Rattle.std.specs.Prelude.{IfErr, IfOk, ⊤}
 use Rattle.std.specs.declared.result.Result.{Result}
 use Rattle.esdk_fields.specs.declared.refusals.Outside.TheVariants.{ShelfFault}

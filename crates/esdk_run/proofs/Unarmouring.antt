@@ -1,22 +1,23 @@
 -- An input that is read as armour text, by what its source keeps.
-use Rattle.std.proofs.Common.{◌≡◌, ◌∙◌, ℕ, ◌+◌, ◌-◌, ◌^◌, ◌<◌, ◌≤◌, List, [], ◌++◌, length, Option, Some, None, Ok, Err, refl, sym, ap, subst, arith, inl, inr}
-use Rattle.std.specs.Prelude.{IfSome}
-use Rattle.std.specs.Prelude.{◌⊎◌}
+use Rattle.std.proofs.Common.{◌≡◌, ◌∙◌, ℕ, ◌-◌, ◌^◌, ◌<◌, ◌≤◌, Bool, true, false, List, [], ◌++◌, length, Option, Some, None, Ok, Err, refl, sym, ap, subst, arith, inl, inr}
+use Rattle.std.specs.Prelude.{IfSome, ⊤}
+use Rattle.std.specs.declared.result.Result.{Result}
 use Rattle.std.specs.Option.{option_map}
 use Rattle.std.proofs.lemmas.List.{length-append}
 use Rattle.whole_input.proofs.Coming.{came_none}
 use Rattle.std.specs.Io.KnownBytes.{Consumes, IsAtEnd}
-use Rattle.esdk_fields.specs.Counts.{Rose, RoseBy}
-use Rattle.esdk_fields.specs.declared.faults.Fault.TheVariants.{BadArmour}
+use Rattle.esdk_fields.specs.Counts.{Rose}
+use Rattle.esdk_fields.specs.declared.faults.Fault.TheVariants.{BadArmour, Truncated}
 use Rattle.esdk_fields.specs.declared.refusals.Outside.TheVariants.{InputTooLong, SourceFault}
 use Rattle.esdk_base.specs.Streams.{OnTold, SourceState}
 use Rattle.whole_input.specs.Pieces.{most_input}
 use Rattle.whole_input.specs.Taken.{Came, EndSeen, MostTaken}
 use Rattle.armour_core.specs.declared.reader.ArmourReader.{ArmourReader}
+use Rattle.armour_core.specs.declared.source.UnarmouredSource.{UnarmouredSource}
 use Rattle.armour_core.specs.declared.text_end.TextEnd.{TextEnd}
 use Rattle.armour_core.specs.declared.text_end.TextEnd.TheVariants.{Bad, TooLong, Whole}
 use Rattle.armour_core.specs.Outlook.{Outlook, text_outlook}
-use Rattle.armour_core.specs.ReaderLaws.{outlasts_more, outlasts_none}
+use Rattle.armour_core.specs.ReaderLaws.{outlasts_more}
 use Rattle.armour_core.specs.ReaderOutlook.{KeepsOutlook, Outlasts, ReadsOn, coming, pending, reader_outlook, told_end}
 use Rattle.armour_core.proofs.Sizes.{outlook_few}
 use Rattle.esdk_decrypt.specs.declared.errors.DecryptError.{DecryptError}
@@ -25,7 +26,7 @@ use Rattle.esdk_report.specs.declared.failure.Failure.{Failure}
 use Rattle.esdk_report.specs.declared.failure.Failure.TheVariants as failures
 use Rattle.esdk_run.specs.Failures.{decryption_failure}
 use Rattle.esdk_run.specs.Unarmoured.{EndsText, IsLongText, ReadsText, TextEnds, given_by}
-use Rattle.esdk_run.specs.UnarmouredEnd.{JudgesEnd, SeesAs, SeesEnd, left_of}
+use Rattle.esdk_run.specs.UnarmouredEnd.{SeesAs, SeesEnd, left_of}
 
 -- ---- what is told
 
@@ -39,173 +40,219 @@ of_told left P bytes is holds = subst (λ (l : Option (List ℕ)). OnTold l P) i
 
 -- ---- a source over the text
 
--- What is known of a source over an input's text that was just made.
-pub record IsBegun (input first : SourceState) (r : ArmourReader) (faults : ℕ) : Type 0 where
-  pub same : first ≡ input
+-- A source was made over an input's text, and was read; then the text was judged to its end where what was read of it is `sound`, and given back. `seen` and `read` are what the
+-- source told first and last.
+pub record ReadsOver (input taken seen read : SourceState) (sound : Bool) (judged : Result (Unit {0}) DecryptError) : Type 0 where
+  pub mid : SourceState
+  pub r : ArmourReader
+  pub s : ArmourReader
+  pub t : ArmourReader
+  pub f : ℕ
+  pub m : ℕ
+  pub n : ℕ
   pub outlook : (text : List ℕ) → reader_outlook r text ≡ text_outlook text
   pub none : r.pieces.taken ≡ 0
-  pub zero : faults ≡ 0
-
--- The source was seen as it began, and was read on.
-pub record IsReading (input mid : SourceState) (r s : ArmourReader) (f m : ℕ) (seen read : SourceState) : Type 0 where
-  pub first : SourceState
-  pub begun : IsBegun input first r f
-  pub outlasts : Outlasts first mid r s f m
-  pub seen_left : seen.left ≡ left_of first r
+  pub zero : f ≡ 0
+  pub first : Outlasts input mid r s f m
+  pub later : Outlasts mid taken s t m n
+  pub seen_left : seen.left ≡ left_of input r
   pub seen_faults : seen.faults ≡ f
   pub read_left : read.left ≡ left_of mid s
   pub read_faults : read.faults ≡ m
+  pub sees : sound ≡ true → m < 2 ^ 64 - 1 → SeesAs mid taken s t judged
+  pub passes : sound ≡ false → judged ≡ Ok tt
+
+-- what such a source tells and counts
+abbrev pub source_of : {S : Type 0} → (S → SourceState) → UnarmouredSource S → SourceState
+source_of state s = record { left = left_of (state s.text.now) s.reader; given = s.given; faults = s.faults }
+
+pub reads_over : {S : Type 0} (state : S → SourceState) (input back : S) (made read now : UnarmouredSource S) (called sound : Bool) (judged : Result (Unit {0}) DecryptError)
+    → made.text.now ≡ input → ((text : List ℕ) → reader_outlook made.reader text ≡ text_outlook text) → made.reader.pieces.taken ≡ 0 → made.faults ≡ 0
+    → Outlasts (state made.text.now) (state read.text.now) made.reader read.reader made.faults read.faults
+    → Outlasts (state read.text.now) (state now.text.now) read.reader now.reader read.faults now.faults
+    → called ≡ sound → (called ≡ true → read.faults < 2 ^ 64 - 1 → SeesAs (state read.text.now) (state now.text.now) read.reader now.reader judged)
+    → (called ≡ false → judged ≡ Ok tt) → back ≡ now.text.now
+    → ReadsOver (state input) (state back) (source_of state made) (source_of state read) sound judged
+reads_over {S} state input back made read now called sound judged text outlook none zero first later is sees passes is_back =
+    let all : ReadsOver (state made.text.now) (state now.text.now) (source_of state made) (source_of state read) sound judged = record {
+      mid = state read.text.now;
+      r = made.reader;
+      s = read.reader;
+      t = now.reader;
+      f = made.faults;
+      m = read.faults;
+      n = now.faults;
+      outlook = outlook;
+      none = none;
+      zero = zero;
+      first = first;
+      later = later;
+      seen_left = refl;
+      seen_faults = refl;
+      read_left = refl;
+      read_faults = refl;
+      sees = λ yes. sees (is ∙ yes);
+      passes = λ no. passes (is ∙ no);
+    } in
+    subst (λ (i : S). ReadsOver (state i) (state back) (source_of state made) (source_of state read) sound judged) text
+    (subst (λ (b : S). ReadsOver (state made.text.now) (state b) (source_of state made) (source_of state read) sound judged) (sym is_back) all)
+
+-- ---- helpers of the next section
 
 gives_left : (r : ArmourReader) (left : Option (List ℕ)) → ((text : List ℕ) → reader_outlook r text ≡ text_outlook text)
     → option_map (λ text. (reader_outlook r text).bytes) left ≡ given_by left
 gives_left r None outlook = refl
 gives_left r (Some text) outlook = ap (λ (o : Outlook). Some o.bytes) (outlook text)
 
--- what is seen at first is what the text gives
-pub seen_gives : (input mid : SourceState) (r s : ArmourReader) (f m : ℕ) (seen read : SourceState) → IsReading input mid r s f m seen read
-    → seen.left ≡ given_by input.left
-seen_gives input mid r s f m seen read reading =
-    reading.seen_left ∙ ap (λ (x : SourceState). left_of x r) reading.begun.same ∙ gives_left r input.left reading.begun.outlook
-
-pub seen_told : (input mid : SourceState) (r s : ArmourReader) (f m : ℕ) (seen read : SourceState) (text : List ℕ) → IsReading input mid r s f m seen read
-    → input.left ≡ Some text → seen.left ≡ Some (text_outlook text).bytes
-seen_told input mid r s f m seen read text reading is =
-    seen_gives input mid r s f m seen read reading ∙ ap (λ (l : Option (List ℕ)). given_by l) is
-
--- all of the text that was taken
-all_outlasts : (input mid taken : SourceState) (r s t : ArmourReader) (f m n : ℕ) (seen read : SourceState) → IsReading input mid r s f m seen read
-    → Outlasts mid taken s t m n → Outlasts input taken r t f n
-all_outlasts input mid taken r s t f m n seen read reading out =
-    subst (λ (x : SourceState). Outlasts x taken r t f n) reading.begun.same (outlasts_more reading.first mid taken r s t f m n reading.outlasts out)
-
-pub reads_text : (input mid taken : SourceState) (r s t : ArmourReader) (f m n : ℕ) (seen read : SourceState) (So : SourceState → SourceState → Type 0)
-    → IsReading input mid r s f m seen read → Outlasts mid taken s t m n → So seen read → ReadsText input taken So
-reads_text input mid taken r s t f m n seen read So reading out so =
-    let all = all_outlasts input mid taken r s t f m n seen read reading out in
-    record {
-      text = all.reads.text;
-      came = all.reads.came;
-      few = omega (arith, all.reads.taken, reading.begun.none, t.most);
-      seen = seen;
-      read = read;
-      gives = seen_gives input mid r s f m seen read reading;
-      stayed = λ still.
-          let kept : n ≡ f = all.stayed still in
-          omega (arith, kept, reading.begun.zero, reading.seen_faults, reading.read_faults, reading.outlasts.later, out.later);
-      so = so;
-    }
-
--- at most 2^62 bytes of the text are taken
-pub text_taken : (input mid taken : SourceState) (r s t : ArmourReader) (f m n : ℕ) (seen read : SourceState) → IsReading input mid r s f m seen read
-    → Outlasts mid taken s t m n → taken.given ≤ input.given + 2 ^ 62
-text_taken input mid taken r s t f m n seen read reading out =
-    let all = all_outlasts input mid taken r s t f m n seen read reading out in
-    omega (arith, all.reads.taken, reading.begun.none, t.most, all.reads.came.most)
-
--- where a read of the source failed, one of the text did
-pub rose_text : (input mid taken : SourceState) (r s t : ArmourReader) (f m n : ℕ) (seen read : SourceState) → IsReading input mid r s f m seen read
-    → Outlasts mid taken s t m n → Rose seen.faults read.faults → Rose input.faults taken.faults
-rose_text input mid taken r s t f m n seen read reading out rose =
-    let all = all_outlasts input mid taken r s t f m n seen read reading out in
-    all.failed (omega (arith, rose, reading.begun.zero, reading.seen_faults, reading.read_faults, out.later))
-
--- where no read failed, none of the text did
-none_failed : (input mid : SourceState) (r s : ArmourReader) (f m : ℕ) (seen read : SourceState) → IsReading input mid r s f m seen read
-    → read.faults ≡ seen.faults → mid.faults ≡ input.faults
-none_failed input mid r s f m seen read reading same =
-    let kept : m ≡ f = sym reading.read_faults ∙ same ∙ reading.seen_faults in
-    reading.outlasts.same kept (omega (arith, kept, reading.begun.zero)) ∙ ap (λ (x : SourceState). x.faults) reading.begun.same
-
-pub counts : (input mid : SourceState) (r s : ArmourReader) (f m : ℕ) (seen read : SourceState) → IsReading input mid r s f m seen read
-    → read.faults ≡ seen.faults → m < 2 ^ 64 - 1
-counts input mid r s f m seen read reading same =
-    omega (arith, reading.read_faults, same, reading.seen_faults, reading.begun.zero)
-
--- ---- how the text ends
-
--- the end that is told
-told_begun : (input first : SourceState) (r : ArmourReader) (f : ℕ) (text : List ℕ) → IsBegun input first r f → input.left ≡ Some text
-    → told_end first r ≡ Some (text_outlook text).end
-told_begun input first r f text begun is =
-    ap (λ (x : SourceState). told_end x r) begun.same ∙ ap (λ (l : Option (List ℕ)). option_map (λ t. (reader_outlook r t).end) l) is
-    ∙ ap (λ (o : Outlook). Some o.end) (begun.outlook text)
-
-told_mid : (input mid : SourceState) (r s : ArmourReader) (f m : ℕ) (seen read : SourceState) (text : List ℕ) → IsReading input mid r s f m seen read
-    → input.left ≡ Some text → told_end mid s ≡ Some (text_outlook text).end
-told_mid input mid r s f m seen read text reading is =
-    reading.outlasts.reads.end (text_outlook text).end (told_begun input reading.first r f text reading.begun is)
-
-pub ends_text : (input mid taken : SourceState) (r s : ArmourReader) (f m : ℕ) (seen read : SourceState) (end : TextEnd) → IsReading input mid r s f m seen read
-    → read.faults ≡ seen.faults → SeesEnd mid taken s end → EndsText input taken end
-ends_text input mid taken r s f m seen read end reading same sees = record {
-  told = on_told input.left (λ text. (text_outlook text).end ≡ end) (λ text is. sees.told (text_outlook text).end (told_mid input mid r s f m seen read text reading is));
-  faults = sees.faults ∙ none_failed input mid r s f m seen read reading same;
-}
-
 rest_none : (left : Option (List ℕ)) (all bytes : List ℕ) → Consumes (Some all) left bytes → IsAtEnd left → left ≡ Some []
 rest_none None all bytes none end = absurd none
 rest_none (Some rest) all bytes is end = ap (λ (b : List ℕ). Some b) end
-
--- behind all bytes that it gives
-pub ends_whole : (input mid taken : SourceState) (r s t : ArmourReader) (f m : ℕ) (seen read : SourceState) (bytes : List ℕ) → IsReading input mid r s f m seen read
-    → Came seen read bytes → EndSeen seen read bytes → SeesAs mid taken s t (Ok tt) → EndsText input taken Whole
-ends_whole input mid taken r s t f m seen read bytes reading came end sees = record {
-  told = on_told input.left (λ text. (text_outlook text).end ≡ Whole) (λ text is.
-      let seen_is : seen.left ≡ Some (text_outlook text).bytes = seen_told input mid r s f m seen read text reading is in
-      let none : read.left ≡ Some [] = rest_none read.left (text_outlook text).bytes bytes (subst (λ (l : Option (List ℕ)). Consumes l read.left bytes) seen_is came.consumed) end.end in
-      (sees.1 (sym reading.read_left ∙ none)).told (text_outlook text).end (told_mid input mid r s f m seen read text reading is));
-  faults = sees.0 ∙ none_failed input mid r s f m seen read reading end.faults;
-}
-
-is_long : (input mid taken : SourceState) (r s t : ArmourReader) (f m n : ℕ) (seen read : SourceState) → IsReading input mid r s f m seen read
-    → Outlasts mid taken s t m n → read.faults ≡ seen.faults → SeesEnd mid taken s TooLong → t.pieces.taken ≡ most_input → IsLongText input taken
-is_long input mid taken r s t f m n seen read reading out same sees taken_is =
-    let all = all_outlasts input mid taken r s t f m n seen read reading out in
-    let ends = ends_text input mid taken r s f m seen read TooLong reading same sees in
-    record {
-      text = all.reads.text;
-      came = all.reads.came;
-      most = record { faults = ends.faults; count = omega (arith, all.reads.taken, reading.begun.none, taken_is) };
-      told = ends.told;
-    }
-
--- what the text's end makes of bytes that have no fault
-pub end_decides : (input mid taken : SourceState) (r s t : ArmourReader) (f m n : ℕ) (seen read : SourceState) (So All Sound : SourceState → SourceState → Type 0)
-    (error : DecryptError) → IsReading input mid r s f m seen read → Outlasts mid taken s t m n → read.faults ≡ seen.faults → All seen read → Sound seen read
-    → SeesAs mid taken s t (Err error) → TextEnds (decryption_failure error) input taken So All Sound
-end_decides input mid taken r s t f m n seen read So All Sound (errors.Fault (BadArmour number)) reading out same all sound sees =
-    (ends_text input mid taken r s f m seen read (Bad number) reading same sees, reads_text input mid taken r s t f m n seen read All reading out all)
-end_decides input mid taken r s t f m n seen read So All Sound (errors.Outside SourceFault) reading out same all sound rose = (
-  (let kept = none_failed input mid r s f m seen read reading same in omega (arith, rose, kept)),
-  reads_text input mid taken r s t f m n seen read Sound reading out sound,
-)
-end_decides input mid taken r s t f m n seen read So All Sound (errors.Outside InputTooLong) reading out same all sound sees = (
-  inl (is_long input mid taken r s t f m n seen read reading out same sees.0 sees.1),
-  reads_text input mid taken r s t f m n seen read Sound reading out sound,
-)
-end_decides input mid taken r s t f m n seen read So All Sound (errors.Fault fault) reading out same all sound sees = absurd sees
-end_decides input mid taken r s t f m n seen read So All Sound (errors.Outside outside) reading out same all sound sees = absurd sees
-end_decides input mid taken r s t f m n seen read So All Sound errors.Memory reading out same all sound sees = absurd sees
-
--- ---- bytes that come to 2^62
 
 front_of : (left : Option (List ℕ)) (all bytes : List ℕ) → Consumes (Some all) left bytes → length bytes ≤ length all
 front_of None all bytes none = absurd none
 front_of (Some rest) all bytes is = let long : length all ≡ length (bytes ++ rest) = ap length is in omega (arith, long, length-append bytes rest)
 
--- a text that is told gives fewer
-pub long_untold : (input mid taken : SourceState) (r s t : ArmourReader) (f m n : ℕ) (seen read : SourceState) (So Sound : SourceState → SourceState → Type 0) (bytes : List ℕ)
-    → IsReading input mid r s f m seen read → Outlasts mid taken s t m n → Came seen read bytes → MostTaken seen read bytes → So seen read → Sound seen read
-    → (IsLongText input taken ⊎ ((input.left ≡ None) × ReadsText input taken So)) × ReadsText input taken Sound
-long_untold input mid taken r s t f m n seen read So Sound bytes reading out came most so sound =
-    (by_left input.left refl, reads_text input mid taken r s t f m n seen read Sound reading out sound)
-  where
-    by_left : (left : Option (List ℕ)) → input.left ≡ left → IsLongText input taken ⊎ ((input.left ≡ None) × ReadsText input taken So)
-    by_left None is = inr (is, reads_text input mid taken r s t f m n seen read So reading out so)
-    by_left (Some text) is =
-        let seen_is : seen.left ≡ Some (text_outlook text).bytes = seen_told input mid r s f m seen read text reading is in
-        let many : length bytes ≤ length (text_outlook text).bytes = front_of read.left (text_outlook text).bytes bytes (subst (λ (l : Option (List ℕ)). Consumes l read.left bytes) seen_is came.consumed) in
-        absurd (omega (arith, many, most.count, outlook_few text))
+always_sound : (sound : Bool) (judged : Result (Unit {0}) DecryptError) (error : DecryptError) → judged ≡ Err error → (sound ≡ false → judged ≡ Ok tt) → sound ≡ true
+always_sound true judged error is passes = refl
+always_sound false judged error is passes = let none : judged ≡ Ok tt = passes refl in absurd (cc none)
+
+-- ---- what is so of the text
+
+-- All bytes came that there are.
+pub record AllCame (seen read : SourceState) : Type 0 where
+  pub bytes : List ℕ
+  pub came : Came seen read bytes
+  pub end : EndSeen seen read bytes
+
+-- So many came that no more are taken.
+pub record MostCame (seen read : SourceState) : Type 0 where
+  pub bytes : List ℕ
+  pub came : Came seen read bytes
+  pub most : MostTaken seen read bytes
+
+-- What has to be so of the bytes for a command to end by this failure that read them: M27 isn't theirs, and M10 is behind all of them, which are sound.
+abbrev pub IsOfBytes : Failure → (seen read : SourceState) → (sound : Bool) → (Sound : Type 0) → Type 0
+IsOfBytes (failures.Fault (BadArmour number)) seen read sound Sound = ⊥
+IsOfBytes (failures.Fault Truncated) seen read sound Sound = (sound ≡ true) × AllCame seen read
+IsOfBytes (failures.Outside SourceFault) seen read sound Sound = Rose seen.faults read.faults × Sound
+IsOfBytes (failures.Outside InputTooLong) seen read sound Sound = MostCame seen read × Sound
+IsOfBytes failure seen read sound Sound = ⊤
+
+module _ {input taken seen read : SourceState} {sound : Bool} {judged : Result (Unit {0}) DecryptError} (x : ReadsOver input taken seen read sound judged) where
+  -- what is seen at first is what the text gives
+  seen_gives : seen.left ≡ given_by input.left
+  seen_gives = x.seen_left ∙ gives_left x.r input.left x.outlook
+
+  seen_told : (text : List ℕ) → input.left ≡ Some text → seen.left ≡ Some (text_outlook text).bytes
+  seen_told text is = seen_gives ∙ ap (λ (l : Option (List ℕ)). given_by l) is
+
+  -- all of the text that was taken
+  all_taken : Outlasts input taken x.r x.t x.f x.n
+  all_taken = outlasts_more input x.mid taken x.r x.s x.t x.f x.m x.n x.first x.later
+
+  pub text_reads : (So : SourceState → SourceState → Type 0) → So seen read → ReadsText input taken So
+  text_reads So so =
+      let all = all_taken in
+      record {
+        text = all.reads.text;
+        came = all.reads.came;
+        few = omega (arith, all.reads.taken, x.none, x.t.most);
+        seen = seen;
+        read = read;
+        gives = seen_gives;
+        stayed = λ still.
+            let kept : x.n ≡ x.f = all.stayed still in
+            omega (arith, kept, x.zero, x.seen_faults, x.read_faults, x.first.later, x.later.later);
+        so = so;
+      }
+
+  -- where a read of the source failed, one of the text did
+  rose_text : Rose seen.faults read.faults → Rose input.faults taken.faults
+  rose_text rose = all_taken.failed (omega (arith, rose, x.zero, x.seen_faults, x.read_faults, x.later.later))
+
+  -- where no read failed, none of the text did
+  none_failed : read.faults ≡ seen.faults → x.mid.faults ≡ input.faults
+  none_failed same =
+      let kept : x.m ≡ x.f = sym x.read_faults ∙ same ∙ x.seen_faults in
+      x.first.same kept (omega (arith, kept, x.zero))
+
+  -- and the end was judged as it is seen
+  sees_end : sound ≡ true → read.faults ≡ seen.faults → SeesAs x.mid taken x.s x.t judged
+  sees_end is same = x.sees is (omega (arith, x.read_faults, same, x.seen_faults, x.zero))
+
+  -- the end that is told
+  told_mid : (text : List ℕ) → input.left ≡ Some text → told_end x.mid x.s ≡ Some (text_outlook text).end
+  told_mid text is =
+      x.first.reads.end (text_outlook text).end
+      (ap (λ (l : Option (List ℕ)). option_map (λ t. (reader_outlook x.r t).end) l) is ∙ ap (λ (o : Outlook). Some o.end) (x.outlook text))
+
+  ends_text : (end : TextEnd) → read.faults ≡ seen.faults → SeesEnd x.mid taken x.s end → EndsText input taken end
+  ends_text end same sees = record {
+    told = on_told input.left (λ text. (text_outlook text).end ≡ end) (λ text is. sees.told (text_outlook text).end (told_mid text is));
+    faults = sees.faults ∙ none_failed same;
+  }
+
+  is_long : read.faults ≡ seen.faults → SeesEnd x.mid taken x.s TooLong → x.t.pieces.taken ≡ most_input → IsLongText input taken
+  is_long same sees taken_is =
+      let all = all_taken in
+      let ends = ends_text TooLong same sees in
+      record {
+        text = all.reads.text;
+        came = all.reads.came;
+        most = record { faults = ends.faults; count = omega (arith, all.reads.taken, x.none, taken_is) };
+        told = ends.told;
+      }
+
+  -- bytes that come to 2^62 are of a text that isn't told: one that is gives fewer
+  long_untold : (So : SourceState → SourceState → Type 0) → MostCame seen read → So seen read → (input.left ≡ None) × ReadsText input taken So
+  long_untold So long so = (by_left input.left refl, text_reads So so)
+    where
+      by_left : (left : Option (List ℕ)) → input.left ≡ left → input.left ≡ None
+      by_left None is = is
+      by_left (Some text) is =
+          let seen_is : seen.left ≡ Some (text_outlook text).bytes = seen_told text is in
+          let many : length long.bytes ≤ length (text_outlook text).bytes =
+          front_of read.left (text_outlook text).bytes long.bytes (subst (λ (l : Option (List ℕ)). Consumes l read.left long.bytes) seen_is long.came.consumed) in
+          absurd (omega (arith, many, long.most.count, outlook_few text))
+
+module _ {input taken seen read : SourceState} {sound : Bool} (x : ReadsOver input taken seen read sound (Ok tt)) where
+  -- the text is whole behind sound bytes of which all came
+  pub text_whole : sound ≡ true → AllCame seen read → EndsText input taken Whole
+  text_whole is all = record {
+    told = on_told input.left (λ text. (text_outlook text).end ≡ Whole) (λ text told.
+        let seen_is : seen.left ≡ Some (text_outlook text).bytes = seen_told x text told in
+        let none : read.left ≡ Some [] =
+        rest_none read.left (text_outlook text).bytes all.bytes (subst (λ (l : Option (List ℕ)). Consumes l read.left all.bytes) seen_is all.came.consumed) all.end.end in
+        ((sees_end x is all.end.faults).1 (sym x.read_left ∙ none)).told (text_outlook text).end (told_mid x text told));
+    faults = (sees_end x is all.end.faults).0 ∙ none_failed x all.end.faults;
+  }
+
+  -- a command ends by what it read
+  pub text_ends : (So All Sound : SourceState → SourceState → Type 0) (failure : Failure) → So seen read → IsOfBytes failure seen read sound (Sound seen read)
+      → TextEnds failure input taken So All Sound
+  text_ends So All Sound (failures.Fault (BadArmour number)) so known = absurd known
+  text_ends So All Sound (failures.Fault Truncated) so known = (text_whole known.0 known.1, text_reads x So so)
+  text_ends So All Sound (failures.Outside SourceFault) so known = (rose_text x known.0, text_reads x Sound known.1)
+  text_ends So All Sound (failures.Outside InputTooLong) so known = (inr (long_untold x So known.0 so), text_reads x Sound known.1)
+  text_ends So All Sound failure so known = text_reads x So so
+
+-- only behind sound bytes the text's end is an error
+pub judged_sound : {input taken seen read : SourceState} {sound : Bool} (error : DecryptError) → ReadsOver input taken seen read sound (Err error) → sound ≡ true
+judged_sound {sound = sound} error x = always_sound sound (Err error) error refl x.passes
+
+-- which decides then how a command ends
+pub text_decides : {input taken seen read : SourceState} {sound : Bool} (So All Sound : SourceState → SourceState → Type 0) (error : DecryptError)
+    → ReadsOver input taken seen read sound (Err error) → read.faults ≡ seen.faults → All seen read → Sound seen read
+    → TextEnds (decryption_failure error) input taken So All Sound
+text_decides So All Sound (errors.Fault (BadArmour number)) x same all front =
+    (ends_text x (Bad number) same (sees_end x (judged_sound _ x) same), text_reads x All all)
+text_decides So All Sound (errors.Outside SourceFault) x same all front =
+    (let rose = sees_end x (judged_sound _ x) same in let kept = none_failed x same in omega (arith, rose, kept), text_reads x Sound front)
+text_decides So All Sound (errors.Outside InputTooLong) x same all front =
+    let sees = sees_end x (judged_sound _ x) same in (inl (is_long x same sees.0 sees.1), text_reads x Sound front)
+text_decides So All Sound (errors.Fault fault) x same all front = absurd (sees_end x (judged_sound _ x) same)
+text_decides So All Sound (errors.Outside outside) x same all front = absurd (sees_end x (judged_sound _ x) same)
+text_decides So All Sound errors.Memory x same all front = absurd (sees_end x (judged_sound _ x) same)
 
 -- ---- memory ran out for the source
 
@@ -253,21 +300,3 @@ none_unseen before now old new keeps some left unseen = by_left before.left refl
         let none : (reader_outlook new k.0).bytes ≡ [] = ap (λ (o : Outlook). o.bytes) k.2 ∙ cc all in
         let some_pending : 1 ≤ length (pending new) = some unseen in
         omega (arith, some_pending, ap length none, length-append (pending new) (coming new.ending new k.0).bytes)
-
--- ---- a source that was made and read
-
--- what such a source tells and counts
-abbrev pub source_at : SourceState → ArmourReader → ℕ → ℕ → SourceState
-source_at input r given faults = record { left = left_of input r; given = given; faults = faults }
-
-pub reading_of : (input first mid : SourceState) (r s : ArmourReader) (a b f m : ℕ) → first ≡ input → ((text : List ℕ) → reader_outlook r text ≡ text_outlook text)
-    → r.pieces.taken ≡ 0 → f ≡ 0 → Outlasts first mid r s f m → IsReading input mid r s f m (source_at first r a f) (source_at mid s b m)
-reading_of input first mid r s a b f m same outlook none zero out = record {
-  first = first;
-  begun = record { same = same; outlook = outlook; none = none; zero = zero };
-  outlasts = out;
-  seen_left = refl;
-  seen_faults = refl;
-  read_left = refl;
-  read_faults = refl;
-}

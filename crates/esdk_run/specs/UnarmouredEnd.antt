@@ -1,5 +1,5 @@
 -- How the end of a text is judged behind its bytes.
-use Rattle.std.specs.Prelude.{◌≡◌, ℕ, ◌-◌, ◌^◌, ◌<◌, Bool, true, false, List, [], Option, Some, Result, Ok, Err}
+use Rattle.std.specs.Prelude.{◌≡◌, ℕ, Bool, true, false, List, [], Option, Some, Result, Ok, Err}
 use Rattle.std.specs.Option.{option_map}
 use Rattle.esdk_fields.specs.Counts.{Rose}
 use Rattle.esdk_fields.specs.declared.faults.Fault.{Fault}
@@ -10,7 +10,7 @@ use Rattle.whole_input.specs.Pieces.{most_input}
 use Rattle.armour_core.specs.declared.reader.ArmourReader.{ArmourReader}
 use Rattle.armour_core.specs.declared.text_end.TextEnd.{TextEnd}
 use Rattle.armour_core.specs.declared.text_end.TextEnd.TheVariants.{Bad, TooLong, Whole}
-use Rattle.armour_core.specs.ReaderOutlook.{Outlasts, reader_outlook, told_end}
+use Rattle.armour_core.specs.ReaderOutlook.{reader_outlook, told_end}
 use Rattle.esdk_decrypt.specs.declared.errors.DecryptError.{DecryptError}
 use Rattle.esdk_decrypt.specs.declared.errors.DecryptError.TheVariants as errors
 
@@ -40,9 +40,3 @@ SeesAs before now old new (Err (errors.Outside InputTooLong)) =
     SeesEnd before now old TooLong × (new.pieces.taken ≡ most_input)
 SeesAs before now old new (Err (errors.Outside SourceFault)) = Rose before.faults now.faults
 SeesAs before now old new (Err error) = ⊥
-
--- More of the same text was taken for that, and it is seen while the source counts its failures.
-pub record JudgesEnd (before now : SourceState) (old new : ArmourReader)
-    (old_faults new_faults : ℕ) (result : Result (Unit {0}) DecryptError) : Type 0 where
-  pub outlasts : Outlasts before now old new old_faults new_faults
-  pub sees : old_faults < 2 ^ 64 - 1 → SeesAs before now old new result

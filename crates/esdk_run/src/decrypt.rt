@@ -11,7 +11,7 @@ ghost use Rattle.esdk_run.specs.UnarmouredDecrypt.{DecryptsAs, DecryptEndsAs, is
 ghost use Rattle.keyring_trait.specs.Manager.{Went};
 
 use crate::failures::decryption_failure;
-use crate::outcome::Ended;
+use crate::outcome::{Ended, not_begun};
 use crate::prepared::{Prepared, prepare};
 use crate::unarmoured::{is_cut_short, judge_end};
 use armour_core::UnarmouredSource;
@@ -54,18 +54,12 @@ pub fn run_decrypt<P: Keyring, S: Source, O: Sink, R: Sink, F: Shelf>(
     ensures files { (F.state shelf.new).files ≡ (F.state shelf.old).files }
     ensures taken { (S.state input.new).given ≤ (S.state input.old).given + 2 ^ 62 }
 {
-    let prepared = prepare(alloc, &asked.pairs, &asked.keyring, shelf, plugs);
     let Prepared {
         context,
         mut manager,
-    } = match prepared {
+    } = match prepare(alloc, &asked.pairs, &asked.keyring, shelf, plugs) {
         Ok(prepared) => prepared,
-        Err(failure) => {
-            return Ended {
-                status: report_failure(alloc, &failure, report),
-                tree: None,
-            };
-        }
+        Err(failure) => return not_begun(report_failure(alloc, &failure, report)),
     };
     let settings = Settings {
         max_keys: asked.max_keys,
@@ -121,11 +115,7 @@ fn decrypt_input<M: Manager, S: Source, O: Sink>(
     };
     let mut text = UnarmouredSource::over(pieces, input);
     let ended = decrypt(alloc, manager, 0, settings, given, &mut text, output);
-    if !is_open(&ended) {
-        text.into_text();
-        return ended;
-    }
-    let judged = judge_end(&mut text);
+    let judged = judge_end(&mut text, is_open(&ended));
     text.into_text();
     match judged {
         Ok(()) => ended,

@@ -8,7 +8,7 @@ ghost use Rattle.esdk_run.specs.Trees.{trees_of};
 
 use crate::armoured_message::write_message;
 use crate::failures::encryption_failure;
-use crate::outcome::Ended;
+use crate::outcome::{Ended, not_begun};
 use crate::prepared::{Prepared, prepare};
 use esdk_args::EncryptWords;
 use esdk_base::{Entropy, Shelf, Sink, Source};
@@ -48,18 +48,12 @@ pub fn run_encrypt<P: Keyring, S: Source, O: Sink, R: Sink, F: Shelf, W: Entropy
     ensures files { (F.state shelf.new).files ≡ (F.state shelf.old).files }
     ensures taken { (S.state input.new).given ≤ (S.state input.old).given + 2 ^ 62 }
 {
-    let prepared = prepare(alloc, &asked.pairs, &asked.keyring, shelf, plugs);
     let Prepared {
         context,
         mut manager,
-    } = match prepared {
+    } = match prepare(alloc, &asked.pairs, &asked.keyring, shelf, plugs) {
         Ok(prepared) => prepared,
-        Err(failure) => {
-            return Ended {
-                status: report_failure(alloc, &failure, report),
-                tree: None,
-            };
-        }
+        Err(failure) => return not_begun(report_failure(alloc, &failure, report)),
     };
     let request = EncRequest::new(alloc, context, None);
     let options = EncryptOptions {

@@ -8,7 +8,7 @@ ghost use Rattle.esdk_run.specs.Run.{ExtractRuns, IsDone, is_status};
 ghost use Rattle.esdk_run.specs.Trees.{trees_of};
 
 use crate::failures::extraction_failure;
-use crate::outcome::Ended;
+use crate::outcome::{Ended, not_begun};
 use crate::prepared::{Prepared, prepare};
 use esdk_args::ExtractWords;
 use esdk_base::{Shelf, Sink};
@@ -44,18 +44,12 @@ pub fn run_extract<P: Keyring, O: Sink, R: Sink, F: Shelf>(
         (as_before ⊤ (output.new ≡ output.old) (shelf.new ≡ shelf.old) ⊤) result.status.code }
     ensures files { (F.state shelf.new).files ≡ (F.state shelf.old).files }
 {
-    let prepared = prepare(alloc, &asked.pairs, &asked.keyring, shelf, plugs);
     let Prepared {
         context,
         mut manager,
-    } = match prepared {
+    } = match prepare(alloc, &asked.pairs, &asked.keyring, shelf, plugs) {
         Ok(prepared) => prepared,
-        Err(failure) => {
-            return Ended {
-                status: report_failure(alloc, &failure, report),
-                tree: None,
-            };
-        }
+        Err(failure) => return not_begun(report_failure(alloc, &failure, report)),
     };
     let ended = extract(
         alloc,

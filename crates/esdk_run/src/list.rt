@@ -68,11 +68,7 @@ fn list_input<S: Source, O: Sink>(
     };
     let mut text = UnarmouredSource::over(pieces, input);
     let ended = list(alloc, &mut text, output, uncommitted);
-    if !wants_header(&ended) {
-        text.into_text();
-        return ended;
-    }
-    let judged = judge_end(&mut text);
+    let judged = judge_end(&mut text, wants_header(&ended));
     text.into_text();
     match judged {
         Ok(()) => ended,

@@ -23,6 +23,13 @@ pub struct Ended<P> {
     pub tree: Option<Node<P>>,
 }
 
+/// How a run ends with this status that didn't come to a tree.
+pub fn not_begun<P>(status: Status) -> Ended<P>
+    ensures { result ≡ record { status = status; tree = None } }
+{
+    Ended { status, tree: None }
+}
+
 /// This failure, where there is no tree yet.
 pub fn without_tree<T, P>(failure: Failure) -> Outcome<Result<T, Failure>, Option<Node<P>>>
     ensures { result ≡ record { ended = Err failure; tree = None } }

@@ -9,7 +9,7 @@ ghost use Rattle.esdk_run.specs.Trees.{trees_of};
 use crate::decrypt::tell_context;
 use crate::failures::resealing_failure;
 use crate::keyring_input::read_keyring;
-use crate::outcome::Ended;
+use crate::outcome::{Ended, not_begun};
 use crate::prepared::{Prepared, prepare};
 use cmm_default::DefaultCmm;
 use context_codec::Context;
@@ -52,18 +52,12 @@ pub fn run_reseal<P: Keyring, S: Source, O: Sink, R: Sink, F: Shelf, W: Entropy>
     ensures files { (F.state shelf.new).files ≡ (F.state shelf.old).files }
     ensures taken { (S.state input.new).given ≤ (S.state input.old).given + 2 ^ 62 }
 {
-    let prepared = prepare(alloc, &asked.pairs, &asked.keyring, shelf, plugs);
     let Prepared {
         context,
         mut manager,
-    } = match prepared {
+    } = match prepare(alloc, &asked.pairs, &asked.keyring, shelf, plugs) {
         Ok(prepared) => prepared,
-        Err(failure) => {
-            return Ended {
-                status: report_failure(alloc, &failure, report),
-                tree: None,
-            };
-        }
+        Err(failure) => return not_begun(report_failure(alloc, &failure, report)),
     };
     let none: Vec<Plug<P>> = Vec::new(alloc);
     let second = match read_keyring(alloc, shelf, asked.to_keyring.as_str(), none) {

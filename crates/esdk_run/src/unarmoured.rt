@@ -1,22 +1,33 @@
 //! The end of an input that is read as armour text.
-ghost use Rattle.std.specs.Prelude.{◌≡◌};
-ghost use Rattle.esdk_run.specs.UnarmouredEnd.{JudgesEnd, is_cut_short};
+ghost use Rattle.std.specs.Prelude.{◌≡◌, ◌<◌, ◌-◌, ◌^◌, Ok, false, true};
+ghost use Rattle.armour_core.specs.ReaderOutlook.{Outlasts};
+ghost use Rattle.esdk_run.specs.UnarmouredEnd.{SeesAs, is_cut_short};
 
 use armour_core::{TextEnd, UnarmouredSource};
 use esdk_base::{Failed, Source};
 use esdk_decrypt::DecryptError;
 use esdk_fields::{Fault, Outside};
 
-/// Judges how a text ends whose bytes were read and have no fault: behind the last of them its end
-/// may not have been seen yet.
+/// Judges how a text ends whose bytes were read, where they are `sound`, without a fault: behind the
+/// last of them its end may not have been seen yet. Where they aren't, no more of it is read.
 ///
 /// M27 `BadArmour`, where the text ends in a bad or short group; X6, where 2^62 bytes of it were
 /// taken; X1, where a read of it failed.
-pub(crate) fn judge_end<S: Source>(text: &mut UnarmouredSource<S>) -> Result<(), DecryptError>
+pub(crate) fn judge_end<S: Source>(
+    text: &mut UnarmouredSource<S>,
+    sound: bool,
+) -> Result<(), DecryptError>
     ensures same { text.new.text.ghost_name ≡ text.old.text.ghost_name }
-    ensures judges { JudgesEnd (S.state text.old.text.now) (S.state text.new.text.now)
-        text.old.reader text.new.reader text.old.faults text.new.faults result }
+    ensures outlasts { Outlasts (S.state text.old.text.now) (S.state text.new.text.now)
+        text.old.reader text.new.reader text.old.faults text.new.faults }
+    ensures sees { sound ≡ true → text.old.faults < 2 ^ 64 - 1
+        → SeesAs (S.state text.old.text.now) (S.state text.new.text.now)
+        text.old.reader text.new.reader result }
+    ensures passes { sound ≡ false → result ≡ Ok tt }
 {
+    if !sound {
+        return Ok(());
+    }
     if let Err(Failed) = text.await_some() {
         return Err(DecryptError::Outside(Outside::SourceFault));
     }

@@ -1,4 +1,4 @@
-use Rattle.std.proofs.Common.{◌≡◌, ◌∙◌, List, ℕ, Some, None, inr, refl, ap}
+use Rattle.std.proofs.Common.{◌≡◌, ◌∙◌, Some, None, inr, refl}
 use Rattle.std.specs.Prelude.{⊤}
 use Rattle.esdk_base.specs.Streams.{ShelfState, SinkState}
 use Rattle.multi_keyring.specs.Tree.{tree_meaning}
@@ -7,21 +7,22 @@ use Rattle.esdk_run.specs.Extract.{no_limits, range_asked}
 use Rattle.esdk_run.specs.Objects.{as_before}
 use Rattle.esdk_run.specs.Pairs.{required_in}
 use Rattle.esdk_run.specs.Trees.{trees_of}
-use Rattle.esdk_run.proofs.Chain.{chain_allows, chain_goes}
+use Rattle.esdk_run.proofs.Chain.{chain_allows}
 use Rattle.esdk_run.proofs.Extraction.{extract_not_begun, extraction_ran}
+use Rattle.esdk_run.proofs.Preparing.{has_tree}
 use Rattle.esdk_run.proofs.extract.run_extract.Goals as goal
 
 pub returns-clause-runs : goal.returns-clause-runs
 returns-clause-runs g c = λ input entropy.
-    let middle : ShelfState = g.F.Shelf.state c.prepare-prepared.new.shelf in
+    let middle : ShelfState = g.F.Shelf.state c.prepare.new.shelf in
     let after : ShelfState = g.F.Shelf.state c.extract-ended.new.shelf in
     let output : SinkState = g.O.Sink.state c.args.output.now in
     let put : SinkState = g.O.Sink.state c.extract-ended.new.output in
     let manager = c.in-Ok.prepared.manager in
+    let left = c.extract-ended.new.manager in
     let has = c.in-Ok.ensures.prepared in
     let back = c.into_ring.ensures ∙ c.into_inner.ensures in
-    let allows = chain_allows 0 (tree_meaning g.P.Keyring.meaning) manager c.extract-ended.new.manager
-    (required_in c.args.asked.now.pairs) manager.0 c.into_ring.result (ap (λ (keys : List (List ℕ)). (manager.0, keys)) has.keys) back in
+    let allows = chain_allows 0 (tree_meaning g.P.Keyring.meaning) manager left (required_in c.args.asked.now.pairs) c.into_ring.result has.keys back in
     extraction_ran (trees_of g.P.Keyring.meaning c.args.plugs.items (Some c.into_ring.result)) c.args.asked.now _ _
     (as_before ⊤ _ _ ⊤) _ c.extract-ended.result
     (record {
@@ -29,14 +30,7 @@ returns-clause-runs g c = λ input entropy.
       tree = _;
       left = _;
       middle = middle;
-      has = record {
-        given = has.given;
-        file = has.file;
-        lawful = has.lawful;
-        kept = refl;
-        goes = chain_goes (tree_meaning g.P.Keyring.meaning) manager c.extract-ended.new.manager manager.1 manager.0 c.into_ring.result refl back
-            c.extract-ended.ensures.went;
-      };
+      has = has_tree g.P.Keyring.meaning _ _ _ _ _ _ manager left c.into_ring.result has back c.extract-ended.ensures.went;
       files = c.in-Ok.ensures.stays;
     })
     (extracts_more _ _ no_limits c.in-Ok.prepared.context (range_asked c.args.asked.now) middle c.args.asked.now.from output put c.extract-ended.result allows (rw (c.none.ensures, c.as_str.ensures.text) at c.extract-ended.ensures.done))
@@ -45,10 +39,10 @@ returns-clause-runs g c = λ input entropy.
 
 pub returns-in-Err-clause-runs : goal.returns-in-Err-clause-runs
 returns-in-Err-clause-runs g c = λ input entropy.
-    inr (record {
+    rw c.not_begun.ensures (inr (record {
       failure = c.in-Err.failure;
       because = extract_not_begun (trees_of g.P.Keyring.meaning c.args.plugs.items None) c.args.asked.now _ _ (as_before ⊤ _ _ ⊤)
           c.in-Err.failure c.in-Err.ensures.cause
           (record { same = refl; none = refl });
       said = c.report_failure.ensures;
-    })
+    }))

@@ -1,9 +1,10 @@
-use Rattle.std.proofs.Common.{◌≡◌, ◌∙◌, List, ℕ, Some, None, inr, refl, ap}
+use Rattle.std.proofs.Common.{◌≡◌, ◌∙◌, Some, None, inr, refl}
 use Rattle.esdk_base.specs.Streams.{EntropyState, ShelfState, SinkState, SourceState}
 use Rattle.multi_keyring.specs.Tree.{tree_meaning}
 use Rattle.esdk_run.specs.Pairs.{required_in}
 use Rattle.esdk_run.specs.Trees.{Trees, trees_of}
 use Rattle.esdk_run.proofs.Chain.{chain_allows, chain_goes}
+use Rattle.esdk_run.proofs.Preparing.{has_tree}
 use Rattle.esdk_run.proofs.Resealing.{no_second, reseal_not_begun, resealing_ran, second_goes, second_has, tree_ends, tree_reseals}
 use Rattle.esdk_run.proofs.reseal.run_reseal.Goals as goal
 
@@ -20,19 +21,12 @@ returns-clause-runs g c =
     let has = c.in-Ok.ensures.prepared in
     let back = c.into_ring-2.ensures ∙ c.into_inner-2.ensures in
     let trees : Trees = trees_of g.P.Keyring.meaning c.args.plugs.items (Some c.into_ring-2.result) in
-    let between : ShelfState = g.F.Shelf.state c.prepare-prepared.new.shelf in
-    let allows = chain_allows 0 meaning manager c.reseal-ended.new.opening
-    (required_in c.args.asked.now.pairs) manager.0 c.into_ring-2.result (ap (λ (keys : List (List ℕ)). (manager.0, keys)) has.keys) back in
+    let between : ShelfState = g.F.Shelf.state c.prepare.new.shelf in
+    let allows = chain_allows 0 meaning manager c.reseal-ended.new.opening (required_in c.args.asked.now.pairs) c.into_ring-2.result has.keys back in
     resealing_ran trees c.args.asked.now _ _ _ _ c.in-Ok.prepared.context (meaning manager.0) (meaning c.into_ring-2.result) between
     (meaning c.new-sealing.result) (meaning c.reseal-ended.new.sealing) c.reseal-ended.result
     (record {
-      has = record {
-        given = has.given;
-        file = has.file;
-        lawful = has.lawful;
-        kept = refl;
-        goes = chain_goes meaning manager c.reseal-ended.new.opening manager.1 manager.0 c.into_ring-2.result refl back c.reseal-ended.ensures.opening;
-      };
+      has = has_tree g.P.Keyring.meaning _ _ _ _ _ _ manager c.reseal-ended.new.opening c.into_ring-2.result has back c.reseal-ended.ensures.opening;
       files = c.in-Ok.ensures.stays;
     })
     (second_has meaning trees c.args.asked.now between (g.F.Shelf.state c.read_keyring.new.shelf) c.in-Ok-read_keyring.second c.new-sealing.result c.new-sealing.ensures
@@ -52,14 +46,14 @@ returns-in-Err-read_keyring-clause-runs g c =
     inr (record {
       failure = c.in-Err-read_keyring.failure;
       because = no_second (trees_of g.P.Keyring.meaning c.args.plugs.items (Some c.into_ring.result)) c.args.asked.now _ _ _ c.in-Ok.prepared.context (meaning manager.0)
-          (g.F.Shelf.state c.prepare-prepared.new.shelf) c.in-Err-read_keyring.failure
+          (g.F.Shelf.state c.prepare.new.shelf) c.in-Err-read_keyring.failure
           (record {
             has = record {
               given = has.given;
               file = has.file;
               lawful = has.lawful;
               kept = λ i. Some (meaning (back i));
-              goes = chain_goes meaning manager manager manager.1 manager.0 manager.0 refl refl c.wraps-wraps.ensures.stays;
+              goes = chain_goes meaning manager manager manager.0 refl c.wraps-wraps.ensures.stays;
             };
             files = c.in-Ok.ensures.stays;
           })
@@ -70,9 +64,9 @@ returns-in-Err-read_keyring-clause-runs g c =
 
 pub returns-in-Err-clause-runs : goal.returns-in-Err-clause-runs
 returns-in-Err-clause-runs g c =
-    inr (record {
+    rw c.not_begun.ensures (inr (record {
       failure = c.in-Err.failure;
       because = reseal_not_begun (trees_of g.P.Keyring.meaning c.args.plugs.items None) c.args.asked.now _ _ _ c.in-Err.failure c.in-Err.ensures.cause
           (record { same = ((refl, refl), refl); none = refl });
       said = c.report_failure.ensures;
-    })
+    }))
