@@ -1,2 +1,4 @@
 mod Sealed
 mod Opened
+mod Resealed
+mod ResealedPieces

@@ -1,11 +1,15 @@
 //! Why a caller here gives up.
 
+ghost use Rattle.std.specs.Prelude.{◌≡◌};
+ghost use Rattle.callers.specs.declared.errors.CallError.TheVariants as calls;
+
 use audit_core::AuditError;
 use esdk_base::{Failed, FeedError};
 use extract_core::ExtractError;
 use keyring_file::TreeError;
 use keyring_trait::ManagerError;
 use raw_aes_keyring::RawError;
+use reseal_core::ResealError;
 use std::alloc::{AllocError, AllocFailed};
 use stream_open::OpenError;
 use stream_seal::SealError;
@@ -23,6 +27,8 @@ pub(crate) enum CallError {
     Key(RawError),
     /// A keyring file isn't read.
     File(TreeError),
+    /// A message isn't resealed.
+    Reseal(ResealError),
     /// A range isn't extracted.
     Extract(ExtractError),
     /// The leaves of a tree can't say which of them open a message.
@@ -48,6 +54,14 @@ impl From<SealError> for CallError {
 impl From<OpenError> for CallError {
     fn from(error: OpenError) -> CallError {
         CallError::Open(error)
+    }
+}
+
+impl From<ResealError> for CallError {
+    ghost from_gives = { λ from error. error ≡ calls.Reseal from };
+
+    fn from(error: ResealError) -> CallError {
+        CallError::Reseal(error)
     }
 }
 
@@ -88,6 +102,8 @@ impl From<FeedError<OpenError, Failed>> for CallError {
 }
 
 impl From<AllocError> for CallError {
+    ghost from_gives = { λ _ error. error ≡ calls.Memory };
+
     fn from(_: AllocError) -> CallError {
         CallError::Memory
     }

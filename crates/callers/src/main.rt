@@ -12,9 +12,11 @@ mod extracting;
 mod file_manager;
 mod opening;
 mod own_keyring;
+mod resealing;
 mod sealing;
 mod shown;
 mod shown_files;
+mod shown_resealing;
 
 use std::io;
 
@@ -23,6 +25,15 @@ fn main(rt: HostRuntime) -> io::Result<()> {
     let alloc = rt.alloc();
     println!(rt; "seal_pieces: {}", shown::seals(alloc))?;
     println!(rt; "open_pieces: {}", shown::opens(alloc))?;
+    println!(rt; "reseal_pieces: {}", shown_resealing::reseals(alloc))?;
+    println!(rt;
+        "reseal_pieces, another key: {}",
+        shown_resealing::rotates(alloc)
+    )?;
+    println!(rt;
+        "reseal_pieces, a cut message: {}",
+        shown_resealing::reseals_a_front(alloc)
+    )?;
     println!(rt; "CountedRing: {}", shown::counts(alloc))?;
     println!(rt; "cached_manager: {}", shown::caches(alloc))?;
     println!(rt; "file_manager: {}", shown::reads_a_file(alloc))?;

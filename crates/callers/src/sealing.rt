@@ -34,7 +34,8 @@ pub(crate) fn materials_for<K: Keyring>(
 
 /// Seals a text that comes in pieces, in frames of `frame_length` bytes: at Ok the output gained
 /// the message of all pieces, one behind the other. The message id has to be random, and is used
-/// once. Where there is an error, what was written is no message, and is to be thrown away.
+/// once. Where there is an error, throw away what was written: it is no message, unless the output
+/// failed at the final frame.
 pub(crate) fn seal_pieces<O: Sink>(
     alloc: Global,
     materials: &EncMaterials,
