@@ -1,9 +1,9 @@
 -- A hash that takes a text block by block.
-use Rattle.std.proofs.Common.{◌≡◌, ℕ, ◌+◌, ◌-◌, ◌*◌, ◌/◌, ◌<◌, List, [], ◌∷◌, ◌++◌, length, map, get_or, refl, sym, ap, ◌∙◌, inl, inr, arith, length-append}
+use Rattle.std.proofs.Common.{◌≡◌, ℕ, ◌+◌, ◌-◌, ◌*◌, ◌/◌, ◌<◌, ◌≤◌, List, [], ◌∷◌, ◌++◌, length, map, get_or, refl, sym, ap, ◌∙◌, inl, inr, arith, length-append}
 use Rattle.std.specs.List.{range_with_len}
 use Rattle.std.proofs.lemmas.List.FromFn.{fill_by_all, get_or-map-range_with_len, length-map-range_with_len, map-range_with_len_more}
 use Rattle.std.proofs.lemmas.Bool.{cases_lt}
-use Rattle.std.proofs.lemmas.List.{get_or_append_left, get_or-append_right}
+use Rattle.std.proofs.lemmas.List.{append-nil, get_or_append_left, get_or-append_right}
 use Rattle.std.specs.Int.{w64, w128, from_be_bytes, to_be_bytes}
 use Rattle.cipher_spec.specs.Ghash.{ghash_from, ghash}
 use Rattle.cipher_spec.specs.Gcm.{block_at, blocks, gctr, hash_key, lengths, pre_counter, tag_of}
@@ -39,7 +39,7 @@ same_values f g n same =
     fill_by_all g (map f (range_with_len 0 n)) n 0 (length-map-range_with_len f 0 n) (λ i h. get_or-map-range_with_len f 0 n i i 0 h (omega arith) ∙ same i h)
 
 -- blocks alike byte by byte
-same_block : (s t : List ℕ) (a b : ℕ) → ((i : ℕ) → i < 16 → get_or s (16 * a + i) 0 ≡ get_or t (16 * b + i) 0) → block_at s a ≡ block_at t b
+pub same_block : (s t : List ℕ) (a b : ℕ) → ((i : ℕ) → i < 16 → get_or s (16 * a + i) 0 ≡ get_or t (16 * b + i) 0) → block_at s a ≡ block_at t b
 same_block s t a b same =
     ap (from_be_bytes w128) (same_values (λ i. get_or s (16 * a + i) 0) (λ i. get_or t (16 * b + i) 0) 16 same)
 
@@ -79,12 +79,34 @@ four_blocks part b0 b1 b2 b3 long e0 e1 e2 e3 =
     four_values (block_at part) _ _ _ _ e0 e1 e2 e3 ∙ ap (λ n. map (block_at part) (range_with_len 0 n)) n
 
 -- a hasher of these parts
-abbrev hasher : ℕ → ℕ → State
+abbrev pub hasher : ℕ → ℕ → State
 hasher key hash = record { key = key; hash = hash }
 
 -- a hasher of known parts that takes blocks
 taken : (key hash : ℕ) (bs : List ℕ) (s t : State) → s ≡ hasher key hash → t ≡ record { key = s.key; hash = ghash_from s.key s.hash bs } → t ≡ hasher key (ghash_from key hash bs)
 taken key hash bs s t is step = step ∙ ap (λ (x : State). hasher x.key (ghash_from x.key x.hash bs)) is
+
+-- a hasher that takes whole blocks, and then more bytes
+pub hash-both : (xs ys : List ℕ) (m : ℕ) (s t u : State) → length xs ≡ 16 * m → t ≡ record { key = s.key; hash = ghash_from s.key s.hash (blocks xs) } → u ≡ record { key = t.key; hash = ghash_from t.key t.hash (blocks ys) } → u ≡ record { key = s.key; hash = ghash_from s.key s.hash (blocks (xs ++ ys)) }
+hash-both xs ys m s t u long step next =
+    taken s.key (ghash_from s.key s.hash (blocks xs)) (blocks ys) t u step next ∙ ap (hasher s.key) (sym (ap (ghash_from s.key s.hash) (blocks-append xs ys m long) ∙ ghash_from-append s.key s.hash (blocks xs) (blocks ys)))
+
+-- the blocks of a text's first bytes, which are sixteen, or fewer with none behind them
+blocks-one : (xs ys : List ℕ) → 0 < length xs → length xs ≤ 16 → (length xs < 16 → ys ≡ []) → blocks (xs ++ ys) ≡ block_at xs 0 ∷ blocks ys
+blocks-one xs ys some few last =
+    let n : (length xs + 15) / 16 ≡ 1 = omega arith in
+    let one : blocks xs ≡ block_at xs 0 ∷ [] = ap (λ n. map (block_at xs) (range_with_len 0 n)) n in
+    elim (cases_lt (length xs) 16) [
+      | inl short ↦
+          let none = last short in ap (λ l. blocks (xs ++ l)) none ∙ ap blocks (append-nil xs) ∙ one ∙ ap (λ l. block_at xs 0 ∷ blocks l) (sym none)
+      | inr full ↦
+          blocks-append xs ys 1 (omega arith) ∙ ap (λ l. l ++ blocks ys) one
+    ]
+
+-- a hasher that takes the block of such bytes, and then those behind them
+pub hash-one : (xs ys : List ℕ) (b : ℕ) (s t u : State) → 0 < length xs → length xs ≤ 16 → (length xs < 16 → ys ≡ []) → b ≡ block_at xs 0 → t ≡ record { key = s.key; hash = ghash_from s.key s.hash (b ∷ []) } → u ≡ record { key = t.key; hash = ghash_from t.key t.hash (blocks ys) } → u ≡ record { key = s.key; hash = ghash_from s.key s.hash (blocks (xs ++ ys)) }
+hash-one xs ys b s t u some few last is step next =
+    taken s.key (ghash_from s.key s.hash (b ∷ [])) (blocks ys) t u step next ∙ ap (λ b. hasher s.key (ghash_from s.key s.hash (b ∷ blocks ys))) is ∙ ap (λ bs. hasher s.key (ghash_from s.key s.hash bs)) (sym (blocks-one xs ys some few last))
 
 -- a hasher under the hash subkey that took associated data, and then a ciphertext, gives their tag
 pub tag-finished : (key iv aad cipher : List ℕ) (count : ℕ) (s t : State) (tag : List ℕ) → s ≡ record { key = hash_key key; hash = ghash (hash_key key) (blocks aad) } → t ≡ record { key = s.key; hash = ghash_from s.key s.hash (blocks cipher) } → count ≡ length aad → tag ≡ gctr key (pre_counter iv) (to_be_bytes w128 (ghash_from t.key t.hash (from_be_bytes w128 (to_be_bytes w64 (count * 8) ++ to_be_bytes w64 (length cipher * 8)) ∷ []))) → tag ≡ tag_of key iv aad cipher

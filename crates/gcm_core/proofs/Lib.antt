@@ -1,4 +1,5 @@
 pub mod Hashing
+pub mod Blocks
 pub mod EqualBytes
 pub mod Counting
 pub mod Groups

@@ -17,6 +17,13 @@ pub fn hasher_of(key: &Key256) -> Ghash
     Ghash::new(key.block([0; 16]))
 }
 
+/// The same, for a hasher that stays in the variable that it is put into.
+pub fn hasher_in_place_of(key: &Key256) -> Ghash
+    ensures { result ≡ record { key = hash_key key.now; hash = 0 } }
+{
+    Ghash::in_place(key.block([0; 16]))
+}
+
 /// Begins anew under the same hash subkey, and takes the associated data into the hash, which is
 /// `first` and then `second` (step 5).
 pub fn begin_over(hash: &mut Ghash, first: &[u8], second: &[u8])

@@ -3,7 +3,8 @@
 //!
 //! A text is enciphered eight blocks at a time and hashed four at a time, piece by piece, so that a
 //! piece is still in the first cache when it is hashed. The functions whose names end in
-//! `by_blocks` do the same one block at a time: they serve the ends of texts.
+//! `by_blocks` do the same one block at a time: they serve the ends of texts, and to measure the
+//! others by.
 //!
 //! `GcmKey` is for many texts under one key, such as the frames of a message: it holds what is made
 //! of the key alone. A `GcmOpener` is for many texts under one key over the same associated data,

@@ -6,7 +6,7 @@ ghost use Rattle.cipher_spec.specs.Ghash.{ghash, ghash_from};
 ghost use Rattle.cipher_spec.specs.Gcm.{blocks, gctr, hash_key, opened, sealed};
 
 use crate::absorbing::absorb;
-use crate::authentication::{authentication_tag, begin_over, finished_tag, hasher_of};
+use crate::authentication::{authentication_tag, begin_over, finished_tag, hasher_in_place_of};
 use crate::comparing::same;
 use crate::counter_mode::{TEXT_COUNT, gctr};
 use aes_core::Key256;
@@ -81,7 +81,7 @@ pub fn seal_in_place(
     requires few { length first.now + length second.now ≤ 2 ^ 32 }
     ensures { (text.new, result) ≡ sealed key.now iv.now (first.now ++ second.now) text.old }
 {
-    let mut hash = hasher_of(key);
+    let mut hash = hasher_in_place_of(key);
     begin_over(&mut hash, first, second);
     seal_hashing(key, &mut hash, iv, first, second, text)
 }
@@ -138,7 +138,7 @@ pub fn open_in_place(
         → (opened key.now iv.now (first.now ++ second.now) text.old tag.now ≡ Some t)
         ↔ (sealed key.now iv.now (first.now ++ second.now) t ≡ (text.old, tag.now)) }
 {
-    let mut hash = hasher_of(key);
+    let mut hash = hasher_in_place_of(key);
     begin_over(&mut hash, first, second);
     open_hashing(key, &mut hash, iv, first, second, text, tag)
 }

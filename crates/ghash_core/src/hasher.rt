@@ -42,6 +42,23 @@ impl Ghash {
         }
     }
 
+    /// The same, for a hasher that stays in the variable that it is put into: there its rows are
+    /// made where they stay. A copy of their 8 KB, which `new` makes, takes as long as eight
+    /// blocks; a hasher that moves on into a larger value is copied once less if `new` made it.
+    pub fn in_place(key: [u8; 16]) -> Ghash
+        ensures { result ≡ record { key = from_be_bytes w128 key; hash = 0 } }
+    {
+        let key = u128::from_be_bytes(key);
+        let hash = Sum { upper: 0, lower: 0 };
+        let mut hasher = Ghash {
+            key,
+            rows: [[0; 16]; 32],
+            hash,
+        };
+        put_rows(&mut hasher.rows, key);
+        hasher
+    }
+
     /// Begins anew under the same hash subkey, with the hash of no blocks.
     #[inline(always)]
     pub fn restart(&mut self)
