@@ -13,6 +13,8 @@ use plane_core::rounds::keyed;
 use std::simd::prelude::*;
 
 /// Eight states after round 1, of any blocks.
+// One group of 32 comes here: in a function of its own it leaves the others' code undisturbed.
+#[inline(never)]
 pub fn first_states(keys: &[Planes<u8x16>; 15], x: &[[u8; 16]; 8]) -> Planes<u8x16>
     ensures { (schedule : List (List ℕ)) (b : ℕ) → HasKeys lane_bit 8 keys.now schedule → b < 8
         → block lane_bit result b ≡ rounds schedule (slice_index_or x.now b []) 1 }

@@ -9,13 +9,14 @@
 //! with the bytes 0 and 1, so that all 256 are there; as counts they are the next page's, and no
 //! group of a page.
 
-ghost use Rattle.std.specs.Prelude.{◌≡◌, ℕ, ◌+◌, ◌*◌, ◌/◌, ◌%◌, ◌^◌, ◌<◌, ◌≤◌, leb, map, bit_xor, slice_index, if◌then◌else◌};
+ghost use Rattle.std.specs.Prelude.{◌≡◌, ℕ, ◌+◌, ◌*◌, ◌/◌, ◌%◌, ◌^◌, ◌<◌, ◌≤◌, leb, [], map, bit_xor, slice_index, slice_index_or, if◌then◌else◌};
 ghost use Rattle.std.specs.List.{range_with_len};
 ghost use Rattle.std.specs.Int.{w8};
 ghost use Rattle.std.proofs.lemmas.Simd.{SwzOk};
 ghost use Rattle.plane_core.specs.Bits.{block, byte_of};
 ghost use Rattle.plane_core.specs.Places.{lane, lane_bit};
 ghost use Rattle.aes_core.specs.Counters.{HasColumns, added, column_byte, image, lane_byte};
+ghost use Rattle.aes_core.specs.declared.last_byte.TheConstants.{FROM_COLUMN};
 
 use plane_core::circuit;
 use plane_core::eight::loaded;
@@ -165,6 +166,21 @@ pub fn table(key: u8) -> [Planes<u8x16>; 8]
     ]
 }
 
+/// The lanes that go to column 0 from a column.
+// A choice of constants: a row of an array of them would be put on the stack in each call first.
+#[inline(always)]
+fn from_column(column: usize) -> u8x16
+    requires { column < 4 }
+    ensures { result ≡ slice_index_or FROM_COLUMN column [] }
+{
+    match column {
+        0 => u8x16::from_array(FROM_COLUMN[0]),
+        1 => u8x16::from_array(FROM_COLUMN[1]),
+        2 => u8x16::from_array(FROM_COLUMN[2]),
+        _ => u8x16::from_array(FROM_COLUMN[3]),
+    }
+}
+
 /// What the counts of a group add: column 0, and zeros elsewhere.
 #[inline(always)]
 pub fn column(table: &[Planes<u8x16>; 8], group: usize) -> Planes<u8x16>
@@ -172,5 +188,5 @@ pub fn column(table: &[Planes<u8x16>; 8], group: usize) -> Planes<u8x16>
     ensures { (k : ℕ) → HasColumns table.now k → (b : ℕ) → b < 8
         → block lane_bit result b ≡ added k ((8 * group + b + 2) % 2 ^ 8) }
 {
-    all_moved(&table[group / 4], u8x16::from_array(FROM_COLUMN[group % 4]))
+    all_moved(&table[group / 4], from_column(group % 4))
 }
