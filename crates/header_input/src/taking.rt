@@ -39,10 +39,8 @@ pub fn take_header<S: Source>(
         if let Err(end) = pieces.next(input) {
             return Err(NoHeader::End(end));
         }
-        match feed(alloc, &mut reader, pieces.piece()) {
-            Ok(true) => return Ok(reader),
-            Ok(false) => {}
-            Err(error) => return Err(error),
+        if feed(alloc, &mut reader, pieces.piece())? {
+            return Ok(reader);
         }
     }
 }

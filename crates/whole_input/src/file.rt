@@ -82,10 +82,8 @@ fn fill<F: Shelf>(
     ensures stays { (F.state shelf.new).files ≡ (F.state shelf.old).files }
 {
     while bytes.bytes().len() <= MOST_FILE {
-        match add_piece(shelf, name, buffer, bytes) {
-            Ok(true) => {}
-            Ok(false) => return Ok(()),
-            Err(error) => return Err(error),
+        if !add_piece(shelf, name, buffer, bytes)? {
+            return Ok(());
         }
     }
     Err(FileError::TooLong)

@@ -1,4 +1,5 @@
 use Rattle.std.proofs.Common.{true, false, Ok, Err}
+use Rattle.std.proofs.lemmas.Result.{err_from_is_err_and}
 use Rattle.header_input.proofs.Feeding.{fed_same, going_first, going_on, going_refused, going_whole}
 use Rattle.header_input.proofs.taking.take_header.Goals as goal
 
@@ -12,7 +13,7 @@ pub reading-preserved : goal.reading-preserved
 reading-preserved g c =
     let going = c.reading.invariant.0 in
     let next = c.in_default.ensures.next in
-    let fed = rw c.in-Ok-false.field-0-test at (c.in-Ok-false.ensures c.args.settings going.bytes going.waits) in (
+    let fed = rw c.if-branch.false at (c.in_ok-feed.ensures c.args.settings going.bytes going.waits) in (
       going_on c.args.settings _ _ _ c.reading.pieces.taken c.next.new.self c.reading.reader
           c.feed.new.reader going next.0 next.1 next.2
           (fed_same c.args.settings going.bytes _ c.next.new.self.piece c.feed.new.reader (Ok false)
@@ -20,30 +21,31 @@ reading-preserved g c =
       g.met.S.Source.lasts_more _ _ _ c.reading.invariant.1 c.in_default.ensures.lasts,
     )
 
-pub returns-in-Ok-true-clause-whole : goal.returns-in-Ok-true-clause-whole
-returns-in-Ok-true-clause-whole g c =
+pub returns-then-branch-clause-whole : goal.returns-then-branch-clause-whole
+returns-then-branch-clause-whole g c =
     let going = c.reading.invariant.0 in
-    let fed = rw c.in-Ok-true.field-0-test at (c.in-Ok-true.ensures c.args.settings going.bytes going.waits) in
+    let fed = rw c.if-branch.true at (c.in_ok-feed.ensures c.args.settings going.bytes going.waits) in
     going_whole c.args.settings _ _ _ c.reading.pieces.taken c.next.new.self.piece c.reading.reader
     c.feed.new.reader going c.in_default.ensures.next.0
     (fed_same c.args.settings going.bytes _ c.next.new.self.piece c.feed.new.reader (Ok true)
     c.piece.ensures fed)
 
-pub returns-in-Ok-true-clause-lasts : goal.returns-in-Ok-true-clause-lasts
-returns-in-Ok-true-clause-lasts g c =
+pub returns-then-branch-clause-lasts : goal.returns-then-branch-clause-lasts
+returns-then-branch-clause-lasts g c =
     g.met.S.Source.lasts_more _ _ _ c.reading.invariant.1 c.in_default.ensures.lasts
 
-pub returns-in-Err-feed-clause-cause : goal.returns-in-Err-feed-clause-cause
-returns-in-Err-feed-clause-cause g c =
+pub returns-in_err-feed-clause-cause : goal.returns-in_err-feed-clause-cause
+returns-in_err-feed-clause-cause g c =
     let going = c.reading.invariant.0 in
-    let fed = c.in-Err-feed.ensures c.args.settings going.bytes going.waits in
-    going_refused c.args.settings _ _ _ c.reading.pieces.taken c.next.new.self.piece c.reading.reader
-    c.feed.new.reader c.in-Err-feed.error going c.in_default.ensures.next.0
+    let fed = c.in_err-feed.ensures c.args.settings going.bytes going.waits in
+    let p = err_from_is_err_and c.from_residual-in_err-feed.result c.from_residual-in_err-feed.ensures.1 in
+    rw (p.1, p.2) (going_refused c.args.settings _ _ _ c.reading.pieces.taken c.next.new.self.piece c.reading.reader
+    c.feed.new.reader c.in_err-feed.field-0.0 going c.in_default.ensures.next.0
     (fed_same c.args.settings going.bytes _ c.next.new.self.piece c.feed.new.reader
-    (Err c.in-Err-feed.error) c.piece.ensures fed)
+    (Err c.in_err-feed.field-0.0) c.piece.ensures fed))
 
-pub returns-in-Err-feed-clause-lasts : goal.returns-in-Err-feed-clause-lasts
-returns-in-Err-feed-clause-lasts g c =
+pub returns-in_err-feed-clause-lasts : goal.returns-in_err-feed-clause-lasts
+returns-in_err-feed-clause-lasts g c =
     g.met.S.Source.lasts_more _ _ _ c.reading.invariant.1 c.in_default.ensures.lasts
 
 pub returns-in-Err-clause-lasts : goal.returns-in-Err-clause-lasts
