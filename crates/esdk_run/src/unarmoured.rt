@@ -9,7 +9,7 @@ use esdk_decrypt::DecryptError;
 use esdk_fields::{Fault, Outside};
 
 /// Judges how a text ends whose bytes were read, where they are `sound`, without a fault: behind the
-/// last of them its end may not have been seen yet. Where they aren't, no more of it is read.
+/// last of them its end may not have been seen yet. Where they aren't, it finds no fault.
 ///
 /// M27 `BadArmour`, where the text ends in a bad or short group; X6, where 2^62 bytes of it were
 /// taken; X1, where a read of it failed.

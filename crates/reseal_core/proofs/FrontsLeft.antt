@@ -1,5 +1,5 @@
 -- What is written of a new message before its last frame is no whole message.
-use Rattle.std.proofs.Common.{◌≡◌, ◌∙◌, ℕ, ◌+◌, ◌≤◌, List, ◌++◌, length, Some, refl, sym, ap, subst, arith}
+use Rattle.std.proofs.Common.{◌≡◌, ◌∙◌, ℕ, ◌+◌, ◌≤◌, List, ◌++◌, length, Some, refl, sym, ap, arith}
 use Rattle.frame_codec.specs.Written.{final_frame}
 use Rattle.frame_codec.proofs.WrittenAgain.{length-final_frame}
 use Rattle.header_codec.specs.declared.settings.Settings.{Settings}
@@ -8,7 +8,6 @@ use Rattle.keyring_trait.specs.Unlocking.{Unlocking}
 use Rattle.body_format.specs.declared.verdicts.Verdict.TheVariants.{Going, Whole}
 use Rattle.message_format.specs.Judgement.{judged}
 use Rattle.message_format.proofs.Following.{fronts_go_on, judged_goes_on}
-use Rattle.stream_seal.specs.Feeding.{given_so_far}
 use Rattle.stream_seal.specs.Session.{SealingValue, held, under_of}
 use Rattle.stream_seal.specs.Start.{message_of}
 use Rattle.stream_seal.proofs.Feeding.{last_held}

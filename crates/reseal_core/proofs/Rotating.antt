@@ -1,6 +1,6 @@
 -- What a message is resealed to is read by whoever has one of the new keys.
-use Rattle.std.proofs.Common.{◌≡◌, ◌⊎◌, ◌∙◌, ℕ, ◌+◌, ◌*◌, ◌^◌, ◌<◌, ◌≤◌, Bool, true, false, ◌||◌, List, [], ◌∷◌, ◌++◌, length, take, drop, Some, None, refl, sym, ap, subst, arith, length-take, inl, inr}
-use Rattle.std.specs.Prelude.{Contains, IfSome}
+use Rattle.std.proofs.Common.{◌≡◌, ◌⊎◌, ◌∙◌, ℕ, ◌^◌, ◌<◌, ◌≤◌, Bool, true, false, ◌||◌, List, [], ◌∷◌, length, drop, Some, None, refl, sym, ap, subst, arith, inl, inr}
+use Rattle.std.specs.Prelude.{Contains}
 use Rattle.std.specs.List.{list_any}
 use Rattle.std.specs.Str.{bytes_eq}
 use Rattle.std.specs.Cmp.Lexicographic.{bytes_decides}
@@ -8,24 +8,23 @@ use Rattle.std.specs.Io.KnownBytes.{Appends}
 use Rattle.esdk_base.specs.Streams.{EntropyState, SinkState, SourceState}
 use Rattle.context_codec.specs.Context.{IsAscending, KeyValue, has_key}
 use Rattle.context_codec.specs.KeySet.{has, with_keys}
-use Rattle.context_codec.specs.Parts.{holds, is_among, keys_of, only_of, stored_of}
+use Rattle.context_codec.specs.Parts.{holds, is_among, keys_of, only_of}
 use Rattle.context_codec.proofs.KeySets.{Contains-from_has, has-with_keys}
 use Rattle.context_codec.proofs.Members.{Contains-filter, Contains-filter_back, passes_from}
-use Rattle.edk_codec.specs.Entry.{Entry}
 use Rattle.keyring_trait.specs.Laws.{IsEnough}
 use Rattle.keyring_trait.specs.Manager.{ManagerMeaning}
 use Rattle.keyring_trait.specs.Materials.{EncMaterialsValue}
-use Rattle.keyring_trait.specs.Unlocking.{Unlocking, Unlocks}
+use Rattle.keyring_trait.specs.Unlocking.{Unlocks}
 use Rattle.keyring_trait.specs.Wrapping.{WrapKeyValue, active, ivs_of}
 use Rattle.keyring_trait.proofs.Made.{made_is_wrapped}
 use Rattle.keyring_trait.proofs.Unlocking.{given_is}
-use Rattle.message_format.specs.Judgement.{Judged, content, judged}
+use Rattle.message_format.specs.Judgement.{content, judged}
 use Rattle.message_format.proofs.WrittenMessages.{text_released}
 use Rattle.stream_seal.specs.Start.{message_of, start_refusal}
 use Rattle.esdk_encrypt.specs.Encrypt.{drawn_id, drawn_rest}
 use Rattle.esdk_encrypt.specs.Told.{materials_of}
 use Rattle.esdk_decrypt.specs.Laws.{IsWrittenFor, Written, written_message}
-use Rattle.esdk_decrypt.specs.Told.{Reader, judged_by}
+use Rattle.esdk_decrypt.specs.Told.{Reader}
 use Rattle.esdk_decrypt.proofs.RoundTrip.{written_judged, written_unlocked}
 use Rattle.reseal_core.specs.Front.{AreSound}
 use Rattle.reseal_core.specs.Laws.{IsRotated, ReadsAs, ReadsNew, new_writer}

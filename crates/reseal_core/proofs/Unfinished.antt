@@ -1,5 +1,5 @@
 -- Regular frames alone are no whole body, to no key; and so a header with regular frames is no whole message.
-use Rattle.std.proofs.Common.{◌≡◌, ◌∙◌, ℕ, ◌+◌, ◌-◌, ◌*◌, ◌<◌, ◌≤◌, Bool, true, false, not, ◌&&◌, ◌==◌, List, [], ◌++◌, length, take, drop, Option, Some, None, if◌then◌else◌, refl, sym, ap, arith, append_assoc, append-nil, length-append, take_at, inl, inr}
+use Rattle.std.proofs.Common.{◌≡◌, ◌∙◌, ℕ, ◌+◌, ◌-◌, ◌*◌, ◌<◌, ◌≤◌, Bool, true, false, not, ◌&&◌, ◌==◌, List, [], ◌++◌, length, take, drop, Option, Some, None, if◌then◌else◌, refl, sym, ap, arith, append-nil, length-append, take_at, inl, inr}
 use Rattle.std.specs.Prelude.{is_some, nat_lt}
 use Rattle.std.proofs.Math.Nat.{mul-le-mul_right}
 use Rattle.std.proofs.lemmas.Bool.{cases_lt, lt-ltb}
@@ -29,12 +29,12 @@ use Rattle.body_format.specs.declared.verdicts.Verdict.TheVariants.{Going, Whole
 use Rattle.body_format.specs.Rows.{JudgedBody}
 use Rattle.body_format.specs.Body.{beside_content, judged_body, judged_frames}
 use Rattle.body_format.specs.Table.{first_not_regular, framed_verdict, good_regular, slot_bytes, tabled_frames}
-use Rattle.body_format.specs.Written.{AreFull, IsFramed, frame_count, framed_body, regular_frames}
+use Rattle.body_format.specs.Written.{AreFull, frame_count, framed_body, regular_frames}
 use Rattle.body_format.proofs.TableLaws.{frames_tabled, some_is}
 use Rattle.body_format.proofs.WrittenBodies.{all_full}
 use Rattle.body_format.proofs.WrittenRows.{behind_frames, length-regular_frames, regular_is_more}
 use Rattle.message_format.specs.Message.{IsWritable, header_body, header_tag, under}
-use Rattle.message_format.specs.Judgement.{Judged, header_of, judged, judged_header, judged_lock, lock_fault}
+use Rattle.message_format.specs.Judgement.{Judged, judged, judged_header, judged_lock, lock_fault}
 use Rattle.message_format.specs.Laws.{IsWithinLimits}
 use Rattle.message_format.proofs.Judging.{judged_read}
 use Rattle.message_format.proofs.WrittenHeads.{begins_written, body_place, header_found, length-header_tag, written}

@@ -1,10 +1,10 @@
 -- What a run says of all the bytes of an input that tells them.
-use Rattle.std.proofs.Common.{◌≡◌, ◌∙◌, ℕ, ◌≤◌, List, [], ◌++◌, length, take, Bool, true, false, Option, Some, None, refl, sym, ap, subst, arith, append-nil, append_assoc, length-append, length-take, inl, inr}
+use Rattle.std.proofs.Common.{◌≡◌, ◌∙◌, ℕ, ◌≤◌, List, [], ◌++◌, length, Bool, true, false, Option, Some, None, refl, sym, ap, subst, arith, append-nil, append_assoc, length-append, length-take, inl, inr}
 use Rattle.std.specs.List.{concat}
 use Rattle.std.specs.Io.KnownBytes.{Appends, Consumes, IsAtEnd}
 use Rattle.std.proofs.lemmas.List.Folds.{concat-append}
 use Rattle.esdk_fields.specs.Counts.{Stayed}
-use Rattle.esdk_fields.specs.Place.{Place, start, followed}
+use Rattle.esdk_fields.specs.Place.{start, followed}
 use Rattle.esdk_fields.specs.Reading.{Reading, Read, Refused, Wanting}
 use Rattle.esdk_fields.proofs.Fronts.{value_stays}
 use Rattle.esdk_base.specs.Streams.{EntropyState, SinkState, SourceState}
@@ -29,9 +29,9 @@ use Rattle.message_format.proofs.Judging.{judged_refused, judged_wanting}
 use Rattle.message_format.proofs.ReadingOn.{read_goes_on, read_is, unlocking_is}
 use Rattle.stream_seal.specs.Start.{message_of, start_refusal}
 use Rattle.whole_input.specs.Taken.{Came, EndSeen}
-use Rattle.esdk_encrypt.specs.Encrypt.{Drew, drawn_id, drawn_rest, written_so_far}
+use Rattle.esdk_encrypt.specs.Encrypt.{Drew, drawn_id, written_so_far}
 use Rattle.esdk_encrypt.specs.Laws.{NoObjectFails}
-use Rattle.esdk_encrypt.specs.Told.{materials_of, message_by}
+use Rattle.esdk_encrypt.specs.Told.{message_by}
 use Rattle.esdk_encrypt.proofs.Fitting.{few_begin}
 use Rattle.esdk_decrypt.specs.Decrypt.{fault_at_end, fault_of}
 use Rattle.esdk_decrypt.specs.Told.{Reader, judged_by}
