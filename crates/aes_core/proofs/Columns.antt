@@ -6,7 +6,7 @@ use Rattle.std.proofs.lemmas.Nat.{xor_comm, xor_shr, xor_mod}
 use Rattle.cipher_spec.specs.Field.{field_product}
 use Rattle.cipher_spec.specs.Aes.{sub_byte, add_word}
 use Rattle.cipher_spec.proofs.Computed.{holds_below, at_each}
-use Rattle.aes_core.specs.Column.{mixed_column}
+use Rattle.aes_core.specs.Column.{mixed_column, share}
 use Rattle.aes_core.specs.declared.sbox.TheConstants.{SBOX}
 use Rattle.aes_core.specs.declared.column.TheConstants.{PRODUCTS}
 use Rattle.aes_core.proofs.Tables.{table_is}
@@ -25,12 +25,6 @@ same_parts a b c d p q r s e f g h = rw (e, f, g, h) refl
 abbrev pub turned : ℕ → ℕ → ℕ
 turned zero n = n
 turned (suc j) n = rotate_left w32 n (8 * suc j)
-
--- what s adds to the byte that stands i rows above its own
-abbrev pub share : ℕ → ℕ → ℕ
-share zero s = field_product 2 s
-share (suc zero) s = field_product 3 s
-share (suc (suc i)) s = s
 
 -- the entry at i, turned to row k / 4, has in row k % 4 what it should
 abbrev pub is_right : ℕ → ℕ → Bool

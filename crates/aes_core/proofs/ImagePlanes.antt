@@ -1,21 +1,22 @@
--- Planes that have the images of last bytes in their lanes, and the columns that are made of them.
-use Rattle.std.proofs.Common.{◌≡◌, ℕ, ◌+◌, ◌*◌, ◌/◌, ◌%◌, ◌^◌, ◌<◌, ◌≤◌, Bool, true, false, List, ◌∷◌, cond, leb, map, get_or, bit_xor, eqb, refl, sym, ap, ◌∙◌, arith}
+-- Planes that have images of the S-box in their lanes, and the columns that are made of them.
+use Rattle.std.proofs.Common.{◌≡◌, ℕ, zero, suc, ◌+◌, ◌*◌, ◌/◌, ◌%◌, ◌^◌, ◌<◌, ◌≤◌, Bool, true, false, List, ◌∷◌, cond, leb, map, get_or, bit_xor, refl, sym, ap, ◌∙◌, arith}
 use Rattle.std.specs.List.{range_with_len}
 use Rattle.std.specs.Int.{bit_at}
 use Rattle.std.specs.Int.Bits.{xor_zero_r}
-use Rattle.std.proofs.lemmas.Bool.{lt-leb}
+use Rattle.std.proofs.lemmas.Bool.{le-leb, lt-leb}
 use Rattle.std.proofs.lemmas.Nat.{xor_comm}
 use Rattle.std.proofs.lemmas.Nat.Bits.{bit_at-lt}
 use Rattle.std.proofs.lemmas.List.FromFn.{get_or-map-range_with_len}
 use Rattle.cipher_spec.specs.Field.{field_product, xtime}
-use Rattle.cipher_spec.specs.Aes.{state_of, sub_byte}
+use Rattle.cipher_spec.specs.Aes.{at, state_of, sub_byte}
 use Rattle.plane_core.specs.declared.planes.Planes.{Planes}
 use Rattle.plane_core.specs.Bits.{block, byte_of, number_of}
 use Rattle.plane_core.specs.Places.{lane, lane_bit}
 use Rattle.plane_core.proofs.Bytes.{same_image}
 use Rattle.plane_core.proofs.States.{same_state}
-use Rattle.aes_core.specs.Counters.{added, column_byte, image, lane_byte}
-use Rattle.aes_core.proofs.Pages.{each_of_sixteen, triple_is, twice_is}
+use Rattle.aes_core.specs.Column.{share}
+use Rattle.aes_core.specs.Counters.{column_byte, image, lane_byte, last_byte}
+use Rattle.aes_core.proofs.Pages.{triple_is, twice_is}
 
 -- ---- bytes in lanes
 
@@ -91,76 +92,73 @@ byte_moved x y p j b q e0 e1 e2 e3 e4 e5 e6 e7 =
     same_image number_of _ _ _ _ _ _ _ _ _ _ _ _ _ _ _ _ (bit _ _ e0) (bit _ _ e1) (bit _ _ e2) (bit _ _ e3) (bit _ _ e4) (bit _ _ e5) (bit _ _ e6) (bit _ _ e7)
     ∙ number_moved p _ _ _ _ _ _ _ _
 
--- ---- columns
+-- ---- states
 
-taken : (p a y : ℕ) → p < 16 → a ≡ cond (leb 0x80 p) 0 y → a ≡ y
-taken p a y h e = e ∙ ap (λ t. cond t 0 y) (lt-leb 0x80 p (omega arith))
+-- byte j of a state in planes
+pub state_byte : (x : Planes (List ℕ)) (f : ℕ → ℕ → ℕ) (j b : ℕ) → j < 16 → block lane_bit x b ≡ state_of f → byte_of lane_bit x j b ≡ f (j % 4) (j / 4)
+state_byte x f j b h is =
+    sym (byte_in x j b h) ∙ ap (λ l. get_or l j 0) is ∙ get_or-map-range_with_len (λ k. f (k % 4) (k / 4)) 0 16 j j 0 h (omega arith)
 
--- the byte in rows 0 and 1 of a column, where v is the sum of a and twice e
-pub once_row : (v a d e p y : ℕ) → p < 16 → v ≡ bit_xor a d → a ≡ cond (leb 0x80 p) 0 y → d ≡ xtime e → e ≡ 0 → v ≡ y
-once_row v a d e p y h is is-a is-d is-e =
-    is ∙ ap (λ a. bit_xor a d) (taken p a y h is-a) ∙ ap (bit_xor y) (is-d ∙ ap xtime is-e) ∙ xor_zero_r y
+-- a state by its bytes in planes
+pub state_from : (x : Planes (List ℕ)) (f : ℕ → ℕ → ℕ) (b : ℕ) → ((j : ℕ) → j < 16 → byte_of lane_bit x j b ≡ f (j % 4) (j / 4)) → block lane_bit x b ≡ state_of f
+unfolding block
+state_from x f b e =
+    same_state (λ j. byte_of lane_bit x (j % 4 + 4 * (j / 4)) b) (λ j. f (j % 4) (j / 4))
+    (λ j h. let i : j % 4 + 4 * (j / 4) ≡ j = omega arith in ap (λ j. byte_of lane_bit x j b) i ∙ e j h)
 
--- in row 2
-pub triple_row : (v a d e p y : ℕ) → p < 16 → y < 256 → v ≡ bit_xor a d → a ≡ cond (leb 0x80 p) 0 y → d ≡ xtime e → e ≡ cond (leb 0x80 p) 0 y → v ≡ field_product 3 y
-triple_row v a d e p y h small is is-a is-d is-e =
-    is ∙ ap (λ a. bit_xor a d) (taken p a y h is-a) ∙ ap (bit_xor y) (is-d ∙ ap xtime (taken p e y h is-e) ∙ twice_is y small)
+-- the byte in row r of column c, in its lane
+pub lane_at : (x : Planes (List ℕ)) (r c b : ℕ) → r < 4 → c < 4 → lane_byte x (4 * r + c) b ≡ at (block lane_bit x b) r c
+lane_at x r c b h l =
+    let place : lane (r + 4 * c) ≡ 4 * r + c = omega arith in
+    sym (byte_at_lane x (r + 4 * c) b (4 * r + c) place) ∙ sym (byte_in x (r + 4 * c) b (omega arith))
+
+-- ---- sums of images
+
+-- the byte that comes from lane p
+abbrev pub lane_taken : Planes (List ℕ) → ℕ → ℕ → ℕ
+lane_taken x b p = cond (leb 0x80 p) 0 (lane_byte x p b)
+
+taken : (x : Planes (List ℕ)) (b p : ℕ) → p < 16 → lane_taken x b p ≡ lane_byte x p b
+taken x b p h = ap (λ t. cond t 0 (lane_byte x p b)) (lt-leb 0x80 p (omega arith))
+
+not_taken : (x : Planes (List ℕ)) (b p : ℕ) → 0x80 ≤ p → lane_taken x b p ≡ 0
+not_taken x b p h = ap (λ t. cond t 0 (lane_byte x p b)) (le-leb 0x80 p h)
+
+-- the lane that the byte d rows above an image's own takes the image from: w, or none
+abbrev pub once_from : ℕ → ℕ → ℕ → ℕ
+once_from zero w none = none
+once_from (suc d) w none = w
+
+-- the lane that it takes twice the image from
+abbrev pub twice_from : ℕ → ℕ → ℕ → ℕ
+twice_from zero w none = w
+twice_from (suc zero) w none = w
+twice_from (suc (suc d)) w none = none
+
+-- the byte d rows above the image's own, where v is the sum of a and twice e
+pub share_row : (x : Planes (List ℕ)) (b d w none v a m e : ℕ) → w < 16 → 0x80 ≤ none → v ≡ bit_xor a m
+    → a ≡ lane_taken x b (once_from d w none) → m ≡ xtime e → e ≡ lane_taken x b (twice_from d w none) → v ≡ share d (lane_byte x w b)
+share_row x b zero w none v a m e h l is is-a is-m is-e =
+    is ∙ ap (λ a. bit_xor a m) (is-a ∙ not_taken x b none l)
+    ∙ ap (bit_xor 0) (is-m ∙ ap xtime (is-e ∙ taken x b w h) ∙ twice_is (lane_byte x w b) (lane_byte_below x w b))
+share_row x b (suc zero) w none v a m e h l is is-a is-m is-e =
+    let y = lane_byte x w b in
+    let small : y < 256 = lane_byte_below x w b in
+    is ∙ ap (λ a. bit_xor a m) (is-a ∙ taken x b w h) ∙ ap (bit_xor y) (is-m ∙ ap xtime (is-e ∙ taken x b w h) ∙ twice_is y small)
     ∙ xor_comm y (field_product 2 y) ∙ sym (triple_is y small)
+share_row x b (suc (suc d)) w none v a m e h l is is-a is-m is-e =
+    let y = lane_byte x w b in
+    is ∙ ap (λ a. bit_xor a m) (is-a ∙ taken x b w h) ∙ ap (bit_xor y) (is-m ∙ ap xtime (is-e ∙ not_taken x b none l)) ∙ xor_zero_r y
 
--- in row 3
-pub twice_row : (v a d e p y : ℕ) → p < 16 → y < 256 → v ≡ bit_xor a d → a ≡ 0 → d ≡ xtime e → e ≡ cond (leb 0x80 p) 0 y → v ≡ field_product 2 y
-twice_row v a d e p y h small is is-a is-d is-e =
-    is ∙ ap (λ a. bit_xor a d) is-a ∙ ap (bit_xor 0) (is-d ∙ ap xtime (taken p e y h is-e) ∙ twice_is y small)
+-- ---- the columns of a quad
 
 -- block b of a quad
 pub quad_block : (x y : Planes (List ℕ)) (first at q b key : ℕ) → at ≤ 12 → b < 8 → (first + 8 * at) % 2 ^ 8 ≡ (32 * q + 2) % 2 ^ 8
     → ((j b : ℕ) → j < 16 → byte_of lane_bit y j b ≡ column_byte (j % 4) (lane_byte x (at + j / 4) b))
     → ((p b : ℕ) → p < 16 → b < 8 → lane_byte x p b ≡ image key ((first + b + 8 * p) % 2 ^ 8))
-    → block lane_bit y b ≡ state_of (λ r c. column_byte r (image key ((8 * (4 * q + c) + b + 2) % 2 ^ 8)))
-unfolding block
+    → block lane_bit y b ≡ state_of (λ r c. column_byte r (image key (last_byte q c b)))
 quad_block x y first at q b key low few place columns images =
-    same_state (λ j. byte_of lane_bit y (j % 4 + 4 * (j / 4)) b) (λ j. column_byte (j % 4) (image key ((8 * (4 * q + j / 4) + b + 2) % 2 ^ 8))) (λ j h.
-    let i : j % 4 + 4 * (j / 4) ≡ j = omega arith in
-    let n : (first + b + 8 * (at + j / 4)) % 2 ^ 8 ≡ (8 * (4 * q + j / 4) + b + 2) % 2 ^ 8 = omega arith in
+    state_from y (λ r c. column_byte r (image key (last_byte q c b))) b (λ j h.
+    let n : (first + b + 8 * (at + j / 4)) % 2 ^ 8 ≡ last_byte q (j / 4) b = omega arith in
     let inside : at + j / 4 < 16 = omega arith in
-    ap (λ j. byte_of lane_bit y j b) i ∙ columns j b h
-    ∙ ap (column_byte (j % 4)) (images (at + j / 4) b inside few ∙ ap (image key) n))
-
--- the byte in row r of column c, in its lane
-pub quad_byte : (x : Planes (List ℕ)) (f : ℕ → ℕ → ℕ) (r c b p : ℕ) → r < 4 → c < 4 → p ≡ 4 * r + c → block lane_bit x b ≡ state_of f → lane_byte x p b ≡ f r c
-quad_byte x f r c b p h l e is =
-    let j : lane (r + 4 * c) ≡ p = omega arith in
-    let inside : r + 4 * c < 16 = omega arith in
-    let row : (r + 4 * c) % 4 ≡ r = omega arith in
-    let col : (r + 4 * c) / 4 ≡ c = omega arith in
-    sym (byte_at_lane x (r + 4 * c) b p j) ∙ sym (byte_in x (r + 4 * c) b inside) ∙ ap (λ l. get_or l (r + 4 * c) 0) is
-    ∙ get_or-map-range_with_len (λ k. f (k % 4) (k / 4)) 0 16 (r + 4 * c) (r + 4 * c) 0 inside (omega arith)
-    ∙ ap (λ i. f i ((r + 4 * c) / 4)) row ∙ ap (f r) col
-
--- byte j of a group's column, by the quad's, where p is the lane that it is taken from
-pub column_row : (x : Planes (List ℕ)) (key g b j : ℕ) → j < 16
-    → block lane_bit x b ≡ state_of (λ r c. column_byte r (image key ((8 * (4 * (g / 4) + c) + b + 2) % 2 ^ 8)))
-    → (v p : ℕ) → v ≡ cond (leb 0x80 p) 0 (lane_byte x p b) → p ≡ cond (eqb (j / 4) 0) (4 * j + g % 4) 0x80
-    → v ≡ cond (eqb (j / 4) 0) (column_byte (j % 4) (image key ((8 * g + b + 2) % 2 ^ 8))) 0
-column_row x key g b j h is =
-    let n : (8 * (4 * (g / 4) + g % 4) + b + 2) % 2 ^ 8 ≡ (8 * g + b + 2) % 2 ^ 8 = omega arith in
-    let there : (r : ℕ) → r < 4 → (v p : ℕ) → v ≡ cond (leb 0x80 p) 0 (lane_byte x p b) → p ≡ 4 * r + g % 4
-    → v ≡ column_byte r (image key ((8 * g + b + 2) % 2 ^ 8)) = λ r few v p e at.
-    e ∙ ap (λ t. cond t 0 (lane_byte x p b)) (lt-leb 0x80 p (omega arith))
-    ∙ quad_byte x (λ r c. column_byte r (image key ((8 * (4 * (g / 4) + c) + b + 2) % 2 ^ 8))) r (g % 4) b p few (omega arith) at is
-    ∙ ap (λ n. column_byte r (image key n)) n in
-    let elsewhere : (v p : ℕ) → v ≡ cond (leb 0x80 p) 0 (lane_byte x p b) → p ≡ 0x80 → v ≡ 0 = λ v p e at.
-    e ∙ ap (λ p. cond (leb 0x80 p) 0 (lane_byte x p b)) at in
-    each_of_sixteen (λ j. (v p : ℕ) → v ≡ cond (leb 0x80 p) 0 (lane_byte x p b) → p ≡ cond (eqb (j / 4) 0) (4 * j + g % 4) 0x80
-    → v ≡ cond (eqb (j / 4) 0) (column_byte (j % 4) (image key ((8 * g + b + 2) % 2 ^ 8))) 0)
-    (there 0 (omega arith)) (there 1 (omega arith)) (there 2 (omega arith)) (there 3 (omega arith))
-    elsewhere elsewhere elsewhere elsewhere elsewhere elsewhere elsewhere elsewhere elsewhere elsewhere elsewhere elsewhere j h
-
--- a group's column is all that its counts add
-pub column_block : (x : Planes (List ℕ)) (key n b : ℕ)
-    → ((j : ℕ) → j < 16 → byte_of lane_bit x j b ≡ cond (eqb (j / 4) 0) (column_byte (j % 4) (image key n)) 0)
-    → block lane_bit x b ≡ added key n
-unfolding block added
-column_block x key n b e =
-    same_state (λ j. byte_of lane_bit x (j % 4 + 4 * (j / 4)) b) (λ j. cond (eqb (j / 4) 0) (column_byte (j % 4) (image key n)) 0)
-    (λ j h. let i : j % 4 + 4 * (j / 4) ≡ j = omega arith in ap (λ j. byte_of lane_bit x j b) i ∙ e j h)
+    columns j b h ∙ ap (column_byte (j % 4)) (images (at + j / 4) b inside few ∙ ap (image key) n))

@@ -6,4 +6,5 @@ pub mod KeyPlanes
 pub mod Pages
 pub mod Positions
 pub mod Schedule
+pub mod SecondRound
 pub mod Tables

@@ -1,5 +1,5 @@
 -- The first round on the counter blocks of a page, which differ in their last byte alone.
-use Rattle.std.proofs.Common.{◌≡◌, ℕ, ◌+◌, ◌-◌, ◌*◌, ◌/◌, ◌%◌, ◌^◌, ◌<◌, Bool, true, false, List, [], ◌∷◌, ◌++◌, length, cond, map, get_or, bit_xor, eqb, refl, sym, ap, ◌∙◌, subst, inl, inr, arith, length-append}
+use Rattle.std.proofs.Common.{◌≡◌, ℕ, ◌+◌, ◌-◌, ◌/◌, ◌%◌, ◌^◌, ◌<◌, Bool, true, false, List, [], ◌∷◌, ◌++◌, length, cond, map, get_or, bit_xor, eqb, refl, sym, ap, ◌∙◌, subst, inl, inr, arith, length-append}
 use Rattle.std.specs.List.{range_with_len}
 use Rattle.std.specs.Int.{bytes_high_first, w32, to_be_bytes}
 use Rattle.std.specs.Int.Bits.{xor_assoc, xor_self, xor_zero_r}
@@ -78,22 +78,11 @@ mixed_sums : (a b c d e f g h p q r s : ℕ) → a ≡ bit_xor e p → b ≡ bit
 mixed_sums a b c d e f g h p q r s is-a is-b is-c is-d small-e small-f small-p small-q =
     rw (is-a, is-b, is-c, is-d) (mixed_sum e f g h p q r s small-e small-f small-p small-q)
 
--- ---- the first round
+-- ---- a round
 
 -- byte j after SubBytes
-abbrev pub subbed : List (List ℕ) → List ℕ → ℕ → ℕ
-subbed schedule x j = sub_byte (bit_xor (get_or x j 0) (get_or (get_or schedule 0 []) j 0))
-
--- y in byte 15, and zeros else
-abbrev pub lone : ℕ → ℕ → ℕ
-lone y j = cond (eqb j 15) y 0
-
-cond_below : (p : Bool) (y : ℕ) → y < 256 → cond p y 0 < 256
-cond_below true y h = h
-cond_below false y h = omega arith
-
-lone_below : (y j : ℕ) → y < 256 → lone y j < 256
-lone_below y j h = cond_below (eqb j 15) y h
+abbrev pub subbed : List ℕ → ℕ → ℕ
+subbed s j = sub_byte (get_or s j 0)
 
 xor_right_swapped : (a b c : ℕ) → bit_xor (bit_xor a b) c ≡ bit_xor (bit_xor a c) b
 xor_right_swapped a b c = xor_assoc a b c ∙ ap (bit_xor a) (xor_comm b c) ∙ sym (xor_assoc a c b)
@@ -102,23 +91,33 @@ xor_right_swapped a b c = xor_assoc a b c ∙ ap (bit_xor a) (xor_comm b c) ∙ 
 abbrev pub mixed_at : (ℕ → ℕ) → ℕ → ℕ
 mixed_at f j = mixed_byte (f (shifted j)) (f (shifted (below 1 j))) (f (shifted (below 2 j))) (f (shifted (below 3 j)))
 
--- blocks for which the S-box gives bytes that differ in byte 15 alone
-pub first_round_apart : (schedule : List (List ℕ)) (x z : List ℕ) (y : ℕ) → y < 256
-    → ((j : ℕ) → j < 16 → subbed schedule x j ≡ bit_xor (subbed schedule z j) (lone y j))
-    → rounds schedule x 1 ≡ add_round_key (rounds schedule z 1) (mix_columns (shift_rows (map (lone y) (range_with_len 0 16))))
-unfolding rounds round
-first_round_apart schedule x z y small apart =
-    let f = subbed schedule x in
-    let g = subbed schedule z in
-    let k = get_or schedule 1 [] in
-    let sum : (j : ℕ) → j < 16 → mixed_at f j ≡ bit_xor (mixed_at g j) (mixed_at (lone y) j) = λ j h.
-    mixed_sums (f (shifted j)) (f (shifted (below 1 j))) (f (shifted (below 2 j))) (f (shifted (below 3 j)))
-    (g (shifted j)) (g (shifted (below 1 j))) (g (shifted (below 2 j))) (g (shifted (below 3 j)))
-    (lone y (shifted j)) (lone y (shifted (below 1 j))) (lone y (shifted (below 2 j))) (lone y (shifted (below 3 j)))
+-- states for which SubBytes gives bytes that differ by f
+pub round_apart : (x z k : List ℕ) (f : ℕ → ℕ) → ((j : ℕ) → f j < 256)
+    → ((j : ℕ) → j < 16 → subbed x j ≡ bit_xor (subbed z j) (f j))
+    → round x k ≡ add_round_key (round z k) (mix_columns (shift_rows (map f (range_with_len 0 16))))
+unfolding round
+round_apart x z k f small apart =
+    let p = subbed x in
+    let q = subbed z in
+    let sum : (j : ℕ) → j < 16 → mixed_at p j ≡ bit_xor (mixed_at q j) (mixed_at f j) = λ j h.
+    mixed_sums (p (shifted j)) (p (shifted (below 1 j))) (p (shifted (below 2 j))) (p (shifted (below 3 j)))
+    (q (shifted j)) (q (shifted (below 1 j))) (q (shifted (below 2 j))) (q (shifted (below 3 j)))
+    (f (shifted j)) (f (shifted (below 1 j))) (f (shifted (below 2 j))) (f (shifted (below 3 j)))
     (apart (shifted j) (omega arith)) (apart (shifted (below 1 j)) (omega arith)) (apart (shifted (below 2 j)) (omega arith)) (apart (shifted (below 3 j)) (omega arith))
-    (sub_byte_below _) (sub_byte_below _) (lone_below y (shifted j) small) (lone_below y (shifted (below 1 j)) small) in
-    same_state (λ j. bit_xor (mixed_at f j) (get_or k j 0)) (λ j. bit_xor (bit_xor (mixed_at g j) (get_or k j 0)) (mixed_at (lone y) j))
-    (λ j h. ap (λ n. bit_xor n (get_or k j 0)) (sum j h) ∙ xor_right_swapped (mixed_at g j) (mixed_at (lone y) j) (get_or k j 0))
+    (sub_byte_below _) (sub_byte_below _) (small (shifted j)) (small (shifted (below 1 j))) in
+    same_state (λ j. bit_xor (mixed_at p j) (get_or k j 0)) (λ j. bit_xor (bit_xor (mixed_at q j) (get_or k j 0)) (mixed_at f j))
+    (λ j h. ap (λ n. bit_xor n (get_or k j 0)) (sum j h) ∙ xor_right_swapped (mixed_at q j) (mixed_at f j) (get_or k j 0))
+
+-- y where p holds, and else 0
+pub cond_below : (p : Bool) (y : ℕ) → y < 256 → cond p y 0 < 256
+cond_below true y h = h
+cond_below false y h = omega arith
+
+-- ---- the first round
+
+-- y in byte 15, and zeros else
+abbrev pub lone : ℕ → ℕ → ℕ
+lone y j = cond (eqb j 15) y 0
 
 -- what the rest of the round makes of a lone byte
 pub lone_column : (y : ℕ) → mix_columns (shift_rows (map (lone y) (range_with_len 0 16))) ≡ state_of (λ r c. cond (eqb c 0) (column_byte r y) 0)
@@ -138,33 +137,47 @@ zero_subbed : sub_byte 0 ≡ 0x63
 unfolding sub_byte inverse field_product
 zero_subbed = refl
 
+-- a byte of SubBytes without its constant
+pub unmasked_below : (n : ℕ) → bit_xor (sub_byte n) 0x63 < 256
+unmasked_below n = xor_lt 8 (sub_byte n) 0x63 (sub_byte_below n) (omega arith)
+
 pub image_below : (k n : ℕ) → image k n < 256
 unfolding image
-image_below k n = xor_lt 8 (sub_byte (bit_xor n k)) 0x63 (sub_byte_below (bit_xor n k)) (omega arith)
+image_below k n = unmasked_below (bit_xor n k)
+
+-- the S-box at a byte, as a sum with that at 0
+pub from_zero : (n : ℕ) → sub_byte n ≡ bit_xor (sub_byte 0) (bit_xor (sub_byte n) 0x63)
+from_zero n =
+    let s = sub_byte n in
+    sym (ap (λ b. bit_xor b (bit_xor s 0x63)) zero_subbed ∙ xor_comm 0x63 (bit_xor s 0x63) ∙ xor_assoc s 0x63 0x63 ∙ xor_zero_r s)
 
 -- the image of a byte, as a sum with that of 0
 image_apart : (k n : ℕ) → sub_byte (bit_xor n k) ≡ bit_xor (sub_byte (bit_xor k k)) (image k n)
 unfolding image
 image_apart k n =
-    let s = sub_byte (bit_xor n k) in
-    sym (ap (λ b. bit_xor (sub_byte b) (bit_xor s 0x63)) (xor_self k) ∙ ap (λ b. bit_xor b (bit_xor s 0x63)) zero_subbed
-    ∙ xor_comm 0x63 (bit_xor s 0x63) ∙ xor_assoc s 0x63 0x63 ∙ xor_zero_r s)
+    from_zero (bit_xor n k) ∙ ap (λ b. bit_xor (sub_byte b) (bit_xor (sub_byte (bit_xor n k)) 0x63)) (sym (xor_self k))
+
+-- a block with the first round key added
+abbrev pub first_keyed : List (List ℕ) → List ℕ → List ℕ
+first_keyed schedule x = add_round_key x (get_or schedule 0 [])
 
 before_last : (schedule : List (List ℕ)) (front : List ℕ) (n m : ℕ) → length front ≡ 15 → (j : ℕ) → j < 15
-    → subbed schedule (front ++ n ∷ []) j ≡ bit_xor (subbed schedule (front ++ m ∷ []) j) 0
+    → sub_byte (bit_xor (get_or (front ++ n ∷ []) j 0) (get_or (get_or schedule 0 []) j 0))
+    ≡ bit_xor (sub_byte (bit_xor (get_or (front ++ m ∷ []) j 0) (get_or (get_or schedule 0 []) j 0))) 0
 before_last schedule front n m long j h =
     let left : (a : ℕ) → get_or (front ++ a ∷ []) j 0 ≡ get_or front j 0 = λ a. get_or_append_left front (a ∷ []) 0 j (omega arith) in
-    ap (λ b. sub_byte (bit_xor b (get_or (get_or schedule 0 []) j 0))) (left n ∙ sym (left m)) ∙ sym (xor_zero_r (subbed schedule (front ++ m ∷ []) j))
+    let at = λ (b : ℕ). sub_byte (bit_xor b (get_or (get_or schedule 0 []) j 0)) in
+    ap at (left n ∙ sym (left m)) ∙ sym (xor_zero_r (at (get_or (front ++ m ∷ []) j 0)))
 
 -- the blocks of a page differ after SubBytes in the last byte's image alone
 same_but_last : (schedule : List (List ℕ)) (front : List ℕ) (n : ℕ) → length front ≡ 15 → (j : ℕ) → j < 16
-    → subbed schedule (front ++ n ∷ []) j
-    ≡ bit_xor (subbed schedule (front ++ last_key_byte schedule ∷ []) j) (lone (image (last_key_byte schedule) n) j)
+    → subbed (first_keyed schedule (front ++ n ∷ [])) j
+    ≡ bit_xor (subbed (first_keyed schedule (front ++ last_key_byte schedule ∷ [])) j) (lone (image (last_key_byte schedule) n) j)
 same_but_last schedule front n long =
     let k = last_key_byte schedule in
     let right : (a : ℕ) → get_or (front ++ a ∷ []) 15 0 ≡ a = λ a. get_or-append_right front (a ∷ []) 15 15 0 long (omega arith) in
     let same = before_last schedule front n k long in
-    each_of_sixteen (λ j. subbed schedule (front ++ n ∷ []) j ≡ bit_xor (subbed schedule (front ++ k ∷ []) j) (lone (image k n) j))
+    each_of_sixteen (λ j. subbed (first_keyed schedule (front ++ n ∷ [])) j ≡ bit_xor (subbed (first_keyed schedule (front ++ k ∷ [])) j) (lone (image k n) j))
     (same 0 (omega arith)) (same 1 (omega arith)) (same 2 (omega arith)) (same 3 (omega arith)) (same 4 (omega arith)) (same 5 (omega arith)) (same 6 (omega arith)) (same 7 (omega arith))
     (same 8 (omega arith)) (same 9 (omega arith)) (same 10 (omega arith)) (same 11 (omega arith)) (same 12 (omega arith)) (same 13 (omega arith)) (same 14 (omega arith))
     (ap (λ b. sub_byte (bit_xor b k)) (right n) ∙ image_apart k n ∙ ap (λ b. bit_xor (sub_byte (bit_xor b k)) (image k n)) (sym (right k)))
@@ -174,26 +187,23 @@ same_but_last schedule front n long =
 -- the state after round 1 of each block of a page: the page's, and what the last byte adds
 pub page_law : (schedule : List (List ℕ)) (iv : List ℕ) (page n : ℕ) → length iv ≡ 12
     → rounds schedule (page_bytes iv page ++ n ∷ []) 1 ≡ add_round_key (page_state schedule iv page) (added (last_key_byte schedule) n)
-unfolding page_state added
+unfolding page_state added rounds
 page_law schedule iv page n long =
     let front = page_bytes iv page in
     let k = last_key_byte schedule in
     let size : length front ≡ 15 = length-append iv (bytes_high_first 3 page) ∙ ap (λ l. l + 3) long in
-    first_round_apart schedule (front ++ n ∷ []) (front ++ k ∷ []) (image k n) (image_below k n) (same_but_last schedule front n size)
-    ∙ ap (add_round_key (rounds schedule (front ++ k ∷ []) 1)) (lone_column (image k n))
+    let z = first_keyed schedule (front ++ k ∷ []) in
+    let key = get_or schedule 1 [] in
+    round_apart (first_keyed schedule (front ++ n ∷ [])) z key (lone (image k n)) (λ j. cond_below (eqb j 15) (image k n) (image_below k n)) (same_but_last schedule front n size)
+    ∙ ap (add_round_key (round z key)) (lone_column (image k n))
 
--- the same of a counter block of a group
-pub page_member : (schedule : List (List ℕ)) (iv s t : List ℕ) (count b : ℕ) → length iv ≡ 12 → count < 2 ^ 32
-    → count % 8 ≡ 2 → count % 2 ^ 8 < 250 → b < 8 → s ≡ page_state schedule iv (count / 2 ^ 8)
-    → t ≡ added (last_key_byte schedule) ((8 * (count % 2 ^ 8 / 8) + b + 2) % 2 ^ 8)
-    → add_round_key s t ≡ rounds schedule (counter (iv ++ to_be_bytes w32 count) b) 1
-page_member schedule iv s t count b long fits place inside few is-s is-t =
-    let n = (8 * (count % 2 ^ 8 / 8) + b + 2) % 2 ^ 8 in
-    let page = count / 2 ^ 8 in
+-- a counter block of a group, by its page and its last byte
+pub group_block : (iv : List ℕ) (count b page n : ℕ) → length iv ≡ 12 → count < 2 ^ 32 → count % 8 ≡ 2 → count % 2 ^ 8 < 250 → b < 8
+    → page ≡ count / 2 ^ 8 → n ≡ (count + b) % 2 ^ 8
+    → page_bytes iv page ++ n ∷ [] ≡ counter (iv ++ to_be_bytes w32 count) b
+group_block iv count b page n long fits place inside few is-page is-n =
     let later = (count + b) % 2 ^ 32 in
-    let same_page : later / 2 ^ 8 ≡ page = omega arith in
-    let last : later % 2 ^ 8 ≡ n = omega arith in
-    ap (λ s. add_round_key s t) is-s ∙ ap (add_round_key (page_state schedule iv page)) is-t
-    ∙ sym (page_law schedule iv page n long)
-    ∙ ap (λ x. rounds schedule x 1) (ap (λ m. page_bytes iv m ++ n ∷ []) (sym same_page) ∙ ap (λ m. page_bytes iv (later / 2 ^ 8) ++ m ∷ []) (sym last)
-    ∙ sym (page_split iv later) ∙ counter-later iv count b long fits)
+    let same_page : page ≡ later / 2 ^ 8 = omega arith in
+    let last : n ≡ later % 2 ^ 8 = omega arith in
+    ap (λ m. page_bytes iv m ++ n ∷ []) same_page ∙ ap (λ m. page_bytes iv (later / 2 ^ 8) ++ m ∷ []) last
+    ∙ sym (page_split iv later) ∙ counter-later iv count b long fits

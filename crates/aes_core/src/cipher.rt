@@ -3,6 +3,7 @@
 ghost use Rattle.std.specs.Prelude.{◌≡◌};
 ghost use Rattle.cipher_spec.specs.Aes.{add_round_key, cipher, key_at, last_round, round};
 ghost use Rattle.aes_core.specs.Column.{bytes};
+ghost use Rattle.aes_core.specs.Counters.{without_column};
 
 use crate::column::{column, word};
 use crate::sbox::sub_byte;
@@ -79,18 +80,39 @@ pub fn cipher(keys: &[[u8; 16]; 15], x: [u8; 16]) -> [u8; 16]
     last_round(state, keys[14])
 }
 
+/// The state's bytes, column by column.
+#[inline(always)]
+fn bytes(s: [u32; 4]) -> [u8; 16]
+    ensures { result ≡ bytes s }
+{
+    let a = s[0].to_le_bytes();
+    let b = s[1].to_le_bytes();
+    let c = s[2].to_le_bytes();
+    let d = s[3].to_le_bytes();
+    [
+        a[0], a[1], a[2], a[3], b[0], b[1], b[2], b[3], c[0], c[1], c[2], c[3], d[0], d[1], d[2],
+        d[3],
+    ]
+}
+
 /// The state after the first round (FIPS 197, 5.1).
 #[inline(always)]
 pub fn after_first_round(keys: &[[u8; 16]; 15], x: [u8; 16]) -> [u8; 16]
     ensures { result ≡ round (add_round_key x (key_at keys.now 0)) (key_at keys.now 1) }
 {
-    let state = round(first(x, keys[0]), keys[1]);
-    let a = state[0].to_le_bytes();
-    let b = state[1].to_le_bytes();
-    let c = state[2].to_le_bytes();
-    let d = state[3].to_le_bytes();
-    [
-        a[0], a[1], a[2], a[3], b[0], b[1], b[2], b[3], c[0], c[1], c[2], c[3], d[0], d[1], d[2],
-        d[3],
-    ]
+    bytes(round(first(x, keys[0]), keys[1]))
+}
+
+/// A round with the round key `k` on a state that has zeros in column 0, and else the bytes of `s`.
+#[inline(always)]
+pub fn round_without_column(s: [u8; 16], k: [u8; 16]) -> [u8; 16]
+    ensures { result ≡ round (without_column s) k }
+{
+    let columns = [
+        0,
+        word(s[4], s[5], s[6], s[7]),
+        word(s[8], s[9], s[10], s[11]),
+        word(s[12], s[13], s[14], s[15]),
+    ];
+    bytes(round(columns, k))
 }

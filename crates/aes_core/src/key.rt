@@ -10,14 +10,13 @@ ghost use Rattle.plane_core.specs.Places.{lane_bit};
 ghost use Rattle.aes_core.specs.Counters.{HasColumns, IsPage, last_key_byte};
 ghost use Rattle.aes_core.specs.PlaneKeys.{HasKeys};
 
-use crate::after_first::{cipher_from, first_states};
+use crate::after_second::{cipher_from, second_states};
 use crate::cipher::cipher;
 use crate::counter::counter_blocks;
 use crate::key_schedule::round_keys;
-use crate::page::{CounterPage, page_of};
+use crate::page::{CounterPage, group_states, page_of, turn};
 use crate::{eight, four, last_byte};
 use plane_core::planes::Planes;
-use plane_core::rounds::keyed;
 use std::marker::Model;
 use std::simd::prelude::*;
 
@@ -93,41 +92,40 @@ impl Key256 {
         ensures page { IsPage self.now iv.now result }
         ensures number { result.number ≡ count / 2 ^ 8 }
     {
-        page_of(&self.schedule, iv, count)
+        page_of(&self.schedule, &self.last_bytes, iv, count)
     }
 
-    /// Puts the page of a count in `page`, if it isn't there.
+    /// Puts the page and the quad of a count in `page`, if they aren't there.
     #[inline(always)]
     fn turn_to(&self, iv: &[u8; 12], count: u32, page: &mut CounterPage)
         requires { IsPage self.now iv.now page.old }
         ensures page { IsPage self.now iv.now page.new }
-        ensures number { page.new.number ≡ count / 2 ^ 8 }
+        ensures quad { page.new.quad ≡ count / 32 }
     {
-        if page.number != count / 256 {
-            *page = page_of(&self.schedule, iv, count);
+        if page.quad != count / 32 {
+            turn(&self.schedule, &self.last_bytes, iv, count, page);
         }
     }
 
-    /// The states after round 1 of eight counter blocks in a row.
+    /// The states after round 2 of eight counter blocks in a row.
     #[inline(always)]
     fn started(&self, iv: &[u8; 12], count: u32, page: &mut CounterPage) -> Planes<u8x16>
         requires { IsPage self.now iv.now page.old }
         ensures states { (b : ℕ) → b < 8 → block lane_bit result b
-            ≡ rounds (round_keys self.now) (counter (iv.now ++ to_be_bytes w32 count) b) 1 }
+            ≡ rounds (round_keys self.now) (counter (iv.now ++ to_be_bytes w32 count) b) 2 }
         ensures page { IsPage self.now iv.now page.new }
     {
         if !is_group(count) {
-            return first_states(&self.eights, &counter_blocks(iv, count));
+            return second_states(&self.eights, &counter_blocks(iv, count));
         }
         self.turn_to(iv, count, page);
-        let column = last_byte::column(&self.last_bytes, (count % 256 / 8) as usize);
-        keyed(&page.state, &column)
+        group_states(page, (count % 32 / 8) as u8)
     }
 
     /// The eight counter blocks from that of the count `count` on, each enciphered under the key
     /// (NIST SP 800-38D, section 6.5). `page` is any page of the initialization vector under the
-    /// key: that of the last group saves most of round 1 where this group is of the same page, and
-    /// gives way to this group's where it isn't.
+    /// key: that of the last group saves most of rounds 1 and 2 where this group is of the same page,
+    /// and gives way to this group's where it isn't.
     pub fn counters8(&self, iv: &[u8; 12], count: u32, page: &mut CounterPage) -> [[u8; 16]; 8]
         requires { IsPage self.now iv.now page.old }
         ensures blocks { result

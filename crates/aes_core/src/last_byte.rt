@@ -9,22 +9,17 @@
 //! with the bytes 0 and 1, so that all 256 are there; as counts they are the next page's, and no
 //! group of a page.
 
-ghost use Rattle.std.specs.Prelude.{◌≡◌, ℕ, ◌+◌, ◌*◌, ◌/◌, ◌%◌, ◌^◌, ◌<◌, ◌≤◌, leb, [], map, bit_xor, slice_index, slice_index_or, if◌then◌else◌};
+ghost use Rattle.std.specs.Prelude.{◌≡◌, ℕ, ◌+◌, ◌*◌, ◌/◌, ◌%◌, ◌^◌, ◌<◌, map, bit_xor};
 ghost use Rattle.std.specs.List.{range_with_len};
-ghost use Rattle.std.specs.Int.{w8};
-ghost use Rattle.std.proofs.lemmas.Simd.{SwzOk};
-ghost use Rattle.plane_core.specs.Bits.{block, byte_of};
+ghost use Rattle.plane_core.specs.Bits.{byte_of};
 ghost use Rattle.plane_core.specs.Places.{lane, lane_bit};
-ghost use Rattle.aes_core.specs.Counters.{HasColumns, added, column_byte, image, lane_byte};
-ghost use Rattle.aes_core.specs.declared.last_byte.TheConstants.{FROM_COLUMN};
+ghost use Rattle.aes_core.specs.Counters.{HasColumns, column_byte, image, lane_byte};
 
+use crate::lanes::{NONE, all_moved};
 use plane_core::circuit;
 use plane_core::eight::loaded;
 use plane_core::planes::{Planes, doubled, sum};
 use std::simd::prelude::*;
-
-/// Marks a lane that is to be zero.
-const NONE: u8 = 0x80;
 
 // ---- images of the last bytes
 
@@ -73,38 +68,6 @@ fn images(first: u8, key: u8) -> Planes<u8x16>
     ]))
 }
 
-// ---- lanes moved
-
-/// For each lane the lane whose number stands in `from`, or 0 where `NONE` does.
-#[inline(always)]
-fn moved(v: u8x16, from: u8x16) -> u8x16
-    requires { SwzOk w8 16 16 0 from }
-    ensures { (p : ℕ) → p < 16 → slice_index result p
-        ≡ (if leb 0x80 (slice_index from p) then 0 else slice_index v (slice_index from p)) }
-{
-    v.swizzle_dyn(from)
-}
-
-/// The same for each plane.
-#[inline(always)]
-fn all_moved(x: &Planes<u8x16>, from: u8x16) -> Planes<u8x16>
-    requires { SwzOk w8 16 16 0 from }
-    ensures { (j b : ℕ) → j < 16 → byte_of lane_bit result j b
-        ≡ (if leb 0x80 (slice_index from (lane j)) then 0
-        else lane_byte x.now (slice_index from (lane j)) b) }
-{
-    Planes {
-        b0: moved(x.b0, from),
-        b1: moved(x.b1, from),
-        b2: moved(x.b2, from),
-        b3: moved(x.b3, from),
-        b4: moved(x.b4, from),
-        b5: moved(x.b5, from),
-        b6: moved(x.b6, from),
-        b7: moved(x.b7, from),
-    }
-}
-
 // ---- the table
 
 /// Of the lanes of 16 groups, those of quad q for the column bytes that have the image once, in
@@ -124,15 +87,6 @@ const TWICE: [[u8; 16]; 4] = [
     [NONE, NONE, NONE, NONE, NONE, NONE, NONE, NONE, 4, 5, 6, 7, 4, 5, 6, 7],
     [NONE, NONE, NONE, NONE, NONE, NONE, NONE, NONE, 8, 9, 10, 11, 8, 9, 10, 11],
     [NONE, NONE, NONE, NONE, NONE, NONE, NONE, NONE, 12, 13, 14, 15, 12, 13, 14, 15],
-];
-
-/// The lanes of each column, which go to column 0.
-#[rattlefmt::skip]
-const FROM_COLUMN: [[u8; 16]; 4] = [
-    [0, NONE, NONE, NONE, 4, NONE, NONE, NONE, 8, NONE, NONE, NONE, 12, NONE, NONE, NONE],
-    [1, NONE, NONE, NONE, 5, NONE, NONE, NONE, 9, NONE, NONE, NONE, 13, NONE, NONE, NONE],
-    [2, NONE, NONE, NONE, 6, NONE, NONE, NONE, 10, NONE, NONE, NONE, 14, NONE, NONE, NONE],
-    [3, NONE, NONE, NONE, 7, NONE, NONE, NONE, 11, NONE, NONE, NONE, 15, NONE, NONE, NONE],
 ];
 
 /// The columns of the four groups of a quad side by side, from the images of 16 groups: in row 3
@@ -164,29 +118,4 @@ pub fn table(key: u8) -> [Planes<u8x16>; 8]
         quad(&high, 2),
         quad(&high, 3),
     ]
-}
-
-/// The lanes that go to column 0 from a column.
-// A choice of constants: a row of an array of them would be put on the stack in each call first.
-#[inline(always)]
-fn from_column(column: usize) -> u8x16
-    requires { column < 4 }
-    ensures { result ≡ slice_index_or FROM_COLUMN column [] }
-{
-    match column {
-        0 => u8x16::from_array(FROM_COLUMN[0]),
-        1 => u8x16::from_array(FROM_COLUMN[1]),
-        2 => u8x16::from_array(FROM_COLUMN[2]),
-        _ => u8x16::from_array(FROM_COLUMN[3]),
-    }
-}
-
-/// What the counts of a group add: column 0, and zeros elsewhere.
-#[inline(always)]
-pub fn column(table: &[Planes<u8x16>; 8], group: usize) -> Planes<u8x16>
-    requires { group < 32 }
-    ensures { (k : ℕ) → HasColumns table.now k → (b : ℕ) → b < 8
-        → block lane_bit result b ≡ added k ((8 * group + b + 2) % 2 ^ 8) }
-{
-    all_moved(&table[group / 4], from_column(group % 4))
 }

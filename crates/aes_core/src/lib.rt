@@ -2,10 +2,10 @@
 //!
 //! `Key256` holds a key with its round keys, and enciphers blocks under it. Counter blocks are
 //! enciphered faster than others: those of a `CounterPage` differ in one byte, so that most of
-//! their first round is the same.
+//! their first two rounds is the same.
 #![tactic(auto)]
 
-mod after_first;
+mod after_second;
 mod cipher;
 mod column;
 mod constant;
@@ -14,9 +14,11 @@ mod eight;
 mod four;
 mod key;
 mod key_schedule;
+mod lanes;
 mod last_byte;
 mod page;
 mod sbox;
+mod second_round;
 
 pub use counter::counter_block;
 pub use key::Key256;

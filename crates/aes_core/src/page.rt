@@ -1,37 +1,92 @@
 //! Pages: 256 counter blocks whose counts differ in the last byte alone.
 //!
-//! They have 15 bytes in common. So the first round is done once for a page, and what the last byte
-//! adds to it comes from a table of the key.
+//! They have 15 bytes in common. So the first two rounds are done once for a page, but for what
+//! comes of the last byte: a table of the key has that for round 1, and the page itself for round 2
+//! of a quad, which is four groups of eight counts.
 
-ghost use Rattle.std.specs.Prelude.{◌≡◌, ℕ, ◌/◌, ◌^◌, ◌<◌};
+ghost use Rattle.std.specs.Prelude.{◌≡◌, ℕ, ◌/◌, ◌%◌, ◌^◌, ◌<◌, List, [], ◌∷◌, ◌++◌, length};
+ghost use Rattle.cipher_spec.specs.Aes.{rounds};
 ghost use Rattle.plane_core.specs.Bits.{block};
 ghost use Rattle.plane_core.specs.Places.{lane_bit};
-ghost use Rattle.aes_core.specs.Counters.{page_state};
+ghost use Rattle.aes_core.specs.Counters.{HasColumns, HasPage, last_byte, last_key_byte, page_bytes};
 
-use crate::cipher::after_first_round;
+use crate::cipher::{after_first_round, round_without_column};
 use crate::counter::page_block;
+use crate::second_round::{four_times, quad_images, spread};
 use plane_core::eight::loaded;
 use plane_core::planes::Planes;
+use plane_core::rounds::keyed;
 use std::simd::prelude::*;
 
 /// A page under a key, as `Key256::counters8` keeps it from one group of counter blocks to the
-/// next: its number, which is the count without its last byte, and its state after round 1, eight
-/// times.
+/// next.
 #[derive(Clone, Copy)]
 pub struct CounterPage {
+    /// The count without its last byte.
     pub(crate) number: u32,
-    pub(crate) state: Planes<u8x16>,
+    /// The quad that the images are of: the count without its last five bits.
+    pub(crate) quad: u32,
+    /// Column 0 of the state after round 1, but for what the last byte adds, four times.
+    pub(crate) column: Planes<u8x16>,
+    /// The state after round 2, but for what comes of that column, eight times.
+    pub(crate) rest: Planes<u8x16>,
+    /// The S-box's images of that column in round 2, in each block of the quad.
+    pub(crate) images: Planes<u8x16>,
 }
 
-/// The page that has the counter block of a count.
-pub fn page_of(schedule: &[[u8; 16]; 15], iv: &[u8; 12], count: u32) -> CounterPage
+/// The page that has the counter block of a count, with the quad of the count. `last_bytes` is the
+/// table of the key.
+#[inline(never)]
+pub fn page_of(
+    schedule: &[[u8; 16]; 15],
+    last_bytes: &[Planes<u8x16>; 8],
+    iv: &[u8; 12],
+    count: u32,
+) -> CounterPage
     ensures number { result.number ≡ count / 2 ^ 8 }
-    ensures state { (b : ℕ) → b < 8 → block lane_bit result.state b
-        ≡ page_state schedule.now iv.now (count / 2 ^ 8) }
+    ensures quad { result.quad ≡ count / 32 }
+    ensures page { HasColumns last_bytes.now (last_key_byte schedule.now)
+        → HasPage schedule.now iv.now result }
 {
     let state = after_first_round(schedule, page_block(iv, count, schedule[0][15]));
+    let column = loaded(&[four_times(state); 8]);
     CounterPage {
         number: count / 256,
-        state: loaded(&[state; 8]),
+        quad: count / 32,
+        column,
+        rest: loaded(&[round_without_column(state, schedule[2]); 8]),
+        images: quad_images(last_bytes, &column, (count % 256 / 32) as usize),
     }
+}
+
+/// Puts the page and the quad of a count in `page`.
+#[inline(never)]
+pub fn turn(
+    schedule: &[[u8; 16]; 15],
+    last_bytes: &[Planes<u8x16>; 8],
+    iv: &[u8; 12],
+    count: u32,
+    page: &mut CounterPage,
+)
+    ensures quad { page.new.quad ≡ count / 32 }
+    ensures page { HasColumns last_bytes.now (last_key_byte schedule.now)
+        → HasPage schedule.now iv.now page.old → HasPage schedule.now iv.now page.new }
+{
+    if page.number != count / 256 {
+        *page = page_of(schedule, last_bytes, iv, count);
+    } else {
+        page.images = quad_images(last_bytes, &page.column, (count % 256 / 32) as usize);
+        page.quad = count / 32;
+    }
+}
+
+/// The states after round 2 of the counter blocks of group `t` of the page's quad.
+#[inline(always)]
+pub fn group_states(page: &CounterPage, t: u8) -> Planes<u8x16>
+    requires { t < 4 }
+    ensures { (schedule : List (List ℕ)) (iv : List ℕ) (b : ℕ) → HasPage schedule iv page.now
+        → length iv ≡ 12 → b < 8 → block lane_bit result b ≡ rounds schedule
+        (page_bytes iv page.now.number ++ last_byte (page.now.quad % 8) t b ∷ []) 2 }
+{
+    keyed(&page.rest, &spread(&page.images, t))
 }

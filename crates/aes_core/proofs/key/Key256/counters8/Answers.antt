@@ -14,5 +14,5 @@ returns-clause-blocks c =
     let blocks = map (counter initial) (range_with_len 0 8) in
     c.cipher_from.ensures schedule blocks c.self.invariant.1 (length-map-range_with_len (counter initial) 0 8) (λ b h.
     c.started-start.ensures.states b h ∙ rw (c.self.invariant.0, c.self.view_is) refl
-    ∙ ap (λ x. rounds schedule x 1) (sym (get_or-map-range_with_len (counter initial) 0 8 b b [] h (omega arith))))
+    ∙ ap (λ x. rounds schedule x 2) (sym (get_or-map-range_with_len (counter initial) 0 8 b b [] h (omega arith))))
     ∙ rw (c.self.invariant.0, c.self.view_is) refl

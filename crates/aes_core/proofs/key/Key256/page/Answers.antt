@@ -1,7 +1,9 @@
-use Rattle.std.proofs.Common.{refl, ◌∙◌}
+use Rattle.std.proofs.Common.{◌≡◌, refl, subst}
+use Rattle.cipher_spec.specs.Aes.{round_keys}
+use Rattle.aes_core.specs.Counters.{HasPage}
 use Rattle.aes_core.proofs.key.Key256.page.Goals as goal
 
 pub returns-clause-page : goal.returns-clause-page
-returns-clause-page c = record {
-  is_state = λ b h. c.page_of.ensures.state b h ∙ rw (c.page_of.ensures.number, c.self.invariant.0, c.self.view_is) refl;
-}
+returns-clause-page c =
+    let keys : c.self.inside.schedule ≡ round_keys c.args.self.now = rw (c.self.invariant.0, c.self.view_is) refl in
+    subst (λ schedule. HasPage schedule c.args.iv.now c.page_of.result) keys (c.page_of.ensures.page c.self.invariant.2)

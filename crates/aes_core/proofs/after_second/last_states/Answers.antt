@@ -2,7 +2,7 @@ use Rattle.std.proofs.Common.{arith}
 use Rattle.cipher_spec.specs.Aes.{key_at}
 use Rattle.plane_core.specs.Places.{lane_bit}
 use Rattle.aes_core.proofs.KeyPlanes.{later_key, round_more, after_rounds}
-use Rattle.aes_core.proofs.after_first.last_states.Goals as goal
+use Rattle.aes_core.proofs.after_second.last_states.Goals as goal
 
 pub each-init : goal.each-init
 each-init c schedule x b has h is = is

@@ -1,7 +1,7 @@
 use Rattle.std.proofs.Common.{◌<◌, leb, get_or, arith}
 use Rattle.plane_core.specs.Places.{lane}
 use Rattle.aes_core.proofs.ImagePlanes.{byte_moved}
-use Rattle.aes_core.proofs.last_byte.all_moved.Goals as goal
+use Rattle.aes_core.proofs.lanes.all_moved.Goals as goal
 
 pub returns : goal.returns
 returns c j b h =

@@ -3,8 +3,8 @@ use Rattle.cipher_spec.specs.Aes.{rounds}
 use Rattle.plane_core.specs.Bits.{block}
 use Rattle.plane_core.specs.Places.{lane_bit}
 use Rattle.aes_core.specs.PlaneKeys.{HasKeys}
-use Rattle.aes_core.proofs.after_first.last_states.Given as goal
+use Rattle.aes_core.proofs.after_second.last_states.Given as goal
 
 abbrev pub invariant-each : goal.invariant-each
 invariant-each l = (schedule : List (List ℕ)) (x : List ℕ) (b : ℕ) → HasKeys lane_bit 8 l.keys schedule → b < 8
-    → block lane_bit l.fn.start b ≡ rounds schedule x 1 → block lane_bit l.state b ≡ rounds schedule x (l.r - 1)
+    → block lane_bit l.fn.start b ≡ rounds schedule x 2 → block lane_bit l.state b ≡ rounds schedule x (l.r - 1)

@@ -3,7 +3,7 @@ use Rattle.cipher_spec.specs.Aes.{cipher}
 use Rattle.plane_core.specs.Bits.{block}
 use Rattle.plane_core.specs.Places.{lane_bit}
 use Rattle.aes_core.proofs.KeyPlanes.{all_blocks}
-use Rattle.aes_core.proofs.after_first.cipher_from.Goals as goal
+use Rattle.aes_core.proofs.after_second.cipher_from.Goals as goal
 
 pub returns : goal.returns
 returns c schedule x has long is =

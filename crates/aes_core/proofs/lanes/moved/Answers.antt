@@ -1,6 +1,6 @@
 use Rattle.std.proofs.Common.{◌≡◌, ◌+◌, ◌*◌, ◌/◌, cond, leb, get_or, w8, ap, ◌∙◌, arith}
 use Rattle.std.proofs.lemmas.Simd.{get_or-swz_l}
-use Rattle.aes_core.proofs.last_byte.moved.Goals as goal
+use Rattle.aes_core.proofs.lanes.moved.Goals as goal
 
 pub swizzle : goal.swizzle
 swizzle c = c.requires
