@@ -107,10 +107,3 @@ pub short_of_memory : (old : Body) (piece : List ℕ) (r : Result ℕ OpenError)
 short_of_memory old piece r is going lacks =
     let p = err_from_is_err_and r is in
     subst (AnswersBody old piece) (sym (p.1 ∙ ap failed p.2)) (going, lacks)
-
--- the fault is the unit's
-pub faulty_answer : (old : Body) (piece : List ℕ) (r : Result ℕ OpenError) (error : OpenError) (fault : Fault) → IsErrAnd r (λ other. other ≡ error) → error ≡ errors.Fault fault
-    → body_answer old piece ≡ Err (errors.Fault fault) → AnswersBody old piece r
-faulty_answer old piece r error fault is same answer =
-    let p = err_from_is_err_and r is in
-    subst (AnswersBody old piece) (sym (p.1 ∙ ap failed (p.2 ∙ same))) answer

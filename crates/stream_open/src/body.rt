@@ -1,12 +1,9 @@
 //! The body of a message that comes in pieces.
 
-ghost use Rattle.std.specs.Prelude.{◌≡◌, ◌+◌, ◌<◌, ◌≤◌, ℕ, [], ◌++◌, length, take, true, false, None, Some, IfOk, IfErr, OnErr};
+ghost use Rattle.std.specs.Prelude.{◌≡◌, ◌<◌, ◌≤◌, ℕ, [], ◌++◌, length, take, true, false, IfOk, OnErr};
 ghost use Rattle.esdk_fields.specs.Reading.{Read, Refused};
-ghost use Rattle.esdk_fields.specs.declared.faults.Fault.TheVariants.{UnitTag};
-ghost use Rattle.frame_codec.specs.UnitHead.{final_mark, longest_block, IfRegular};
+ghost use Rattle.frame_codec.specs.UnitHead.{final_mark, IfRegular};
 ghost use Rattle.stream_open.specs.Body.{answer_behind, AnswersBody, GoesOn, HoldsFrames, IsInUnit, SameBody, StepsBody};
-ghost use Rattle.frame_codec.specs.UnitBuffer.{opened_of};
-ghost use Rattle.stream_open.specs.declared.errors.OpenError.TheVariants as errors;
 ghost use Rattle.stream_open.specs.Session.{framed};
 
 use crate::errors::OpenError;
@@ -111,37 +108,32 @@ impl Body {
                     if self.unit.held().len() != end {
                         return Ok(used);
                     }
-                    self.open(&head)?;
+                    if !self
+                        .unit
+                        .open(&mut self.key, self.message_id.bytes(), &head)
+                    {
+                        return Err(OpenError::Fault(Fault::UnitTag(head.number)));
+                    }
+                    self.go_on_behind(&head);
                     return Ok(used);
                 }
             }
         }
     }
 
-    /// Opens the unit behind this head, which is whole, and goes on to the next number, or ends.
-    /// `Fault` with M20 where its tag is wrong.
-    fn open(&mut self, head: &UnitHead) -> Result<(), OpenError>
-        requires whole { length self.old.unit.held ≡ head.now.size + head.now.length + 16 }
-        requires short { head.now.length ≤ longest_block }
+    /// Goes on to the next number behind the unit of this head, which was opened, or ends.
+    fn go_on_behind(&mut self, head: &UnitHead)
         requires numbered { IfRegular head.now.kind (head.now.number < final_mark) }
         requires going { self.old.ended ≡ false }
-        ensures opens { IfOk result (λ _. opened_of self.old.key self.old.message_id head.now
-            self.old.unit.held ≡ Some self.new.unit.out) }
-        ensures on { IfOk result (λ _. GoesOn head.now self.new) }
-        ensures fault { IfErr result (λ e. (e ≡ errors.Fault (UnitTag head.now.number))
-            × (opened_of self.old.key self.old.message_id head.now self.old.unit.held ≡ None)) }
-        ensures nothing { OnErr result (self.new.unit.out ≡ []) }
-        ensures kept { OnErr result (self.new.ended ≡ self.old.ended) }
+        requires given { self.old.unit.held ≡ [] }
+        ensures on { GoesOn head.now self.new }
+        ensures unit { self.new.unit ≡ self.old.unit }
         ensures same { SameBody self.old self.new }
     {
-        if !self.unit.open(&mut self.key, self.message_id.bytes(), head) {
-            return Err(OpenError::Fault(Fault::UnitTag(head.number)));
-        }
         match head.kind {
             UnitKind::Regular => self.number = head.number + 1,
             UnitKind::Final | UnitKind::Single => self.ended = true,
         }
-        Ok(())
     }
 }
 

@@ -24,6 +24,12 @@ pub enum OpenError {
 }
 
 impl fmt::Display for OpenError {
+    ghost use Rattle.std.specs.Prelude.{Some};
+    ghost use Rattle.stream_open.specs.Errors.{open_error_text};
+
+    ghost output = { λ e. Some (open_error_text e) };
+
+    #[tactic(auto, unfolding(crate::specs::Errors::open_error_text))]
     fn fmt<W: fmt::Write>(&self, f: &mut fmt::Formatter<W>) -> fmt::Result {
         match self {
             OpenError::Fault(fault) => fmt::Display::fmt(fault, f),

@@ -1,16 +1,16 @@
 use Rattle.std.proofs.Common.{◌≡◌, ◌≢◌, ◌+◌, ◌-◌, ◌<◌, ◌≤◌, ◌++◌, ◌∙◌, ℕ, [], length, take, drop, min, List, Some, None, sym, ap, arith}
-use Rattle.esdk_fields.specs.declared.faults.Fault.TheVariants.{UnitTag}
 use Rattle.esdk_fields.specs.Reading.{Wanting}
 use Rattle.frame_codec.specs.declared.unit_heads.UnitHead.{UnitHead}
 use Rattle.frame_codec.specs.declared.unit_heads.Head.TheVariants as heads
 use Rattle.frame_codec.specs.UnitHead.{head_of}
 use Rattle.frame_codec.specs.InPlace.{unit_size}
+use Rattle.frame_codec.specs.UnitBuffer.{opened_of}
 use Rattle.stream_open.specs.declared.body.Body.{Body}
 use Rattle.stream_open.specs.Body.{open_unit}
 use Rattle.std.proofs.lemmas.List.{length-drop, take_all}
 use Rattle.frame_codec.proofs.Answering.{decides}
 use Rattle.stream_open.proofs.Filling.{IsFilled, heads_are, filled_on, wants_before}
-use Rattle.stream_open.proofs.UnitAnswers.{refused_answer, wanting_answer, wanting_steps, whole_answer, opened_steps, short_of_memory, faulty_answer}
+use Rattle.stream_open.proofs.UnitAnswers.{refused_answer, wanting_answer, wanting_steps, whole_answer, opened_steps, short_of_memory}
 use Rattle.stream_open.proofs.WholeUnits.{needs_few, good_head, lacks_room, wants_within, FilledUnit, filled_unit, whole_unit}
 use Rattle.stream_open.proofs.Bodies.{answers_behind}
 use Rattle.stream_open.proofs.body.Body.step.Goals as goal
@@ -161,8 +161,8 @@ returns-then-held-end-2-clause-steps c = λ inside.
     let is : open_unit c.args.self.now (c.args.self.now.unit.held ++ take n piece) ≡ Wanting = wants_within c.args.self.now piece n n head unit.known (omega arith) all.1 in
     wanting_steps c.args.self.now now piece n c.if-self.false is unit.on
 
-pub returns-in_err-open-in-Unit-clause-answer : goal.returns-in_err-open-in-Unit-clause-answer
-returns-in_err-open-in-Unit-clause-answer c = λ inside.
+pub returns-then-not-open-clause-answer : goal.returns-then-not-open-clause-answer
+returns-then-not-open-clause-answer c = λ inside.
     let filled = c.fields.invariant in
     let held : c.held-held.result.now ≡ c.args.self.now.unit.held ++ take c.fields.used c.args.piece.now = c.held-held.ensures ∙ filled.held in
     let head : UnitHead = c.in-Unit.head in
@@ -178,10 +178,9 @@ returns-in_err-open-in-Unit-clause-answer c = λ inside.
     let now : Body = record c.fields.self { unit = c.fill-in-Unit.new.self } in
     let unit : FilledUnit c.args.self.now now piece n head = filled_unit c.args.self.now c.fields.self piece c.fields.used c.in_ok-used-in-Unit.field-0 head c.fill-in-Unit.new.self filled known count taken in
     let full : length c.fill-in-Unit.new.self.held ≡ unit_size head = ap length (sym c.held-in-Unit.ensures) ∙ c.if-held-end-2.false in
-    let fault = c.in_err-open-in-Unit.ensures.fault in
-    let whole = whole_unit c.args.self.now now piece n head None unit full fault.1 in
-    faulty_answer c.args.self.now piece c.from_residual-in_err-open-in-Unit.result c.in_err-open-in-Unit.field-0.0 (UnitTag head.number) c.from_residual-in_err-open-in-Unit.ensures.1 fault.0
-    (whole_answer c.args.self.now piece n head None c.if-self.false (inside c.if-self.false) unit.on.within (unit.on.wanting inside) whole)
+    let opens : opened_of now.key now.message_id head now.unit.held ≡ None = rw (c.bytes.ensures.value, c.if-not-open.true) at c.open.ensures.answer in
+    let whole = whole_unit c.args.self.now now piece n head None unit full opens in
+    whole_answer c.args.self.now piece n head None c.if-self.false (inside c.if-self.false) unit.on.within (unit.on.wanting inside) whole
 
 pub returns-in-Unit-clause-answer : goal.returns-in-Unit-clause-answer
 returns-in-Unit-clause-answer c = λ inside.
@@ -200,8 +199,9 @@ returns-in-Unit-clause-answer c = λ inside.
     let now : Body = record c.fields.self { unit = c.fill-in-Unit.new.self } in
     let unit : FilledUnit c.args.self.now now piece n head = filled_unit c.args.self.now c.fields.self piece c.fields.used c.in_ok-used-in-Unit.field-0 head c.fill-in-Unit.new.self filled known count taken in
     let full : length c.fill-in-Unit.new.self.held ≡ unit_size head = ap length (sym c.held-in-Unit.ensures) ∙ c.if-held-end-2.false in
-    let whole = whole_unit c.args.self.now now piece n head (Some c.open.new.self.unit.out) unit full c.in_ok-open-in-Unit.ensures.opens in
-    whole_answer c.args.self.now piece n head (Some c.open.new.self.unit.out) c.if-self.false (inside c.if-self.false) unit.on.within (unit.on.wanting inside) whole
+    let opens : opened_of now.key now.message_id head now.unit.held ≡ Some c.open.new.self.out = rw (c.bytes.ensures.value, c.if-not-open.false) at c.open.ensures.answer in
+    let whole = whole_unit c.args.self.now now piece n head (Some c.open.new.self.out) unit full opens in
+    whole_answer c.args.self.now piece n head (Some c.open.new.self.out) c.if-self.false (inside c.if-self.false) unit.on.within (unit.on.wanting inside) whole
 
 pub returns-in-Unit-clause-steps : goal.returns-in-Unit-clause-steps
 returns-in-Unit-clause-steps c = λ inside.
@@ -220,6 +220,7 @@ returns-in-Unit-clause-steps c = λ inside.
     let now : Body = record c.fields.self { unit = c.fill-in-Unit.new.self } in
     let unit : FilledUnit c.args.self.now now piece n head = filled_unit c.args.self.now c.fields.self piece c.fields.used c.in_ok-used-in-Unit.field-0 head c.fill-in-Unit.new.self filled known count taken in
     let full : length c.fill-in-Unit.new.self.held ≡ unit_size head = ap length (sym c.held-in-Unit.ensures) ∙ c.if-held-end-2.false in
-    let whole = whole_unit c.args.self.now now piece n head (Some c.open.new.self.unit.out) unit full c.in_ok-open-in-Unit.ensures.opens in
+    let opens : opened_of now.key now.message_id head now.unit.held ≡ Some c.open.new.self.out = rw (c.bytes.ensures.value, c.if-not-open.false) at c.open.ensures.answer in
+    let whole = whole_unit c.args.self.now now piece n head (Some c.open.new.self.out) unit full opens in
     let good = good_head c.args.self.now.content c.args.self.now.number c.args.self.now.max_unit (c.args.self.now.unit.held ++ take c.fields.used piece) head known in
-    opened_steps c.args.self.now c.open.new.self piece n head c.if-self.false good.numbered c.in_ok-open-in-Unit.ensures.on whole
+    opened_steps c.args.self.now c.go_on_behind.new.self piece n head c.if-self.false good.numbered c.go_on_behind.ensures.on (rw (sym c.go_on_behind.ensures.unit) at whole)
