@@ -13,3 +13,4 @@ pub mod Stands
 pub mod Unarmoured
 pub mod Unarmouring
 pub mod Widths
+pub mod Errors

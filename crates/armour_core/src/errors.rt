@@ -15,6 +15,12 @@ pub enum ArmourError {
 }
 
 impl fmt::Display for ArmourError {
+    ghost use Rattle.std.specs.Prelude.{Some};
+    ghost use Rattle.armour_core.specs.Errors.{armour_error_text};
+
+    ghost output = { λ e. Some (armour_error_text e) };
+
+    #[tactic(auto, unfolding(crate::specs::Errors::armour_error_text))]
     fn fmt<W: fmt::Write>(&self, f: &mut fmt::Formatter<W>) -> fmt::Result {
         match self {
             ArmourError::Fault(fault) => fmt::Display::fmt(fault, f),

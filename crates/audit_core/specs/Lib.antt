@@ -5,3 +5,4 @@ pub mod Asking
 pub mod Taking
 pub mod MessageFiles
 pub mod Laws
+pub mod Errors

@@ -20,6 +20,12 @@ pub enum AuditError {
 }
 
 impl fmt::Display for AuditError {
+    ghost use Rattle.std.specs.Prelude.{Some};
+    ghost use Rattle.audit_core.specs.Errors.{audit_error_text};
+
+    ghost output = { λ e. Some (audit_error_text e) };
+
+    #[tactic(auto, unfolding(crate::specs::Errors::audit_error_text))]
     fn fmt<W: fmt::Write>(&self, f: &mut fmt::Formatter<W>) -> fmt::Result {
         match self {
             AuditError::Fault(fault) => fmt::Display::fmt(fault, f),

@@ -7,3 +7,4 @@ pub mod Steps
 pub mod Receiving
 pub mod Beginning
 pub mod Laws
+pub mod Errors

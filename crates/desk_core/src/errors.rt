@@ -25,6 +25,12 @@ pub enum DeskError {
 }
 
 impl fmt::Display for DeskError {
+    ghost use Rattle.std.specs.Prelude.{Some};
+    ghost use Rattle.desk_core.specs.Errors.{desk_error_text};
+
+    ghost output = { λ e. Some (desk_error_text e) };
+
+    #[tactic(auto, unfolding(crate::specs::Errors::desk_error_text))]
     fn fmt<W: fmt::Write>(&self, f: &mut fmt::Formatter<W>) -> fmt::Result {
         match self {
             DeskError::NotLive => f.write_str("no session of this number is live"),

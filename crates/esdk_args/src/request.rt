@@ -137,6 +137,12 @@ pub enum WordsFault {
 }
 
 impl fmt::Display for WordsFault {
+    ghost use Rattle.std.specs.Prelude.{Some};
+    ghost use Rattle.esdk_args.specs.Faults.{words_fault_text};
+
+    ghost output = { λ e. Some (words_fault_text e) };
+
+    #[tactic(auto, unfolding(crate::specs::Faults::words_fault_text))]
     fn fmt<W: fmt::Write>(&self, f: &mut fmt::Formatter<W>) -> fmt::Result {
         match self {
             WordsFault::NotRead => f.write_str("the words are those of no command"),

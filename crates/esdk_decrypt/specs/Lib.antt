@@ -2,3 +2,4 @@ pub mod Decrypt
 pub mod Told
 pub mod Laws
 pub mod Underway
+pub mod Errors

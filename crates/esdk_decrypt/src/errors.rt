@@ -19,6 +19,12 @@ pub enum DecryptError {
 }
 
 impl fmt::Display for DecryptError {
+    ghost use Rattle.std.specs.Prelude.{Some};
+    ghost use Rattle.esdk_decrypt.specs.Errors.{decrypt_error_text};
+
+    ghost output = { λ e. Some (decrypt_error_text e) };
+
+    #[tactic(auto, unfolding(crate::specs::Errors::decrypt_error_text))]
     fn fmt<W: fmt::Write>(&self, f: &mut fmt::Formatter<W>) -> fmt::Result {
         match self {
             DecryptError::Fault(fault) => fmt::Display::fmt(fault, f),

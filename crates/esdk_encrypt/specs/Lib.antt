@@ -4,3 +4,4 @@ pub mod Writing
 pub mod Asking
 pub mod Told
 pub mod Laws
+pub mod Errors

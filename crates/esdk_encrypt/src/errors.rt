@@ -20,6 +20,12 @@ pub enum EncryptError {
 }
 
 impl fmt::Display for EncryptError {
+    ghost use Rattle.std.specs.Prelude.{Some};
+    ghost use Rattle.esdk_encrypt.specs.Errors.{encrypt_error_text};
+
+    ghost output = { λ e. Some (encrypt_error_text e) };
+
+    #[tactic(auto, unfolding(crate::specs::Errors::encrypt_error_text))]
     fn fmt<W: fmt::Write>(&self, f: &mut fmt::Formatter<W>) -> fmt::Result {
         match self {
             EncryptError::Refusal(refusal) => fmt::Display::fmt(refusal, f),

@@ -3,3 +3,4 @@ pub mod ReadAhead
 pub mod Slots
 pub mod Extract
 pub mod Laws
+pub mod Errors

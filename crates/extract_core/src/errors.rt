@@ -19,6 +19,12 @@ pub enum ExtractError {
 }
 
 impl fmt::Display for ExtractError {
+    ghost use Rattle.std.specs.Prelude.{Some};
+    ghost use Rattle.extract_core.specs.Errors.{extract_error_text};
+
+    ghost output = { λ e. Some (extract_error_text e) };
+
+    #[tactic(auto, unfolding(crate::specs::Errors::extract_error_text))]
     fn fmt<W: fmt::Write>(&self, f: &mut fmt::Formatter<W>) -> fmt::Result {
         match self {
             ExtractError::Fault(fault) => fmt::Display::fmt(fault, f),

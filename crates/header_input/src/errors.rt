@@ -20,6 +20,12 @@ pub enum NoHeader {
 }
 
 impl fmt::Display for NoHeader {
+    ghost use Rattle.std.specs.Prelude.{Some};
+    ghost use Rattle.header_input.specs.Errors.{no_header_text};
+
+    ghost output = { λ e. Some (no_header_text e) };
+
+    #[tactic(auto, unfolding(crate::specs::Errors::no_header_text))]
     fn fmt<W: fmt::Write>(&self, f: &mut fmt::Formatter<W>) -> fmt::Result {
         match self {
             NoHeader::Fault(fault) => fmt::Display::fmt(fault, f),

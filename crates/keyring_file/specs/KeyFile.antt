@@ -1,6 +1,6 @@
 -- A keyring file. A JSON file is one whose first byte is a brace, but for blanks; any other file is
 -- a key line. The form is this library's.
-use Rattle.std.specs.Prelude.{◌≡◌, ℕ, Bool, false, ◌||◌, ◌==◌, List, [], ◌∷◌, Option, Some, None}
+use Rattle.std.specs.Prelude.{◌≡◌, ℕ, Bool, false, ◌||◌, ◌==◌, List, [], ◌∷◌, Option, Some, None, codes}
 use Rattle.std.specs.Prelude.{Result, Ok, Err, if◌then◌else◌}
 use Rattle.esdk_fields.specs.declared.refusals.FileRefusal.{FileRefusal}
 use Rattle.esdk_fields.specs.declared.refusals.FileRefusal.TheVariants.{NotJson, BadShape}
@@ -18,6 +18,8 @@ use Rattle.keyring_file.specs.JsonValues.{value_of}
 use Rattle.keyring_file.specs.Form.{ring_of}
 use Rattle.keyring_file.specs.Walk.{Met}
 use Rattle.keyring_file.specs.Tree.{tree}
+use Rattle.esdk_fields.specs.Names.{file_name}
+use Rattle.keyring_file.specs.declared.key_file.TreeError.TheVariants as errors
 
 -- a space, a tab, a line feed or a carriage return
 abbrev pub is_blank : ℕ → Bool
@@ -76,3 +78,8 @@ abbrev pub AnswersKey : Result WrapKeyValue TreeError → Result WrapKeyValue Fi
 AnswersKey (Ok key) reading = reading ≡ Ok key
 AnswersKey (Err (File refusal)) reading = reading ≡ Err refusal
 AnswersKey (Err Memory) reading = Unit {0}
+
+-- what is shown of why a file's tree isn't made
+unfoldable pub tree_error_text : TreeError → List ℕ
+tree_error_text (errors.File refusal) = file_name refusal
+tree_error_text errors.Memory = codes "memory ran out"

@@ -31,6 +31,12 @@ pub enum TreeError {
 }
 
 impl fmt::Display for TreeError {
+    ghost use Rattle.std.specs.Prelude.{Some};
+    ghost use Rattle.keyring_file.specs.KeyFile.{tree_error_text};
+
+    ghost output = { λ e. Some (tree_error_text e) };
+
+    #[tactic(auto, unfolding(crate::specs::KeyFile::tree_error_text))]
     fn fmt<W: fmt::Write>(&self, f: &mut fmt::Formatter<W>) -> fmt::Result {
         match self {
             TreeError::File(refusal) => fmt::Display::fmt(refusal, f),

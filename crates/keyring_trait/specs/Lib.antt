@@ -6,3 +6,5 @@ pub mod Requests
 pub mod Materials
 pub mod Manager
 pub mod Saying
+pub mod ManagerErrors
+pub mod RingRefusals

@@ -19,6 +19,12 @@ pub enum ManagerError {
 }
 
 impl fmt::Display for ManagerError {
+    ghost use Rattle.std.specs.Prelude.{Some};
+    ghost use Rattle.keyring_trait.specs.ManagerErrors.{manager_error_text};
+
+    ghost output = { λ e. Some (manager_error_text e) };
+
+    #[tactic(auto, unfolding(crate::specs::ManagerErrors::manager_error_text))]
     fn fmt<W: fmt::Write>(&self, f: &mut fmt::Formatter<W>) -> fmt::Result {
         match self {
             ManagerError::Fault(fault) => fmt::Display::fmt(fault, f),

@@ -1,5 +1,8 @@
 //! Why a keyring makes or finds no data key.
 
+ghost use Rattle.std.specs.Prelude.{◌≡◌};
+ghost use Rattle.keyring_trait.specs.RingRefusals.{ring_refusal_text};
+
 use std::alloc::{AllocError, AllocFailed};
 use std::error::Error;
 use std::fmt;
@@ -15,7 +18,10 @@ pub enum RingRefusal {
 
 impl RingRefusal {
     /// What is wrong, as one line says it.
-    fn text(&self) -> &'static str {
+    #[tactic(auto, unfolding(crate::specs::RingRefusals::ring_refusal_text))]
+    fn text(&self) -> &'static str
+        ensures { result.now ≡ ring_refusal_text self.now }
+    {
         match self {
             RingRefusal::NoGenerator => "no keyring generates a data key",
             RingRefusal::GeneratorHasKey => "the generator was handed a data key",
@@ -24,6 +30,11 @@ impl RingRefusal {
 }
 
 impl fmt::Display for RingRefusal {
+    ghost use Rattle.std.specs.Prelude.{Some};
+    ghost use Rattle.keyring_trait.specs.RingRefusals.{ring_refusal_text};
+
+    ghost output = { λ e. Some (ring_refusal_text e) };
+
     fn fmt<W: fmt::Write>(&self, f: &mut fmt::Formatter<W>) -> fmt::Result {
         f.write_str(self.text())
     }
@@ -49,12 +60,18 @@ pub enum RingError {
 }
 
 impl fmt::Display for RingError {
+    ghost use Rattle.std.specs.Prelude.{Some};
+    ghost use Rattle.keyring_trait.specs.RingRefusals.{ring_error_text};
+
+    ghost output = { λ e. Some (ring_error_text e) };
+
+    #[tactic(auto, unfolding(crate::specs::RingRefusals::ring_error_text))]
     fn fmt<W: fmt::Write>(&self, f: &mut fmt::Formatter<W>) -> fmt::Result {
-        f.write_str(match self {
-            RingError::Refused(refusal) => refusal.text(),
-            RingError::KeyringFault => "the keyring failed",
-            RingError::Memory => "memory ran out",
-        })
+        match self {
+            RingError::Refused(refusal) => fmt::Display::fmt(refusal, f),
+            RingError::KeyringFault => f.write_str("the keyring failed"),
+            RingError::Memory => f.write_str("memory ran out"),
+        }
     }
 }
 

@@ -4,3 +4,4 @@ pub mod Reading
 pub mod Laws
 pub mod Legacy
 pub mod Unlocking
+pub mod UnlockErrors

@@ -20,6 +20,12 @@ pub enum UnlockError {
 }
 
 impl fmt::Display for UnlockError {
+    ghost use Rattle.std.specs.Prelude.{Some};
+    ghost use Rattle.message_format.specs.UnlockErrors.{unlock_error_text};
+
+    ghost output = { λ e. Some (unlock_error_text e) };
+
+    #[tactic(auto, unfolding(crate::specs::UnlockErrors::unlock_error_text))]
     fn fmt<W: fmt::Write>(&self, f: &mut fmt::Formatter<W>) -> fmt::Result {
         match self {
             UnlockError::Fault(fault) => fmt::Display::fmt(fault, f),

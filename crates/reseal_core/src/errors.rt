@@ -31,6 +31,12 @@ pub enum ResealError {
 }
 
 impl fmt::Display for ResealError {
+    ghost use Rattle.std.specs.Prelude.{Some};
+    ghost use Rattle.reseal_core.specs.Errors.{reseal_error_text};
+
+    ghost output = { λ e. Some (reseal_error_text e) };
+
+    #[tactic(auto, unfolding(crate::specs::Errors::reseal_error_text))]
     fn fmt<W: fmt::Write>(&self, f: &mut fmt::Formatter<W>) -> fmt::Result {
         match self {
             ResealError::Fault(fault) => fmt::Display::fmt(fault, f),
@@ -90,6 +96,12 @@ pub enum InputError {
 }
 
 impl fmt::Display for InputError {
+    ghost use Rattle.std.specs.Prelude.{Some};
+    ghost use Rattle.reseal_core.specs.Errors.{input_error_text};
+
+    ghost output = { λ e. Some (input_error_text e) };
+
+    #[tactic(auto, unfolding(crate::specs::Errors::input_error_text))]
     fn fmt<W: fmt::Write>(&self, f: &mut fmt::Formatter<W>) -> fmt::Result {
         match self {
             InputError::Fault(fault) => fmt::Display::fmt(fault, f),

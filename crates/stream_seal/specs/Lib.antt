@@ -6,3 +6,4 @@ pub mod Receiving
 pub mod Session
 pub mod Stands
 pub mod Start
+pub mod Errors

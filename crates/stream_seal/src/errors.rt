@@ -21,6 +21,12 @@ pub enum SealError {
 }
 
 impl fmt::Display for SealError {
+    ghost use Rattle.std.specs.Prelude.{Some};
+    ghost use Rattle.stream_seal.specs.Errors.{seal_error_text};
+
+    ghost output = { λ e. Some (seal_error_text e) };
+
+    #[tactic(auto, unfolding(crate::specs::Errors::seal_error_text))]
     fn fmt<W: fmt::Write>(&self, f: &mut fmt::Formatter<W>) -> fmt::Result {
         match self {
             SealError::Refusal(refusal) => fmt::Display::fmt(refusal, f),

@@ -1,11 +1,12 @@
 -- What is taken of a file.
-use Rattle.std.specs.Prelude.{◌≡◌, ℕ, ◌+◌, ◌-◌, ◌<◌, ◌≤◌, List, ◌++◌, length, [], drop, Bool, true, false, ⊤, Option, Result, Ok, Err}
+use Rattle.std.specs.Prelude.{◌≡◌, ℕ, ◌+◌, ◌-◌, ◌<◌, ◌≤◌, List, ◌++◌, length, [], drop, Bool, true, false, ⊤, Option, Result, Ok, Err, codes}
 use Rattle.esdk_fields.specs.Counts.{RoseBy, counted}
 use Rattle.esdk_base.specs.Shelf.{Files, Holds, is_missing}
 use Rattle.esdk_base.specs.Streams.{FailsToRead, ShelfState}
 use Rattle.whole_input.specs.declared.file.FileError.{FileError}
 use Rattle.whole_input.specs.declared.file.FileError.TheVariants.{Shelf, TooLong, Memory}
 use Rattle.whole_input.specs.Pieces.{most_piece}
+use Rattle.whole_input.specs.declared.file.FileError.TheVariants as errors
 
 -- how many bytes a file has at the most that is taken whole
 abbrev pub most_file : ℕ
@@ -66,3 +67,9 @@ Adds old new name before after (Ok more) = Piece old new name before after more
 Adds old new name before after (Err Shelf) = FailsToRead old new name × (new.given ≡ old.given)
 Adds old new name before after (Err TooLong) = ⊥
 Adds old new name before after (Err Memory) = ⊤
+
+-- what is shown of why a file isn't taken
+unfoldable pub file_error_text : FileError → List ℕ
+file_error_text errors.Shelf = codes "the file was not read"
+file_error_text errors.TooLong = codes "the file has more than 1,048,576 bytes"
+file_error_text errors.Memory = codes "memory ran out"

@@ -28,6 +28,12 @@ pub enum FileError {
 }
 
 impl fmt::Display for FileError {
+    ghost use Rattle.std.specs.Prelude.{Some};
+    ghost use Rattle.whole_input.specs.File.{file_error_text};
+
+    ghost output = { λ e. Some (file_error_text e) };
+
+    #[tactic(auto, unfolding(crate::specs::File::file_error_text))]
     fn fmt<W: fmt::Write>(&self, f: &mut fmt::Formatter<W>) -> fmt::Result {
         match self {
             FileError::Shelf => f.write_str("the file was not read"),
