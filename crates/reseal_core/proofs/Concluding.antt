@@ -3,8 +3,7 @@ use Rattle.std.proofs.Common.{◌≡◌, ◌∙◌, ℕ, List, [], Option, Some,
 use Rattle.std.specs.Prelude.{IfErr}
 use Rattle.std.specs.Io.KnownBytes.{Appends}
 use Rattle.std.proofs.KnownBytes.{Appends-trans}
-use Rattle.esdk_base.specs.ReceiverLaws.{front_after, takes_none}
-use Rattle.esdk_base.specs.Sink.{AppendsFront}
+use Rattle.esdk_base.specs.ReceiverLaws.{takes_none}
 use Rattle.esdk_base.specs.Streams.{EntropyState, SinkState, SourceState}
 use Rattle.esdk_fields.specs.declared.refusals.Outside.TheVariants as outsides
 use Rattle.context_codec.specs.Context.{KeyValue}
@@ -18,9 +17,10 @@ use Rattle.stream_open.specs.Session.{OpeningValue, answer_kept, judged_now}
 use Rattle.stream_seal.specs.Start.{message_of}
 use Rattle.whole_input.specs.declared.pieces.End.{End}
 use Rattle.whole_input.specs.declared.pieces.End.TheVariants as ends
-use Rattle.whole_input.proofs.Coming.{came_none}
-use Rattle.esdk_encrypt.specs.Encrypt.{Drew, drawn_id}
+use Rattle.whole_input.specs.Written.{WritesBeyond}
+use Rattle.esdk_encrypt.specs.Encrypt.{Drew, drawn_id, written_so_far}
 use Rattle.esdk_decrypt.specs.Decrypt.{AnswersTo, HasContext, answering_of, fault_at_end, fault_of}
+use Rattle.esdk_decrypt.proofs.Concluding.{memory_first as lacks_first}
 use Rattle.reseal_core.specs.declared.errors.InputError.{InputError}
 use Rattle.reseal_core.specs.declared.errors.InputError.TheVariants as errors
 use Rattle.reseal_core.specs.declared.errors.ResealError.TheVariants as reseals
@@ -28,6 +28,7 @@ use Rattle.reseal_core.specs.declared.resealer.Resealer.{Resealer}
 use Rattle.reseal_core.specs.Reseal.{EndsSo, Passes, Reseals, ResealEnds, Resealing, ResealsInput, resealing_from}
 use Rattle.reseal_core.specs.Session.{ResealingValue, gone_on, new_session}
 use Rattle.reseal_core.specs.Underway.{AreMade, Concludes, ConcludesSo, IsFedInput, IsMade}
+use Rattle.reseal_core.proofs.Stepping.{writes_beyond}
 use Rattle.reseal_core.proofs.Reaching.{answer, answer_kept_is, answers, has_gained, has_room, passes, same, sound}
 
 module _ {A B : Type 0} (opened : A → ManagerNow) (sealed : B → ManagerNow) (now : ℕ) (settings : Settings) (given : List KeyValue) (size : ℕ) (random : List ℕ) (input taken : SourceState) (old new : A) (before after : B)
@@ -120,9 +121,8 @@ module _ {A B : Type 0} (opened : A → ManagerNow) (sealed : B → ManagerNow) 
               verdict = ap (λ (j : Judged). j.verdict) here.judged_is ∙ whole;
               materials = m;
               has = record { given = mine.given.given; sound = mine.given.sound; begins = mine.given.begins };
-              front = subst (λ (t : List ℕ). AppendsFront output.written last.written (message_of m size (drawn_id random) t)) (sym (ap content here.judged_is))
-                  (subst (λ (x : List ℕ). AppendsFront output.written last.written x) (sym failed.between)
-                  (front_after output.written put.written last.written _ failed.given gained.gained failed.failed.front));
+              front = subst (λ (t : List ℕ). WritesBeyond output last (written_so_far m size (drawn_id random) t) (message_of m size (drawn_id random) t)) (sym (ap content here.judged_is))
+                  (writes_beyond output put last (written_so_far m size (drawn_id random) (content (judged_now w))) _ gained failed);
             }),
           )
 
@@ -185,8 +185,10 @@ module _ (asked : Resealing) (input taken : SourceState) (output put : SinkState
   ends_with drawn drew (Err error) ends = ends_drawn drawn drew error ends
 
 -- memory may run out before anything is read
-pub memory_first : (run : Resealing) (drawn : List ℕ) (input : SourceState) (output : SinkState) → EndsSo run drawn input input output output errors.Memory
-memory_first run drawn input output = record { bytes = []; came = came_none input; written = inl (takes_none output) }
+pub memory_first : (opened opening sealed sealing : ManagerNow) (now : ℕ) (settings : Settings) (given : List KeyValue) (size : ℕ) (drawn : List ℕ) (input : SourceState) (output : SinkState)
+    → EndsSo (resealing_from opened opening sealed sealing now settings given size) drawn input input output output errors.Memory
+memory_first opened opening sealed sealing now settings given size drawn input output =
+    record { lacks = lacks_first (said_last opened opening) now settings given input; written = inl (takes_none output) }
 
 -- ---- results
 

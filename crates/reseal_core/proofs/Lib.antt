@@ -1,3 +1,4 @@
+pub mod Bearing
 pub mod Beginning
 pub mod Concluding
 pub mod Feeding

@@ -1,5 +1,5 @@
 -- The new message: how it begins, goes on and ends.
-use Rattle.std.proofs.Common.{◌≡◌, ◌∙◌, ℕ, ◌≤◌, List, [], ◌++◌, length, take, false, true, Option, Some, None, Ok, Err, sym, ap, subst, arith, length-take}
+use Rattle.std.proofs.Common.{◌≡◌, ◌∙◌, ℕ, ◌≤◌, List, [], ◌++◌, length, take, false, true, Option, Some, None, Ok, Err, sym, ap, subst, arith, length-append, length-take}
 use Rattle.std.specs.Io.KnownBytes.{Appends}
 use Rattle.esdk_base.specs.ReceiverLaws.{front_longer}
 use Rattle.esdk_base.specs.Sink.{AppendsFront}
@@ -7,9 +7,14 @@ use Rattle.esdk_base.specs.Streams.{SinkState}
 use Rattle.esdk_base.specs.declared.receiver.FeedError.TheVariants as feeds
 use Rattle.esdk_fields.specs.Counts.{Rose}
 use Rattle.context_codec.specs.Context.{KeyValue}
+use Rattle.context_codec.specs.Parts.{only_of}
 use Rattle.keyring_trait.specs.Materials.{EncMaterialsValue}
 use Rattle.keyring_trait.specs.Requests.{EncRequestValue}
 use Rattle.keyring_trait.specs.Saying.{Saying}
+use Rattle.suite_table.specs.declared.suite.Suite.TheVariants.{Committing}
+use Rattle.suite_table.specs.Suites.{zero_iv}
+use Rattle.message_format.specs.Message.{header_body, header_tag}
+use Rattle.message_format.proofs.WrittenHeads.{length-header_tag}
 use Rattle.stream_seal.specs.declared.errors.SealError.TheVariants as seals
 use Rattle.stream_seal.specs.declared.session.Sealer.{Sealer}
 use Rattle.stream_seal.specs.Feeding.{IsFed, fed_out}
@@ -27,6 +32,14 @@ use Rattle.reseal_core.specs.Front.{AreSound, front_of, request_for}
 use Rattle.reseal_core.specs.NewMessage.{AreGiven, Begins, FinishesAs, GoesOnAs, HeaderFails, IsFedText, IsWritten, put_as}
 
 -- ---- the beginning
+
+-- the header's tag alone is something
+start_some : (m : EncMaterialsValue) (size : ℕ) (id : List ℕ) → 1 ≤ length (start_of m size id)
+unfolding start_of
+start_some m size id =
+    let raw : List ℕ = header_body m.context m.required size m.key m.entries id in
+    let tag : List ℕ = header_tag Committing zero_iv raw (only_of m.required m.context) m.key id in
+    omega (arith, length-append raw tag, length-header_tag Committing zero_iv raw (only_of m.required m.context) m.key id)
 
 pub are_given : (saying : Saying) (now : ℕ) (request : EncRequestValue) (rest id random : List ℕ) (whole only : List KeyValue) (m : EncMaterialsValue) → request ≡ request_for whole only → rest ≡ drawn_rest random
     → id ≡ drawn_id random → saying.gives request now rest m → AreSound m → start_refusal m None id ≡ None → AreGiven saying now random whole only m
@@ -51,7 +64,12 @@ module _ (saying : Saying) (now : ℕ) (whole only : List KeyValue) (message : N
   header_fails old new front rose = record {
     materials = m;
     given = given_so;
-    failed = record { given = header; between = first; failed = record { front = front; rose = rose } };
+    failed = record {
+      given = header;
+      some = omega (arith, ap length header_is, start_some m message.frame_length id);
+      between = first;
+      failed = record { front = front; rose = rose };
+    };
   }
 
   pub begins : (old new : SinkState) (sealer : Sealer) → Stands sealer (session_of m message.frame_length id []) → Appends old.written new.written header → new.faults ≡ old.faults
@@ -114,6 +132,7 @@ module _ {R : Type 0} (state : R → SinkState) (message : NewMessage) (old new 
         let behind : List ℕ = fed_out f.still.now f.rest in
         record {
           given = fed_out v content;
+          some = omega (arith, f.some, ap length f.still.way.out, length-append f.given behind);
           between = between;
           failed = record {
             front = subst (λ (g : List ℕ). AppendsFront (state before).written (state after).written g) (sym f.still.way.out)
@@ -153,7 +172,7 @@ module _ {R : Type 0} (state : R → SinkState) (message : NewMessage) (old new 
 
     ends : (fed : Fed) → Finishes (sink_takes state) (sink_fails state) w before after fed → FinishesAs m size random text (state before) (state after) (put_as fed)
     ends (Ok done) f = record { given = (finished w).out; between = whole; taken = f.1 }
-    ends (Err (feeds.Receiver failed)) f = record { given = (finished w).out; between = whole; failed = f.2 }
+    ends (Err (feeds.Receiver failed)) f = record { given = (finished w).out; some = f.1; between = whole; failed = f.2 }
     ends (Err (feeds.Machine seals.Stopped)) f = absurd (let no : false ≡ true = f.0 in cc)
     ends (Err (feeds.Machine (seals.Refusal refusal))) f = absurd f
     ends (Err (feeds.Machine seals.Memory)) f = absurd f

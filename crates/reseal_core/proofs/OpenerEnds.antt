@@ -1,18 +1,16 @@
 -- Why an input isn't resealed whose opener failed at a step.
-use Rattle.std.proofs.Common.{◌≡◌, ◌∙◌, ℕ, ◌≤◌, Bool, true, false, is_some, List, [], ◌++◌, length, Option, Some, None, Result, Err, inl, inr, refl, sym, ap, subst, arith}
+use Rattle.std.proofs.Common.{◌≡◌, ◌∙◌, ◌⊎◌, ℕ, ◌≤◌, Bool, true, false, is_some, List, [], ◌++◌, length, Option, Some, None, Result, Err, inl, inr, refl, sym, ap, subst, arith}
 use Rattle.std.specs.Prelude.{IfSome}
 use Rattle.std.specs.Io.KnownBytes.{Appends}
 use Rattle.esdk_fields.specs.declared.faults.Fault.{Fault}
 use Rattle.esdk_fields.specs.declared.refusals.Outside.TheVariants as outsides
-use Rattle.esdk_fields.specs.Place.{start}
-use Rattle.esdk_fields.specs.Reading.{Wanting}
 use Rattle.esdk_base.specs.Receiver.{SinkTakes}
 use Rattle.esdk_base.specs.ReceiverLaws.{takes_none}
 use Rattle.esdk_base.specs.Streams.{SinkState, SourceState}
 use Rattle.context_codec.specs.Context.{KeyValue}
 use Rattle.header_codec.specs.declared.settings.Settings.{Settings}
 use Rattle.header_codec.specs.Header.{HeaderValue}
-use Rattle.header_codec.specs.Table.{header, header_fault}
+use Rattle.header_codec.specs.Table.{header_fault}
 use Rattle.keyring_trait.specs.Manager.{ManagerNow}
 use Rattle.keyring_trait.specs.Materials.{EncMaterialsValue}
 use Rattle.keyring_trait.specs.Saying.{said_last}
@@ -30,9 +28,7 @@ use Rattle.stream_open.specs.Stands.{Steps as StepsOpener}
 use Rattle.stream_open.proofs.FedPieces.{Joins, joins, keeps_some}
 use Rattle.stream_open.proofs.Feeding.{asks_about, feeds_exactly, kept_answer, may_hear, opened_goes, sure}
 use Rattle.stream_open.proofs.FoundFaults.{faulty_locked}
-use Rattle.stream_open.proofs.GoingOn.{Standing, InHeader, Behind, standing}
 use Rattle.stream_open.proofs.PieceEnds.{ends_at, same_piece, whole_none}
-use Rattle.stream_open.proofs.Standing.{judged_unlocked}
 use Rattle.whole_input.specs.Pieces.{most_piece}
 use Rattle.whole_input.specs.Taken.{Came}
 use Rattle.esdk_decrypt.specs.Decrypt.{answering_of, fault_of}
@@ -45,17 +41,13 @@ use Rattle.reseal_core.specs.declared.errors.InputError.TheVariants as errors
 use Rattle.reseal_core.specs.declared.resealer.Resealer.{Resealer}
 use Rattle.reseal_core.specs.Errors.{opened_as}
 use Rattle.reseal_core.specs.Front.{Gains, front_of}
-use Rattle.reseal_core.specs.Reseal.{EndsSo, Resealing, WritesBy, WritesFront, resealing_from}
+use Rattle.reseal_core.specs.Reseal.{EndsSo, Resealing, WritesBy, WritesFirst, WritesFront, resealing_from}
 use Rattle.reseal_core.specs.Session.{new_session}
 use Rattle.reseal_core.specs.Underway.{AreMade, IsCalled, IsMade, Reached}
-use Rattle.reseal_core.proofs.Reaching.{gains_all, has_gained, has_room, into_untold, untold, writes_reached}
+use Rattle.reseal_core.proofs.Stepping.{gains_all}
+use Rattle.reseal_core.proofs.Reaching.{has_gained, has_room, into_untold, untold, writes_reached}
 use Rattle.reseal_core.proofs.Sessions.{wants_header}
-use Rattle.reseal_core.proofs.Unlocked.{stays_unlocked}
-
--- a session that goes on and isn't unlocked wants bytes of the header
-still_in_header : (v : OpeningValue) → GoesOn v → (judged_now v).unlocked ≡ false → Standing v → header v.settings (start v.taken) ≡ Wanting
-still_in_header v goes locked (InHeader now) = now
-still_in_header v goes locked (Behind u at) = absurd (let no : true ≡ false = sym (ap (λ (j : Judged). j.unlocked) (judged_unlocked u v at)) ∙ locked in cc)
+use Rattle.reseal_core.proofs.Unlocked.{stays_unlocked, still_in_header}
 
 abbrev failed : OpenError → Result ℕ OpenError
 failed error = Err error
@@ -113,29 +105,31 @@ module _ {A B : Type 0} (opened : A → ManagerNow) (sealed : B → ManagerNow) 
 
     -- ---- memory ran out, or the manager failed
 
+    -- nothing of the piece was fed yet
+    abbrev none_fed : FedWhole opened (PutsAll (λ (x : SinkState). x)) now w [] new new untold untold resealer.opener
+    none_fed = whole_none opened (PutsAll (λ (x : SinkState). x)) now w new untold resealer.opener goes r.fed.stands (λ x. takes_none x)
+
     -- its manager failed
     pub keyring_ends : StepsOpener (opened new) (opened last) now w rest (Err opens.KeyringFault) next → EndsSo asked random input taken output put (errors.Outside outsides.KeyringFault)
     keyring_ends s =
         let (heard_is, (h, asks)) = (exactly opens.KeyringFault s keyring_not).failed s.answers in
         let locked = wants_header w goes (asks_about w rest h goes asks).unheard in
-        let first : FedWhole opened (PutsAll (λ (x : SinkState). x)) now w [] new new untold untold resealer.opener =
-        whole_none opened (PutsAll (λ (x : SinkState). x)) now w new untold resealer.opener goes r.fed.stands (λ x. takes_none x) in
-        let short = ends_at {E = Unit {0}} opened (PutsAll (λ (x : SinkState). x)) (PutsFront (λ (x : SinkState). x)) now w rest 0 new new last untold untold untold resealer.opener next rest (omega arith) refl first opens.KeyringFault s stays in
+        let short = ends_at {E = Unit {0}} opened (PutsAll (λ (x : SinkState). x)) (PutsFront (λ (x : SinkState). x)) now w rest 0 new new last untold untold untold resealer.opener next rest (omega arith) refl none_fed opens.KeyringFault s stays in
         let ended = short_ends opened (λ (x : SinkState). x) now settings given bytes rest old new last untold untold untold resealer.opener next input taken
         (into_untold opened now v bytes r.text old new resealer.opener r.fed) came few opens.KeyringFault (decrypts.Outside outsides.KeyringFault) short refl in
         inl (ended.0, nothing_put (none_locked locked))
 
     -- memory ran out
-    memory_by : (m : Option EncMaterialsValue) → r.materials ≡ m → EndsSo asked random input taken output put errors.Memory
-    memory_by None is = record { bytes = bytes ++ rest; came = came; written = inl (nothing_put is) }
-    memory_by (Some m) is = record {
-      bytes = bytes ++ rest;
-      came = came;
-      written = inr (writes_reached opened sealed now settings given size random bytes old new before after output put resealer r rest last end unasked stays input taken came few m is);
-    }
+    memory_by : (m : Option EncMaterialsValue) → r.materials ≡ m → SinkTakes output put [] ⊎ WritesFirst asked random input taken output put
+    memory_by None is = inl (nothing_put is)
+    memory_by (Some m) is = inr (writes_reached opened sealed now settings given size random bytes old new before after output put resealer r rest last end unasked stays input taken came few m is)
 
-    pub memory_ends : EndsSo asked random input taken output put errors.Memory
-    memory_ends = memory_by r.materials refl
+    pub memory_ends : StepsOpener (opened new) (opened last) now w rest (Err opens.Memory) next → EndsSo asked random input taken output put errors.Memory
+    memory_ends s =
+        let short = ends_at {E = Unit {0}} opened (PutsAll (λ (x : SinkState). x)) (PutsFront (λ (x : SinkState). x)) now w rest 0 new new last untold untold untold resealer.opener next rest (omega arith) refl none_fed opens.Memory s stays in
+        let ended = short_ends opened (λ (x : SinkState). x) now settings given bytes rest old new last untold untold untold resealer.opener next input taken
+        (into_untold opened now v bytes r.text old new resealer.opener r.fed) came few opens.Memory decrypts.Memory short refl in
+        record { lacks = ended.0; written = memory_by r.materials refl }
 
     -- ---- a fault
 
@@ -181,7 +175,7 @@ module _ {A B : Type 0} (opened : A → ManagerNow) (sealed : B → ManagerNow) 
       written_fault : (m : Option EncMaterialsValue) → r.materials ≡ m → WritesBy asked random a.answer (content (judged_all w rest s.heard)) (judged_all w rest s.heard).unlocked output put
       written_fault None is =
           let locked : (judged_now w).unlocked ≡ false = sym (r.stands.going refl).unlocked ∙ ap is_some is in
-          let still : (judged_all w rest s.heard).unlocked ≡ false = faulty_locked w rest s.heard fault goes (still_in_header w goes locked (standing w goes)) s.answers in
+          let still : (judged_all w rest s.heard).unlocked ≡ false = faulty_locked w rest s.heard fault goes (still_in_header w goes locked) s.answers in
           subst (λ (b : Bool). WritesBy asked random a.answer (content (judged_all w rest s.heard)) b output put) (sym still) (nothing a.answer (nothing_put is).gained)
         where
           nothing : (x : Unlocking) → Appends output.written put.written [] → WritesBy asked random x (content (judged_all w rest s.heard)) false output put
@@ -231,5 +225,5 @@ module _ {A B : Type 0} (opened : A → ManagerNow) (sealed : B → ManagerNow) 
     pub opener_ends : (why : OpenError) (named : InputError) → StepsOpener (opened new) (opened last) now w rest (Err why) next → IsCalled (opened_as why) named → EndsSo asked random input taken output put named
     opener_ends (opens.Fault fault) named s called = subst (λ (e : InputError). EndsSo asked random input taken output put e) (sym called) (fault_ends fault s)
     opener_ends opens.KeyringFault named s called = subst (λ (e : InputError). EndsSo asked random input taken output put e) (sym called) (keyring_ends s)
-    opener_ends opens.Memory named s called = subst (λ (e : InputError). EndsSo asked random input taken output put e) (sym called) memory_ends
+    opener_ends opens.Memory named s called = subst (λ (e : InputError). EndsSo asked random input taken output put e) (sym called) (memory_ends s)
     opener_ends opens.Stopped named s called = absurd called

@@ -4,12 +4,15 @@ use Rattle.std.specs.Prelude.{IfSome}
 use Rattle.std.specs.Io.KnownBytes.{Appends}
 use Rattle.std.proofs.lemmas.List.{length-drop, take-append-drop}
 use Rattle.esdk_fields.specs.declared.refusals.Outside.TheVariants as outsides
+use Rattle.esdk_fields.specs.Place.{start}
+use Rattle.esdk_fields.specs.Reading.{Wanting}
 use Rattle.esdk_base.specs.Receiver.{SinkTakes}
-use Rattle.esdk_base.specs.ReceiverLaws.{front_after, front_longer}
+use Rattle.esdk_base.specs.ReceiverLaws.{front_longer}
 use Rattle.esdk_base.specs.Sink.{AppendsFront}
 use Rattle.esdk_base.specs.Streams.{SinkState, SourceState}
 use Rattle.context_codec.specs.Context.{KeyValue}
 use Rattle.header_codec.specs.declared.settings.Settings.{Settings}
+use Rattle.header_codec.specs.Table.{header}
 use Rattle.keyring_trait.specs.declared.manager_errors.ManagerError.{ManagerError}
 use Rattle.keyring_trait.specs.declared.manager_errors.ManagerError.TheVariants as managers
 use Rattle.keyring_trait.specs.Manager.{ManagerNow}
@@ -25,13 +28,15 @@ use Rattle.stream_open.specs.Stands.{Steps as StepsOpener}
 use Rattle.stream_open.proofs.FedPieces.{asked_kept}
 use Rattle.stream_open.proofs.PieceEnds.{session_on, step_fed, step_on}
 use Rattle.stream_seal.specs.Start.{most_text, start_of}
-use Rattle.whole_input.specs.Pieces.{most_piece}
+use Rattle.whole_input.specs.Pieces.{APieceBehind, most_piece}
 use Rattle.whole_input.specs.Taken.{Came}
+use Rattle.whole_input.specs.Written.{WritesBeyond}
+use Rattle.whole_input.proofs.Fronts.{beyond_after}
 use Rattle.esdk_encrypt.specs.Encrypt.{drawn_id, drawn_rest, written_so_far}
 use Rattle.esdk_encrypt.proofs.Sessions.{written_none}
-use Rattle.esdk_decrypt.specs.Decrypt.{AnswersTo, answering_of, fault_of}
+use Rattle.esdk_decrypt.specs.Decrypt.{AnswersTo, HasNoMemory, answering_of, fault_of}
 use Rattle.esdk_decrypt.specs.Underway.{PutsAll}
-use Rattle.esdk_decrypt.proofs.Answering.{Answered, sound_none}
+use Rattle.esdk_decrypt.proofs.Answering.{Answered, judged_before, sound_none}
 use Rattle.esdk_decrypt.proofs.Concluding.{come_to}
 use Rattle.reseal_core.specs.declared.errors.InputError.{InputError}
 use Rattle.reseal_core.specs.declared.errors.InputError.TheVariants as errors
@@ -42,17 +47,12 @@ use Rattle.reseal_core.specs.declared.resealer.Resealer.{Resealer}
 use Rattle.reseal_core.specs.Front.{Gains, front_of, request_for}
 use Rattle.reseal_core.specs.Errors.{given_as}
 use Rattle.reseal_core.specs.NewMessage.{AreGiven, GoesNotOn, HeaderFails, IsFedText, IsNotBegun}
-use Rattle.reseal_core.specs.Reseal.{EndsSo, OpensFirst, Passes, Resealing, Writes, WritesBy, WritesFirst, WritesFront, resealing_from}
+use Rattle.reseal_core.specs.Reseal.{EndsSo, OpensFirst, Passes, Resealing, Writes, WritesBy, WritesFirst, WritesFront, resealing_from, written_at, written_of}
 use Rattle.reseal_core.specs.Session.{ResealingValue, front, gone_on, new_session}
 use Rattle.reseal_core.specs.Stands.{AsksFor, BeginsNot, IsOpen, PassesNot, Stands, StepsOn}
 use Rattle.reseal_core.specs.Underway.{AreMade, IsCalled, IsMade, IsUnstopped, Reached}
-use Rattle.reseal_core.proofs.Stepping.{gains_more, unlocked_with, was_unlocked}
-
--- ---- what was gained
-
--- all that is written
-pub gains_all : (old new : SinkState) (all : List ℕ) → Gains old new [] all → SinkTakes old new all
-gains_all old new all g = subst (λ (x : List ℕ). SinkTakes old new x) (sym g.between) g.taken
+use Rattle.reseal_core.proofs.Stepping.{gains_all, gains_more, longer_some, unlocked_with, was_unlocked, writes_beyond}
+use Rattle.reseal_core.proofs.Unlocked.{lacks_wanting, locked_content, still_in_header}
 
 -- ---- an opener that was fed, as if into a sink of which nothing is told
 
@@ -125,6 +125,23 @@ module _ {A B : Type 0} (opened : A → ManagerNow) (sealed : B → ManagerNow) 
     pub has_gained : (m : EncMaterialsValue) → r.materials ≡ Some m → SinkTakes output put (written_so_far m size (drawn_id random) (content (judged_now w)))
     has_gained m is =
         gains_all output put (front_of (Some m) size random (content (judged_now w))) (subst (λ (x : Option EncMaterialsValue). Gains output put [] (front_of x size random (content (judged_now w)))) is r.gained)
+
+    -- while there are no materials the old message is locked, and wants bytes of its header
+    locked_yet : r.materials ≡ None → (judged_now w).unlocked ≡ false
+    locked_yet none = sym (r.stands.going refl).unlocked ∙ ap is_some none
+
+    pub wants_yet : r.materials ≡ None → header settings (start bytes) ≡ Wanting
+    wants_yet none =
+        ap (λ (b : List ℕ). header settings (start b)) (sym r.fed.feeds.taken) ∙ ap (λ (x : Settings). header x (start w.taken)) (sym r.fed.feeds.settings)
+        ∙ still_in_header w r.fed.feeds.goes (locked_yet none)
+
+    -- what was released has room
+    room_for : (m : Option EncMaterialsValue) → r.materials ≡ m → length (content (judged_now w)) ≤ most_text size
+    room_for None is = omega (arith, ap (length {A = ℕ}) (locked_content w (locked_yet is)))
+    room_for (Some m) is = has_room m is
+
+    room_yet : length (content (judged_now w)) ≤ most_text size
+    room_yet = room_for r.materials refl
 
     -- what is written is what was put
     written_by : (m : Option EncMaterialsValue) → r.materials ≡ m → Writes (asked old new before after) random answer (judged_now w) output put
@@ -265,17 +282,43 @@ module _ {A B : Type 0} (opened : A → ManagerNow) (sealed : B → ManagerNow) 
             same = ap (judged (bytes ++ take used rest) settings) (sym is) ∙ a.same;
           }
 
-      z_sound : is_faulty (judged_now z).verdict ≡ false
+      -- with an answer that is kept then, the bytes before were judged as they were
+      judged_yet : (a : Unlocking) → z.answer ≡ Some a → judged bytes settings a ≡ judged_now w
+      judged_yet a e =
+          ap (λ (b : List ℕ). judged b settings a) (sym r.fed.feeds.taken) ∙ ap (λ (x : Settings). judged w.taken x a) (sym r.fed.feeds.settings)
+          ∙ judged_before w a z.answer r.fed.feeds.goes keeps_on (subst (λ (o : Option Unlocking). IfSome o (λ k. a ≡ k)) (sym e) refl)
+
+      -- and what was put is what is written of them
+      front_none : (m : EncMaterialsValue) → r.materials ≡ None → written_of m size random (judged_now w) ≡ []
+      front_none m none = ap (λ (b : Bool). written_at m size random (content (judged_now w)) b) (locked_yet none)
+
+      front_by : (m : EncMaterialsValue) (o : Option EncMaterialsValue) → r.materials ≡ o → AsksFor o (said_last (sealed after) (sealed end)) now random z (end ≡ after) (Some m)
+          → front_of o size random (content (judged_now w)) ≡ written_of m size random (judged_now w)
+      front_by m None is asks = sym (front_none m is)
+      front_by m (Some n) is (same_is, un) =
+          let unlocked : (judged_now w).unlocked ≡ true = sym (r.stands.going refl).unlocked ∙ ap is_some is in
+          let one : n ≡ m = cc in
+          ap (λ (x : EncMaterialsValue). front_of (Some x) size random (content (judged_now w))) one ∙ ap (λ (b : Bool). written_at m size random (content (judged_now w)) b) (sym unlocked)
+
+      -- the bytes that were used and those behind them
+      pub split : (bytes ++ take used rest) ++ drop used rest ≡ bytes ++ rest
+      split = append_assoc bytes (take used rest) (drop used rest) ∙ ap (λ (b : List ℕ). bytes ++ b) (take-append-drop used rest)
+
+      -- the last piece stands behind the bytes before
+      pub last_piece : (so : List ℕ → Type 0) → length rest ≤ most_piece → so bytes → APieceBehind so ((bytes ++ take used rest) ++ drop used rest)
+      last_piece so few was = record { before = bytes; piece = rest; all = split; few = few; was = was }
+
+      pub z_sound : is_faulty (judged_now z).verdict ≡ false
       z_sound = (step_fed opened now v0.opening bytes r.text old new last resealer.opener next.opener rest r.fed used s some).feeds.goes.sound
 
-      pub opens_first : (whole only : List KeyValue) (key : List ℕ) → z.answer ≡ Some (Unlocks whole only key) → (judged_now z).unlocked ≡ true → (input taken : SourceState) → Came input taken (bytes ++ rest) → length rest ≤ most_piece
+      abbrev pub opens_first : (whole only : List KeyValue) (key : List ℕ) → z.answer ≡ Some (Unlocks whole only key) → (judged_now z).unlocked ≡ true → (input taken : SourceState) → Came input taken (bytes ++ rest) → length rest ≤ most_piece
           → OpensFirst (asked old last before end) input taken (bytes ++ take used rest) whole only key
       opens_first whole only key e open_z input taken came few =
           let here = opens_here whole only key e in
           record {
             behind = drop used rest;
             few = omega (arith, few, length-drop used rest);
-            came = subst (λ (b : List ℕ). Came input taken b) (sym (append_assoc bytes (take used rest) (drop used rest) ∙ ap (λ (b : List ℕ). bytes ++ b) (take-append-drop used rest))) came;
+            came = subst (λ (b : List ℕ). Came input taken b) (sym split) came;
             answered = here.answers;
             sound = ap (λ (j : Judged). fault_of j.verdict) here.same ∙ sound_none (judged_now z).verdict z_sound;
             unlocked = ap (λ (j : Judged). j.unlocked) here.same ∙ open_z;
@@ -293,9 +336,21 @@ module _ {A B : Type 0} (opened : A → ManagerNow) (sealed : B → ManagerNow) 
         abbrev a : Resealing
         a = asked old last before end
 
+        -- what was written beyond what the bytes before release
+        beyond_here : (m : EncMaterialsValue) (whole only : List KeyValue) (key : List ℕ) → z.answer ≡ Some (Unlocks whole only key)
+            → WritesBeyond output now_put (written_of m size random (judged_now w))
+            (written_so_far m size (drawn_id random) (take (most_text size) (content (judged (bytes ++ take used rest) settings (Unlocks whole only key)))))
+            → WritesBeyond output now_put (written_of m size random (judged bytes settings (Unlocks whole only key)))
+            (written_so_far m size (drawn_id random) (take (most_text size) (content (judged (bytes ++ take used rest) settings (Unlocks whole only key)))))
+        beyond_here m whole only key e beyond =
+            subst (λ (j : Judged). WritesBeyond output now_put (written_of m size random j)
+            (written_so_far m size (drawn_id random) (take (most_text size) (content (judged (bytes ++ take used rest) settings (Unlocks whole only key))))))
+            (sym (judged_yet (Unlocks whole only key) e)) beyond
+
         passes_by : (m : EncMaterialsValue) (error : ResealError) (named : InputError) (made : AreMade (said_last (sealed before) (sealed end)) now random z.answer m) → (judged_now z).unlocked ≡ true
+            → front (gone_on v0 w r.materials) ≡ written_of m size random (judged_now w)
             → GoesNotOn m size random (front (gone_on v0 w r.materials)) (content (judged_now z)) put now_put error → IsCalled error named → EndsSo a random input taken output now_put named
-        passes_by m (reseals.Refusal refusal) named made open_z (is, many) called =
+        passes_by m (reseals.Refusal refusal) named made open_z put_is (is, many) called =
             let here = opens_here made.whole made.only made.key made.answer_is in
             let text : content (judged_now z) ≡ content (judged (bytes ++ take used rest) settings (Unlocks made.whole made.only made.key)) = sym (ap content here.same) in
             subst (λ (e : InputError). EndsSo a random input taken output now_put e) (sym called) (inr (
@@ -311,9 +366,11 @@ module _ {A B : Type 0} (opened : A → ManagerNow) (sealed : B → ManagerNow) 
                 many = subst (λ (t : List ℕ). most_text size < length t) text many.many;
                 gained = subst (λ (t : List ℕ). Appends output.written now_put.written (written_so_far m size (drawn_id random) (take (most_text size) t))) text
                     (gains_all output now_put _ (gains_more output put now_put [] (front (gone_on v0 w r.materials)) _ r.gained many.gained)).gained;
+                last = last_piece _ few
+                    (subst (λ (j : Judged). length (content j) ≤ most_text size) (sym (judged_yet (Unlocks made.whole made.only made.key) made.answer_is)) room_yet);
               },
             ))
-        passes_by m reseals.SinkFault named made open_z failed called =
+        passes_by m reseals.SinkFault named made open_z put_is failed called =
             let here = opens_here made.whole made.only made.key made.answer_is in
             let text : content (judged_now z) ≡ content (judged (bytes ++ take used rest) settings (Unlocks made.whole made.only made.key)) = sym (ap content here.same) in
             let before_it = gains_all output put (front (gone_on v0 w r.materials)) r.gained in
@@ -327,20 +384,21 @@ module _ {A B : Type 0} (opened : A → ManagerNow) (sealed : B → ManagerNow) 
                 opens = opens_first made.whole made.only made.key made.answer_is open_z input taken came few;
                 materials = m;
                 has = record { given = made.given.given; sound = made.given.sound; begins = made.given.begins };
-                front = subst (λ (t : List ℕ). AppendsFront output.written now_put.written (written_so_far m size (drawn_id random) (take (most_text size) t))) text
-                    (subst (λ (x : List ℕ). AppendsFront output.written now_put.written x) (sym failed.between)
-                    (front_after output.written put.written now_put.written (front (gone_on v0 w r.materials)) failed.given before_it.gained failed.failed.front));
+                last = last_piece _ few (beyond_here m made.whole made.only made.key made.answer_is
+                    (subst (λ (t : List ℕ). WritesBeyond output now_put (written_of m size random (judged_now w)) (written_so_far m size (drawn_id random) (take (most_text size) t))) text
+                    (subst (λ (x : List ℕ). WritesBeyond output now_put x (front_of (Some m) size random (take (most_text size) (content (judged_now z))))) put_is
+                    (writes_beyond output put now_put (front (gone_on v0 w r.materials)) _ before_it failed))));
               }),
             )
-        passes_by m (reseals.Fault fault) named made open_z none called = absurd none
-        passes_by m reseals.KeyringFault named made open_z none called = absurd none
-        passes_by m reseals.Stopped named made open_z none called = absurd none
-        passes_by m reseals.Memory named made open_z none called = absurd none
+        passes_by m (reseals.Fault fault) named made open_z put_is none called = absurd none
+        passes_by m reseals.KeyringFault named made open_z put_is none called = absurd none
+        passes_by m reseals.Stopped named made open_z put_is none called = absurd none
+        passes_by m reseals.Memory named made open_z put_is none called = absurd none
 
         pub passes_ends : (error : ResealError) (named : InputError) → PassesNot (said_last (sealed after) (sealed end)) now (gone_on v0 w r.materials) z put now_put (end ≡ after) error → IsCalled error named
             → EndsSo a random input taken output now_put named
         passes_ends error named p called =
-            passes_by p.materials error named (made_by r.materials refl (Some p.materials) p.asks) (open_with p.materials p.asks) p.why called
+            passes_by p.materials error named (made_by r.materials refl (Some p.materials) p.asks) (open_with p.materials p.asks) (front_by p.materials r.materials refl p.asks) p.why called
 
         -- ---- the new message wasn't begun
 
@@ -352,7 +410,10 @@ module _ {A B : Type 0} (opened : A → ManagerNow) (sealed : B → ManagerNow) 
           nothing_put =
               gains_all output put [] (subst (λ (x : Option EncMaterialsValue). Gains output put [] (front_of x size random (content (judged_now w)))) none r.gained)
 
-          opens_z : OpensFirst a input taken (bytes ++ take used rest) whole only open_is.key
+          wants : header settings (start bytes) ≡ Wanting
+          wants = wants_yet none
+
+          abbrev opens_z : OpensFirst a input taken (bytes ++ take used rest) whole only open_is.key
           opens_z = opens_first whole only open_is.key open_is.answer open_is.unlocked input taken came few
 
           header_ends : HeaderFails (said_last (sealed after) (sealed end)) now whole only size random put now_put → EndsSo a random input taken output now_put (errors.Outside outsides.SinkFault)
@@ -371,10 +432,16 @@ module _ {A B : Type 0} (opened : A → ManagerNow) (sealed : B → ManagerNow) 
                   opens = opens_z;
                   materials = m;
                   has = record { given = given_then.given; sound = given_then.sound; begins = given_then.begins };
-                  front = front_after output.written put.written now_put.written [] (written_so_far m size (drawn_id random) text) nothing_put.gained
-                      (front_longer put.written now_put.written (start_of m size (drawn_id random)) _ (subst (λ (x : List ℕ). AppendsFront put.written now_put.written x) header h.failed.failed.front));
+                  last = last_piece _ few (beyond_here m whole only open_is.key open_is.answer
+                      (subst (λ (x : List ℕ). WritesBeyond output now_put x (written_so_far m size (drawn_id random) text)) (sym (front_none m none))
+                      (beyond_after output put now_put [] (written_so_far m size (drawn_id random) text)
+                      (longer_some (start_of m size (drawn_id random)) _ (omega (arith, h.failed.some, ap length header))) nothing_put.gained
+                      (front_longer put.written now_put.written (start_of m size (drawn_id random)) _ (subst (λ (x : List ℕ). AppendsFront put.written now_put.written x) header h.failed.failed.front)))));
                 }),
               )
+
+          lacks : HasNoMemory a.opening input taken
+          lacks = record { before = bytes; last = rest; came = came; few = few; lacks = lacks_wanting a.opening bytes wants }
 
           module _ (same_put : now_put ≡ put) where
             nothing_now : SinkTakes output now_put []
@@ -383,11 +450,11 @@ module _ {A B : Type 0} (opened : A → ManagerNow) (sealed : B → ManagerNow) 
             refused_ends : (why : ManagerError) (named : InputError) → (said_last (sealed before) (sealed end)).gives_none (request_for whole only) why → IsCalled (given_as why) named
                 → EndsSo a random input taken output now_put named
             refused_ends (managers.Refusal refusal) named gives called = subst (λ (e : InputError). EndsSo a random input taken output now_put e) (sym called)
-                (inl (record { first = bytes ++ take used rest; whole = whole; only = only; key = open_is.key; opens = opens_z; why = inl gives; nothing = nothing_now }))
+                (inl (record { first = bytes ++ take used rest; whole = whole; only = only; key = open_is.key; opens = opens_z; why = inl gives; nothing = nothing_now; last = last_piece _ few wants }))
             refused_ends managers.KeyringFault named gives called = subst (λ (e : InputError). EndsSo a random input taken output now_put e) (sym called)
-                (inr (record { first = bytes ++ take used rest; whole = whole; only = only; key = open_is.key; opens = opens_z; none = gives; nothing = nothing_now }))
+                (inr (record { first = bytes ++ take used rest; whole = whole; only = only; key = open_is.key; opens = opens_z; none = gives; nothing = nothing_now; last = last_piece _ few wants }))
             refused_ends managers.Memory named gives called = subst (λ (e : InputError). EndsSo a random input taken output now_put e) (sym called)
-                (record { bytes = bytes ++ rest; came = came; written = inl nothing_now })
+                (record { lacks = lacks; written = inl nothing_now })
             refused_ends (managers.Fault fault) named gives called = absurd gives
 
             pub unbegun_ends : (error : ResealError) (named : InputError) → IsNotBegun (said_last (sealed after) (sealed end)) now random whole only error → IsCalled error named
@@ -410,10 +477,11 @@ module _ {A B : Type 0} (opened : A → ManagerNow) (sealed : B → ManagerNow) 
                     refused = starts.refused;
                   });
                   nothing = nothing_now;
+                  last = last_piece _ few wants;
                 }))
             unbegun_ends error named (inr (inr memory)) called =
                 let is : named ≡ errors.Memory = subst (λ (e : ResealError). IsCalled e named) memory called in
-                subst (λ (e : InputError). EndsSo a random input taken output now_put e) (sym is) (record { bytes = bytes ++ rest; came = came; written = inl nothing_now })
+                subst (λ (e : InputError). EndsSo a random input taken output now_put e) (sym is) (record { lacks = lacks; written = inl nothing_now })
 
         pub begins_ends : (error : ResealError) (named : InputError) (unwritten : Type 0) → (unwritten → now_put ≡ put)
             → BeginsNot r.materials (said_last (sealed after) (sealed end)) now size random z put now_put unwritten error → IsCalled error named → EndsSo a random input taken output now_put named

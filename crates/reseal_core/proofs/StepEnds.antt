@@ -9,10 +9,14 @@ use Rattle.keyring_trait.specs.Manager.{ManagerNow}
 use Rattle.keyring_trait.specs.Saying.{said_last}
 use Rattle.stream_open.specs.declared.errors.OpenError.{OpenError}
 use Rattle.stream_open.specs.declared.errors.OpenError.TheVariants as opens
+use Rattle.stream_open.specs.Asking.{served_in}
 use Rattle.stream_open.specs.Session.{OpeningValue, asked_header, stepped}
+use Rattle.stream_open.specs.Session.{new_session as new_opening}
 use Rattle.stream_open.specs.Stands.{Steps as StepsOpener}
+use Rattle.stream_open.proofs.FedPieces.{joins}
 use Rattle.whole_input.specs.Pieces.{most_piece}
 use Rattle.whole_input.specs.Taken.{Came}
+use Rattle.esdk_decrypt.specs.Underway.{BearsOnce}
 use Rattle.reseal_core.specs.declared.errors.InputError.{InputError}
 use Rattle.reseal_core.specs.declared.errors.ResealError.{ResealError}
 use Rattle.reseal_core.specs.declared.errors.ResealError.TheVariants as reseals
@@ -121,3 +125,10 @@ module _ {A B : Type 0} (opened : A → ManagerNow) (sealed : B → ManagerNow) 
 
   pub unstopped : Steps (opened new) (opened last) (said_last (sealed after) (sealed end)) now v rest put now_put (end ≡ after) unwritten (Err reseals.Stopped) next → ⊥
   unstopped s = unstopped_by s.answer s.opens s.seals
+
+  -- ---- what the manager of the old message bears
+
+  pub opened_bears : (result : Result ℕ ResealError) → Steps (opened new) (opened last) (said_last (sealed after) (sealed end)) now v rest put now_put (end ≡ after) unwritten result next → BearsOnce (opened old) (opened last) now
+  opened_bears result s =
+      let j = joins opened now (new_opening settings given) bytes rest r.text old new last resealer.opener r.fed (s.answer ≡ Err opens.Memory) s.opens.heard s.opens.hears s.opens.bears stays in
+      (served_in j.heard, j.bears)

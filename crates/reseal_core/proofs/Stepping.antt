@@ -1,7 +1,10 @@
 -- A step of a resealer: what its opener and its new message come to is what it comes to.
-use Rattle.std.proofs.Common.{◌≡◌, ◌∙◌, ℕ, Bool, true, false, is_some, List, [], ◌∷◌, ◌++◌, take, Option, Some, None, Result, Ok, Err, inl, inr, refl, sym, ap, subst, append_assoc, append-nil}
+use Rattle.std.proofs.Common.{◌≡◌, ◌∙◌, ℕ, ◌≤◌, Bool, true, false, is_some, List, [], ◌∷◌, ◌++◌, length, take, Option, Some, None, Result, Ok, Err, inl, inr, refl, sym, ap, subst, arith, append_assoc, append-nil, length-append}
+use Rattle.esdk_base.specs.Receiver.{SinkTakes}
 use Rattle.esdk_base.specs.ReceiverLaws.{fails_behind, takes_more, takes_none}
 use Rattle.esdk_base.specs.Streams.{SinkState}
+use Rattle.whole_input.specs.Written.{WritesBeyond}
+use Rattle.whole_input.proofs.Fronts.{beyond_after}
 use Rattle.keyring_trait.specs.Manager.{ManagerNow}
 use Rattle.keyring_trait.specs.Materials.{EncMaterialsValue}
 use Rattle.keyring_trait.specs.Saying.{Saying, said_last}
@@ -42,9 +45,22 @@ gains_more old mid new a b c one two = record {
 pub gains_not : (old mid new : SinkState) (a b c : List ℕ) → Gains old mid a b → GainsNotAll mid new b c → GainsNotAll old new a c
 gains_not old mid new a b c one two = record {
   given = one.given ++ two.given;
+  some = omega (arith, two.some, length-append one.given two.given);
   between = two.between ∙ ap (λ (x : List ℕ). x ++ two.given) one.between ∙ append_assoc a one.given two.given;
   failed = fails_behind old mid new one.given two.given one.taken two.failed;
 }
+
+-- all that is written
+pub gains_all : (old new : SinkState) (all : List ℕ) → Gains old new [] all → SinkTakes old new all
+gains_all old new all g = subst (λ (x : List ℕ). SinkTakes old new x) (sym g.between) g.taken
+
+pub longer_some : (xs more : List ℕ) → 1 ≤ length xs → 1 ≤ length (xs ++ more)
+longer_some xs more some = omega (arith, some, length-append xs more)
+
+-- all of the first was written, and a front beyond it
+pub writes_beyond : (old mid new : SinkState) (before after : List ℕ) → SinkTakes old mid before → GainsNotAll mid new before after → WritesBeyond old new before after
+writes_beyond old mid new before after taken not =
+    subst (λ (all : List ℕ). WritesBeyond old new before all) (sym not.between) (beyond_after old mid new before not.given not.some taken.gained not.failed.front)
 
 not_on : (m : EncMaterialsValue) (size : ℕ) (random written before text : List ℕ) (old mid new : SinkState) (error : ResealError) → Gains old mid written before → GoesNotOn m size random before text mid new error
     → GoesNotOn m size random written text old new error

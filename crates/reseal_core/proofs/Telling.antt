@@ -20,7 +20,7 @@ use Rattle.keyring_trait.specs.Wrapping.{WrapKeyValue}
 use Rattle.message_format.specs.Judgement.{content, judged}
 use Rattle.esdk_encrypt.specs.Encrypt.{drawn_rest}
 use Rattle.esdk_encrypt.proofs.Telling.{CountsWraps, is_told, told_more}
-use Rattle.esdk_decrypt.specs.Decrypt.{Answering, ManagerFails, answering_of}
+use Rattle.esdk_decrypt.specs.Decrypt.{Answering, HasNoMemory, ManagerFails, answering_of}
 use Rattle.esdk_decrypt.specs.Told.{Reader, answering_by}
 use Rattle.esdk_decrypt.proofs.Told.{Allows, answered_allowed, asked_of, failing_allowed, reader_allows}
 use Rattle.reseal_core.specs.declared.errors.InputError.{InputError}
@@ -70,7 +70,7 @@ module _ (from to : Answering) (settings : Settings) (given : List KeyValue) (fi
     written = writes_more drawn answer (content (judged bytes settings answer)) (judged bytes settings answer).unlocked output put p.written;
   }
 
-  opens_more : (input taken : SourceState) (bytes : List ℕ) (whole only : List KeyValue) (key : List ℕ) → OpensFirst a input taken bytes whole only key → OpensFirst b input taken bytes whole only key
+  abbrev opens_more : (input taken : SourceState) (bytes : List ℕ) (whole only : List KeyValue) (key : List ℕ) → OpensFirst a input taken bytes whole only key → OpensFirst b input taken bytes whole only key
   opens_more input taken bytes whole only key o = record {
     behind = o.behind;
     few = o.few;
@@ -98,6 +98,20 @@ module _ (from to : Answering) (settings : Settings) (given : List KeyValue) (fi
   fails_more : (input taken : SourceState) → ManagerFails a.opening input taken → ManagerFails b.opening input taken
   fails_more input taken f = record { bytes = f.bytes; came = f.came; failed = failing_allowed from to given f.bytes (header settings (start f.bytes)) allows f.failed; last = f.last }
 
+  lacks_more : (input taken : SourceState) → HasNoMemory a.opening input taken → HasNoMemory b.opening input taken
+  lacks_more input taken l = record {
+    before = l.before;
+    last = l.last;
+    came = l.came;
+    few = l.few;
+    lacks = record {
+      answer = l.lacks.answer;
+      answered = answered_allowed from to settings given l.before l.lacks.answer allows l.lacks.answered;
+      going = l.lacks.going;
+      unreserved = l.lacks.unreserved;
+    };
+  }
+
   starts_more : (drawn : List ℕ) (whole only : List KeyValue) (refusal : Refusal) → StartsNot a drawn whole only refusal → StartsNot b drawn whole only refusal
   starts_more drawn whole only refusal s = record { materials = s.materials; given = more.gives (request_for whole only) (drawn_rest drawn) s.materials s.given; sound = s.sound; refused = s.refused }
 
@@ -115,6 +129,7 @@ module _ (from to : Answering) (settings : Settings) (given : List KeyValue) (fi
         opens = opens_more input taken e.first e.whole e.only e.key e.opens;
         why = inl (more.gives_none (request_for e.whole e.only) (managers.Refusal refusal) none);
         nothing = e.nothing;
+        last = e.last;
       }
       refuses_more (inr starts) = record {
         first = e.first;
@@ -124,6 +139,7 @@ module _ (from to : Answering) (settings : Settings) (given : List KeyValue) (fi
         opens = opens_more input taken e.first e.whole e.only e.key e.opens;
         why = inr (starts_more drawn e.whole e.only refusal starts);
         nothing = e.nothing;
+        last = e.last;
       }
   ends_more drawn input taken output put (errors.Refusal refusal) (inr (is, e)) = inr (
     is,
@@ -137,6 +153,7 @@ module _ (from to : Answering) (settings : Settings) (given : List KeyValue) (fi
       has = has_more drawn e.whole e.only e.materials e.has;
       many = e.many;
       gained = e.gained;
+      last = e.last;
     },
   )
   ends_more drawn input taken output put (errors.Outside outsides.SourceFault) e =
@@ -151,7 +168,7 @@ module _ (from to : Answering) (settings : Settings) (given : List KeyValue) (fi
       opens = opens_more input taken e.first e.whole e.only e.key e.opens;
       materials = e.materials;
       has = has_more drawn e.whole e.only e.materials e.has;
-      front = e.front;
+      last = e.last;
     }),
   )
   ends_more drawn input taken output put (errors.Outside outsides.SinkFault) (rose, inr e) = (
@@ -179,11 +196,12 @@ module _ (from to : Answering) (settings : Settings) (given : List KeyValue) (fi
     opens = opens_more input taken e.first e.whole e.only e.key e.opens;
     none = more.gives_none (request_for e.whole e.only) managers.KeyringFault e.none;
     nothing = e.nothing;
+    last = e.last;
   })
   ends_more drawn input taken output put (errors.Outside outsides.InputTooLong) e =
       record { bytes = e.bytes; answer = e.answer; passes = passes_more drawn input taken output put e.bytes e.answer e.passes; sound = e.sound; most = e.most }
   ends_more drawn input taken output put (errors.Outside other) none = none
-  ends_more drawn input taken output put errors.Memory e = record { bytes = e.bytes; came = e.came; written = written_more e.written }
+  ends_more drawn input taken output put errors.Memory e = record { lacks = lacks_more input taken e.lacks; written = written_more e.written }
     where
       written_more : (SinkTakes output put [] ⊎ WritesFirst a drawn input taken output put) → SinkTakes output put [] ⊎ WritesFirst b drawn input taken output put
       written_more (inl nothing) = inl nothing

@@ -1,6 +1,7 @@
 -- Where a message is unlocked, and with what.
-use Rattle.std.proofs.Common.{◌≡◌, ◌∙◌, ℕ, Bool, true, false, List, [], ◌++◌, Option, Some, None, if◌then◌else◌, refl, sym, ap}
+use Rattle.std.proofs.Common.{◌≡◌, ◌∙◌, ℕ, Bool, true, false, List, [], ◌++◌, Option, Some, None, if◌then◌else◌, refl, sym, ap, subst}
 use Rattle.esdk_fields.specs.declared.faults.Fault.{Fault}
+use Rattle.esdk_fields.specs.declared.faults.Fault.TheVariants.{Truncated}
 use Rattle.esdk_fields.specs.Place.{Place, start}
 use Rattle.esdk_fields.specs.Reading.{Reading, Read, Refused, Wanting}
 use Rattle.context_codec.specs.Context.{KeyValue}
@@ -11,12 +12,15 @@ use Rattle.keyring_trait.specs.Unlocking.{Unlocking, Refuses, Unlocks}
 use Rattle.body_format.specs.declared.verdicts.Verdict.TheVariants as verdicts
 use Rattle.message_format.specs.Judgement.{Judged, content, header_of, judged, judged_lock, judged_reading, lock_fault}
 use Rattle.message_format.proofs.Following.{follows}
-use Rattle.message_format.proofs.Judging.{judged_is}
+use Rattle.message_format.proofs.Judging.{judged_is, judged_wanting}
 use Rattle.stream_open.specs.Asking.{Heard}
 use Rattle.stream_open.specs.Feeding.{GoesOn}
 use Rattle.stream_open.specs.Laws.{MayBeHeard}
 use Rattle.stream_open.specs.Session.{OpeningValue, answer_kept, asked_header, judged_now, keeping, only_authenticated, only_in, whole_context, whole_in}
 use Rattle.stream_open.proofs.AnyCut.{heard_same}
+use Rattle.stream_open.proofs.GoingOn.{Standing, InHeader, Behind, standing}
+use Rattle.stream_open.proofs.Standing.{judged_unlocked}
+use Rattle.esdk_decrypt.specs.Decrypt.{AnswersReading, Asked, MayLackMemory}
 use Rattle.reseal_core.specs.Stands.{IsOpen}
 
 -- ---- an unlocked message has an answer that unlocks it
@@ -118,3 +122,26 @@ pub stays_unlocked : (v : OpeningValue) (piece more : List ℕ) (short : Type 0)
     → (judged (v.taken ++ more) v.settings (answer_kept (keeping v heard).answer)).unlocked ≡ true
 stays_unlocked v piece more short heard goes may is =
     (follows v.taken more v.settings (answer_kept v.answer) (answer_kept (keeping v heard).answer) (heard_same v piece short heard may goes.unheard)).unlocked is
+
+-- ---- a locked message wants bytes of its header
+
+wants_by : (v : OpeningValue) → (judged_now v).unlocked ≡ false → Standing v → header v.settings (start v.taken) ≡ Wanting
+wants_by v locked (InHeader now) = now
+wants_by v locked (Behind u at) = absurd (let no : true ≡ false = sym (ap (λ (j : Judged). j.unlocked) (judged_unlocked u v at)) ∙ locked in cc)
+
+-- a session that goes on and isn't unlocked
+pub still_in_header : (v : OpeningValue) → GoesOn v → (judged_now v).unlocked ≡ false → header v.settings (start v.taken) ≡ Wanting
+still_in_header v goes locked = wants_by v locked (standing v goes)
+
+-- ---- memory that may run out
+
+-- before a header is whole
+pub lacks_wanting : (asked : Asked) (bytes : List ℕ) → header asked.settings (start bytes) ≡ Wanting → MayLackMemory asked bytes
+lacks_wanting asked bytes wants =
+    let is = judged_wanting bytes asked.settings (Refuses Truncated) wants in
+    record {
+      answer = Refuses Truncated;
+      answered = subst (λ (r : Reading Head). AnswersReading asked.manager asked.given bytes r (Refuses Truncated)) (sym wants) refl;
+      going = ap (λ (j : Judged). j.verdict) is;
+      unreserved = λ unlocked. absurd (let no : false ≡ true = sym (ap (λ (j : Judged). j.unlocked) is) ∙ unlocked in cc);
+    }

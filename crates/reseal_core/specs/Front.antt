@@ -1,6 +1,6 @@
 -- What is written of the new message: its front while the old one goes on, and all of it at the
 -- end.
-use Rattle.std.specs.Prelude.{◌≡◌, ℕ, List, [], ◌++◌, Option, Some, None}
+use Rattle.std.specs.Prelude.{◌≡◌, ◌≤◌, ℕ, List, [], ◌++◌, length, Option, Some, None}
 use Rattle.esdk_base.specs.Receiver.{SinkFails, SinkTakes}
 use Rattle.esdk_base.specs.Streams.{SinkState}
 use Rattle.context_codec.specs.Context.{IsContext, KeyValue}
@@ -43,8 +43,10 @@ pub record Gains (old new : SinkState) (before after : List ℕ) : Type 0 where
   pub between : after ≡ before ++ given
   pub taken : SinkTakes old new given
 
--- A put failed, and the sink gained a front of what the second has beyond the first.
+-- A put failed, and the sink gained a front of what the second has beyond the first, which is
+-- something.
 pub record GainsNotAll (old new : SinkState) (before after : List ℕ) : Type 0 where
   pub given : List ℕ
+  pub some : 1 ≤ length given
   pub between : after ≡ before ++ given
   pub failed : SinkFails old new given

@@ -1,11 +1,12 @@
 -- What resealing an input comes to. Standard: AWS Encryption SDK Specification, "Decrypt" and
 -- "Encrypt".
 use Rattle.std.specs.Prelude.{◌≡◌, ◌⊎◌, ℕ, ◌<◌, ◌≤◌, List, [], ◌++◌, length, take}
-use Rattle.std.specs.Prelude.{Bool, true, Some, None}
+use Rattle.std.specs.Prelude.{Bool, true, false, Some, None}
 use Rattle.std.specs.Io.KnownBytes.{Appends}
 use Rattle.esdk_fields.specs.Counts.{Rose}
+use Rattle.esdk_fields.specs.Place.{start}
+use Rattle.esdk_fields.specs.Reading.{Wanting}
 use Rattle.esdk_base.specs.Receiver.{SinkTakes}
-use Rattle.esdk_base.specs.Sink.{AppendsFront}
 use Rattle.esdk_base.specs.Streams.{EntropyState, SinkState, SourceState}
 use Rattle.esdk_fields.specs.declared.faults.Fault.{Fault}
 use Rattle.esdk_fields.specs.declared.refusals.Outside.TheVariants as outsides
@@ -13,6 +14,7 @@ use Rattle.esdk_fields.specs.declared.refusals.Refusal.{Refusal}
 use Rattle.esdk_fields.specs.declared.refusals.Refusal.TheVariants.{TooManyFrames}
 use Rattle.context_codec.specs.Context.{KeyValue}
 use Rattle.header_codec.specs.declared.settings.Settings.{Settings}
+use Rattle.header_codec.specs.Table.{header}
 use Rattle.keyring_trait.specs.declared.manager_errors.ManagerError.{ManagerError}
 use Rattle.keyring_trait.specs.declared.manager_errors.ManagerError.TheVariants as managers
 use Rattle.keyring_trait.specs.Manager.{ManagerNow}
@@ -25,9 +27,10 @@ use Rattle.message_format.specs.Judgement.{Judged, content, judged}
 use Rattle.stream_seal.specs.Start.{message_of, most_text, start_refusal}
 use Rattle.whole_input.specs.Pieces.{APieceBehind, most_piece}
 use Rattle.whole_input.specs.Taken.{Came, EndSeen, MostTaken}
+use Rattle.whole_input.specs.Written.{WritesBeyond}
 use Rattle.esdk_encrypt.specs.Encrypt.{Drew, EntropyFails, drawn_id, drawn_rest, written_so_far}
 use Rattle.esdk_decrypt.specs.Decrypt.{Asked, AnswersTo, ManagerFails, asked_from}
-use Rattle.esdk_decrypt.specs.Decrypt.{fault_at_end, fault_of}
+use Rattle.esdk_decrypt.specs.Decrypt.{HasNoMemory as LacksMemory, fault_at_end, fault_of}
 use Rattle.reseal_core.specs.declared.errors.InputError.{InputError}
 use Rattle.reseal_core.specs.declared.errors.InputError.TheVariants as errors
 use Rattle.reseal_core.specs.Front.{AreSound, request_for}
@@ -77,6 +80,15 @@ pub record WritesFront (asked : Resealing) (drawn : List ℕ) (whole only : List
   pub room : length text ≤ most_text asked.size
   pub gained : Appends output.written put.written
       (written_so_far materials asked.size (drawn_id drawn) text)
+
+-- What is written with these materials while the old message is judged so: nothing before it is
+-- unlocked, then the header and all frames of what it releases but the last.
+abbrev pub written_at : EncMaterialsValue → ℕ → List ℕ → List ℕ → Bool → List ℕ
+written_at m size drawn text true = written_so_far m size (drawn_id drawn) text
+written_at m size drawn text false = []
+
+abbrev pub written_of : EncMaterialsValue → ℕ → List ℕ → Judged → List ℕ
+written_of m size drawn j = written_at m size drawn (content j) j.unlocked
 
 -- where the old message is unlocked, that; where it isn't, nothing
 abbrev pub WritesBy : Resealing → List ℕ → Unlocking → List ℕ → Bool → SinkState → SinkState
@@ -174,7 +186,7 @@ pub record StartsNot (asked : Resealing) (drawn : List ℕ) (whole only : List K
   pub refused : start_refusal materials None (drawn_id drawn) ≡ Some refusal
 
 -- The old message was unlocked, and the new one is refused, by the manager or for its header:
--- nothing was written.
+-- nothing was written. The old header was made whole by the last piece.
 pub record RefusesMessage (asked : Resealing) (drawn : List ℕ) (input taken : SourceState)
     (output put : SinkState) (refusal : Refusal) : Type 0 where
   pub first : List ℕ
@@ -185,9 +197,11 @@ pub record RefusesMessage (asked : Resealing) (drawn : List ℕ) (input taken : 
   pub why : asked.gives_none (request_for whole only) (managers.Refusal refusal)
       ⊎ StartsNot asked drawn whole only refusal
   pub nothing : SinkTakes output put []
+  pub last : APieceBehind (λ before. header asked.opening.settings (start before) ≡ Wanting)
+      (first ++ opens.behind)
 
--- The text released has a byte beyond those that have room in a message. What is written of those
--- that have was written, all frames but the last.
+-- The text released has a byte beyond those that have room in a message, and it came with the last
+-- piece. What is written of those that have was written, all frames but the last.
 pub record HasTooMany (asked : Resealing) (drawn : List ℕ) (input taken : SourceState)
     (output put : SinkState) : Type 0 where
   pub first : List ℕ
@@ -203,8 +217,12 @@ pub record HasTooMany (asked : Resealing) (drawn : List ℕ) (input taken : Sour
       (written_so_far materials asked.size (drawn_id drawn)
       (take (most_text asked.size)
       (content (judged first asked.opening.settings (Unlocks whole only key)))))
+  pub last : APieceBehind (λ before. length
+      (content (judged before asked.opening.settings (Unlocks whole only key)))
+      ≤ most_text asked.size) (first ++ opens.behind)
 
 -- The old message was unlocked, and a keyring of the new one's manager failed: nothing was written.
+-- The old header was made whole by the last piece.
 pub record SealingFails (asked : Resealing) (input taken : SourceState) (output put : SinkState)
     : Type 0 where
   pub first : List ℕ
@@ -214,9 +232,12 @@ pub record SealingFails (asked : Resealing) (input taken : SourceState) (output 
   pub opens : OpensFirst asked input taken first whole only key
   pub none : asked.gives_none (request_for whole only) managers.KeyringFault
   pub nothing : SinkTakes output put []
+  pub last : APieceBehind (λ before. header asked.opening.settings (start before) ≡ Wanting)
+      (first ++ opens.behind)
 
--- A write failed while the old message went on: a front of what is written of the bytes that have
--- room was written.
+-- A write failed while the old message went on: all that is written of what the bytes before the
+-- last piece release was written, and of what is written of the bytes that have room a front beyond
+-- that.
 pub record FrontFails (asked : Resealing) (drawn : List ℕ) (input taken : SourceState)
     (output put : SinkState) : Type 0 where
   pub first : List ℕ
@@ -226,13 +247,16 @@ pub record FrontFails (asked : Resealing) (drawn : List ℕ) (input taken : Sour
   pub opens : OpensFirst asked input taken first whole only key
   pub materials : EncMaterialsValue
   pub has : HasMaterials asked drawn whole only materials
-  pub front : AppendsFront output.written put.written
+  pub last : APieceBehind (λ before. WritesBeyond output put
+      (written_of materials asked.size drawn
+      (judged before asked.opening.settings (Unlocks whole only key)))
       (written_so_far materials asked.size (drawn_id drawn)
       (take (most_text asked.size)
-      (content (judged first asked.opening.settings (Unlocks whole only key)))))
+      (content (judged first asked.opening.settings (Unlocks whole only key))))))
+      (first ++ opens.behind)
 
--- The write of the final frame failed: the whole input was taken and is a whole message, and a
--- front of the new one was written.
+-- The write of the final frame failed: the whole input was taken and is a whole message, all of the
+-- new one but that frame was written, and a front of it.
 pub record FinalFails (asked : Resealing) (drawn : List ℕ) (input taken : SourceState)
     (output put : SinkState) : Type 0 where
   pub bytes : List ℕ
@@ -246,7 +270,9 @@ pub record FinalFails (asked : Resealing) (drawn : List ℕ) (input taken : Sour
   pub verdict : (judged bytes asked.opening.settings (Unlocks whole only key)).verdict ≡ Whole
   pub materials : EncMaterialsValue
   pub has : HasMaterials asked drawn whole only materials
-  pub front : AppendsFront output.written put.written
+  pub front : WritesBeyond output put
+      (written_so_far materials asked.size (drawn_id drawn)
+      (content (judged bytes asked.opening.settings (Unlocks whole only key))))
       (message_of materials asked.size (drawn_id drawn)
       (content (judged bytes asked.opening.settings (Unlocks whole only key))))
 
@@ -262,11 +288,11 @@ pub record WritesFirst (asked : Resealing) (drawn : List ℕ) (input taken : Sou
   pub front : WritesFront asked drawn whole only
       (content (judged first asked.opening.settings (Unlocks whole only key))) output put
 
--- These bytes were taken, and memory ran out. Nothing was written, or what was passed on before.
+-- Memory ran out at the last piece, as it may while a message is opened. Nothing was written, or
+-- what was passed on before.
 pub record HasNoMemory (asked : Resealing) (drawn : List ℕ) (input taken : SourceState)
     (output put : SinkState) : Type 0 where
-  pub bytes : List ℕ
-  pub came : Came input taken bytes
+  pub lacks : LacksMemory asked.opening input taken
   pub written : SinkTakes output put [] ⊎ WritesFirst asked drawn input taken output put
 
 -- why a run ended whose random bytes were drawn, and what it left

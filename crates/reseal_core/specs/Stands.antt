@@ -1,6 +1,6 @@
 -- When a resealer stands for a session, and what each call comes to.
-use Rattle.std.specs.Prelude.{◌≡◌, ◌⊎◌, ℕ, List, true, false, is_some}
-use Rattle.std.specs.Prelude.{Option, Some, None, Result, Ok, Err}
+use Rattle.std.specs.Prelude.{◌≡◌, ◌⊎◌, ℕ, List, Bool, true, false, is_some}
+use Rattle.std.specs.Prelude.{Option, Some, None, Result, Ok, Err, MatchResult}
 use Rattle.esdk_base.specs.Streams.{SinkState}
 use Rattle.context_codec.specs.Context.{KeyValue}
 use Rattle.keyring_trait.specs.Manager.{ManagerNow}
@@ -13,6 +13,7 @@ use Rattle.stream_open.specs.declared.errors.OpenError.{OpenError}
 use Rattle.stream_open.specs.declared.errors.OpenError.TheVariants as opens
 use Rattle.stream_open.specs.Session.{OpeningValue, finish_answer, judged_now, stepped}
 use Rattle.stream_open.specs.Stands.{Stands as Opens, Steps as StepsOpener}
+use Rattle.esdk_encrypt.specs.Asking.{BearsAsMany, BearsOneMore}
 use Rattle.reseal_core.specs.declared.errors.ResealError.{ResealError}
 use Rattle.reseal_core.specs.declared.errors.ResealError.TheVariants as errors
 use Rattle.reseal_core.specs.declared.new_message.NewMessage.{NewMessage}
@@ -88,6 +89,28 @@ pub record BeginsNot (m : Option EncMaterialsValue) (saying : Saying) (now size 
   pub opened : IsOpen opening whole only
   pub why : ((error ≡ errors.SinkFault) × HeaderFails saying now whole only size random old new)
       ⊎ (IsNotBegun saying now random whole only error × unwritten)
+
+-- ---- what the manager of the new message bears
+
+-- where there were no materials before, one line more at the most, of a text with no declared
+-- length; where there were, no line more
+abbrev pub BearsUpTo : ManagerNow → ManagerNow → ℕ → Bool → Type 0
+BearsUpTo old new now false = BearsAsMany old new ⊎ BearsOneMore old new now None
+BearsUpTo old new now true = BearsAsMany old new
+
+-- one line more just where there are materials now and there were none before; what there is stays
+abbrev pub BearsMade : ManagerNow → ManagerNow → ℕ → Bool → Bool → Type 0
+BearsMade old new now false true = BearsOneMore old new now None
+BearsMade old new now true false = ⊥
+BearsMade old new now before after = BearsAsMany old new
+
+-- that after a call, and after an error one line more at the most
+abbrev pub BearsAfter : {T E : Type 0} → ManagerNow → ManagerNow → ℕ → Bool → Bool → Result T E
+    → Type 0
+BearsAfter old new now before after result =
+    MatchResult result
+    (λ _. BearsMade old new now before after)
+    (λ _. BearsUpTo old new now before)
 
 -- ---- a step
 

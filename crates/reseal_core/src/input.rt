@@ -1,17 +1,19 @@
 //! An input that is resealed.
 
 ghost use Rattle.std.specs.Prelude.{◌≡◌, ◌≢◌, ◌+◌, ◌*◌, ◌≤◌, ◌^◌, ℕ, true, false};
-ghost use Rattle.std.specs.Prelude.{List, length, IfOk, IfErr};
+ghost use Rattle.std.specs.Prelude.{List, None, length, is_some, IfOk, IfErr};
 ghost use Rattle.esdk_fields.specs.Counts.{Stayed};
 ghost use Rattle.context_codec.specs.Context.{KeyValue};
 ghost use Rattle.header_codec.specs.declared.settings.Settings.{Settings};
 ghost use Rattle.keyring_trait.specs.Manager.{Went};
 ghost use Rattle.keyring_trait.specs.Saying.{said_last};
 ghost use Rattle.keyring_trait.specs.Wrapping.{WrapKeyValue};
+ghost use Rattle.esdk_encrypt.specs.Asking.{BearsAtMostOne};
+ghost use Rattle.esdk_decrypt.specs.Underway.{BearsOnce};
 ghost use Rattle.reseal_core.specs.declared.errors.ResealError.TheVariants.{Stopped};
 ghost use Rattle.reseal_core.specs.Reseal.{EndsSo, ResealEnds, ResealsInput, resealing_from};
 ghost use Rattle.reseal_core.specs.Session.{ResealingValue, new_session};
-ghost use Rattle.reseal_core.specs.Stands.{Stands};
+ghost use Rattle.reseal_core.specs.Stands.{BearsAfter, Stands};
 ghost use Rattle.reseal_core.specs.Told.{resealing_told};
 ghost use Rattle.reseal_core.specs.Underway.{Begins, Concludes, ConcludesWhole, IsCalled};
 ghost use Rattle.reseal_core.specs.Underway.{IsFedInput, IsUnstopped, UnfedAs};
@@ -44,10 +46,16 @@ pub struct ResealOptions {
 /// authenticated are required.
 ///
 /// First 64 bytes and 12 for each wrap of `sealing` are drawn by one fill: 32 are the new message's
-/// id, and `sealing` is asked with the others. The old message is judged in order: the first fault
-/// ends the run. Once it is unlocked the new header is written, and then a frame once it is full
-/// and more of the text was released, before more is read; the final frame once the input's end was
-/// seen and the old message is whole.
+/// id, and `sealing` is asked with the others. Each manager serves materials once at the most, and
+/// `sealing` once for a message that was written, with no declared length. The old message is
+/// judged in order: the first fault ends the run. Once it is unlocked the new header is written,
+/// and then a frame once it is full and more of the text was released, before more is read; the
+/// final frame once the input's end was seen and the old message is whole.
+///
+/// An error ends the reading. What it tells of came with the last piece, of at most 65,536 bytes:
+/// the bytes before that piece have no fault, where one is answered; no whole header, where a
+/// manager refuses or fails or the new header is too long; and text that has room, where all that
+/// was released hasn't.
 ///
 /// Ok: the input is a whole message, the new one was written, and this is its whole context. Else:
 ///
@@ -58,9 +66,12 @@ pub struct ResealOptions {
 ///   has room were written but the last.
 /// - `Outside`: a read failed, or 2^62 bytes came and more may follow, and the bytes taken have no
 ///   fault; what they release was passed on. Or a keyring failed when one of the managers was
-///   asked: nothing was written. Or the output failed: a front of what was to be written was. Or no
-///   random bytes came: nothing was taken, asked or written.
-/// - `Memory`: nothing was written, or what was released before.
+///   asked: nothing was written. Or the output failed: a front of what was to be written was, with
+///   all that is written of what the bytes before the last piece release, or, where it failed at
+///   the final frame, with all that comes before that frame. Or no random bytes came: nothing was
+///   taken, asked or written.
+/// - `Memory`: nothing was written, or what was released before. It doesn't come once a piece, of
+///   at most 65,536 bytes, was read behind the unlocked header of a framed message.
 pub fn reseal<A: Manager, B: Manager, S: Source, O: Sink, W: Entropy>(
     alloc: Global,
     opening: &mut A,
@@ -119,7 +130,11 @@ pub fn reseal<A: Manager, B: Manager, S: Source, O: Sink, W: Entropy>(
 
     ensures opening { Went (A.state opening.old) (A.state opening.new) }
     ensures sealing { Went (B.state sealing.old) (B.state sealing.new) }
+    ensures unseals { BearsOnce (A.state opening.old) (A.state opening.new) options.now }
+    ensures seals { BearsAtMostOne (B.state sealing.old) (B.state sealing.new) options.now None
+        result }
     ensures taken { (S.state input.new).given ≤ (S.state input.old).given + 2 ^ 62 }
+    ensures lasts { S.lasts input.old input.new }
 {
     // Where a manager isn't asked, it stays as it is: `wraps` says what that keeps.
     let _opening = opening.wraps();
@@ -170,7 +185,11 @@ fn feed_input<A: Manager, B: Manager, S: Source, O: Sink>(
     ensures going { IfOk result (λ _. IsUnstopped resealer.new) }
     ensures opening { Went (A.state opening.old) (A.state opening.new) }
     ensures sealing { Went (B.state sealing.old) (B.state sealing.new) }
+    ensures unseals { BearsOnce (A.state opening.old) (A.state opening.new) now }
+    ensures seals { BearsAfter (B.state sealing.old) (B.state sealing.new) now false
+        (is_some resealer.new.message.sealer) result }
     ensures taken { (S.state input.new).given ≤ (S.state input.old).given + 2 ^ 62 }
+    ensures lasts { S.lasts input.old input.new }
 {
     let mut pieces = Pieces::new(alloc)?;
     let mut fed = 0;
@@ -191,7 +210,9 @@ fn feed_input<A: Manager, B: Manager, S: Source, O: Sink>(
 /// is taken where all of this one was fed. Else why there is none.
 fn unfed<S: Source>(pieces: &mut Pieces, fed: usize, input: &mut S) -> Result<usize, End>
     requires { fed ≤ length pieces.old.piece }
-    ensures { UnfedAs pieces.old fed (S.state input.old) (S.state input.new) pieces.new result }
+    ensures unfed { UnfedAs pieces.old fed (S.state input.old) (S.state input.new) pieces.new
+        result }
+    ensures lasts { S.lasts input.old input.new }
 {
     if fed < pieces.piece().len() {
         return Ok(fed);

@@ -1,7 +1,7 @@
 //! The new message of a resealer.
 
 ghost use Rattle.std.specs.Prelude.{◌≡◌, ◌≢◌, ◌+◌, ◌*◌, ◌≤◌, ℕ, [], ◌++◌, length, is_some};
-ghost use Rattle.std.specs.Prelude.{None, Some, List, Option, IfErr, IfOk, OnOk};
+ghost use Rattle.std.specs.Prelude.{None, Some, List, Option, IfErr, IfOk, OnOk, false};
 ghost use Rattle.context_codec.specs.Parts.{keys_of};
 ghost use Rattle.keyring_trait.specs.Manager.{Went};
 ghost use Rattle.keyring_trait.specs.Materials.{EncMaterialsValue};
@@ -14,6 +14,7 @@ ghost use Rattle.reseal_core.specs.declared.errors.ResealError.TheVariants.{Memo
 ghost use Rattle.reseal_core.specs.Front.{AreSound, request_for};
 ghost use Rattle.reseal_core.specs.NewMessage.{BeginsAs, FinishesAs, GoesOnAs};
 ghost use Rattle.reseal_core.specs.NewMessage.{IsRefused, IsWritten, put_as};
+ghost use Rattle.reseal_core.specs.Stands.{BearsAfter};
 
 use crate::errors::{ResealError, given_as};
 use context_codec::{Context, PairError};
@@ -58,7 +59,7 @@ impl NewMessage {
         self.sealer.is_some()
     }
 
-    /// Asks the manager for materials over this whole context, of which these pairs are only
+    /// Asks the manager, once, for materials over this whole context, of which these pairs are only
     /// authenticated, begins the message with them, and puts its header.
     ///
     /// `Refusal`, where the manager refuses the request (Q1, Q4, Q5, Q6), or gives entries with
@@ -84,6 +85,8 @@ impl NewMessage {
             only.now size random (O.state output.old) (O.state output.new)
             (output.new ≡ output.old) self.new result }
         ensures went { Went (B.state sealing.old) (B.state sealing.new) }
+        ensures bears { BearsAfter (B.state sealing.old) (B.state sealing.new) now false
+            (is_some self.new.sealer) result }
     {
         let request = request_for(alloc, whole, only)?;
         let (id, rest) = self.random.bytes().split_at(32);
@@ -110,10 +113,11 @@ impl NewMessage {
         content: &[u8],
         output: &mut O,
     ) -> Result<(), ResealError>
-        ensures { (size : ℕ) (random text : List ℕ) (m : Option EncMaterialsValue)
+        ensures goes { (size : ℕ) (random text : List ℕ) (m : Option EncMaterialsValue)
             → IsWritten self.old size random m text → (m ≡ None → content.now ≡ [])
             → GoesOnAs size random m text (text ++ content.now) (O.state output.old)
             (O.state output.new) self.new result }
+        ensures begun { is_some self.new.sealer ≡ is_some self.old.sealer }
     {
         match &mut self.sealer {
             None => Ok(()),

@@ -1,7 +1,7 @@
 //! A message that is resealed piece by piece.
 
 ghost use Rattle.std.specs.Prelude.{◌≡◌, ◌+◌, ◌*◌, ◌≤◌, ℕ, [], ◌++◌, length, false, true};
-ghost use Rattle.std.specs.Prelude.{None, Some, List, Option, Err, IfOk, IfErr};
+ghost use Rattle.std.specs.Prelude.{None, Some, List, Option, Err, IfOk, IfErr, is_some};
 ghost use Rattle.std.specs.Option.{option_copied};
 ghost use Rattle.keyring_trait.specs.Manager.{Went};
 ghost use Rattle.keyring_trait.specs.Materials.{EncMaterialsValue};
@@ -12,6 +12,7 @@ ghost use Rattle.reseal_core.specs.declared.errors.ResealError.TheVariants.{Stop
 ghost use Rattle.reseal_core.specs.NewMessage.{IsWritten};
 ghost use Rattle.reseal_core.specs.Session.{HoldsOnly, IsLocked, ResealingValue};
 ghost use Rattle.reseal_core.specs.Session.{finished, new_session};
+ghost use Rattle.reseal_core.specs.Stands.{BearsAfter, BearsMade, BearsUpTo};
 ghost use Rattle.reseal_core.specs.Stands.{BeginsNot, BeginsWhereDue, Finishes, HasSession};
 ghost use Rattle.reseal_core.specs.Stands.{Stands, Steps};
 
@@ -64,7 +65,7 @@ impl Resealer {
     /// first, and answers how many; at least one where the piece isn't empty. At the end of the
     /// header's tag the manager `opening` is asked for the data key, at the moment `now`, in
     /// seconds; once the message is unlocked, the manager `sealing` is asked for the materials of
-    /// the new one, with the whole context, of which the keys of the pairs that are only
+    /// the new one, once, with the whole context, of which the keys of the pairs that are only
     /// authenticated are required, and no declared length; and the new header is put. At the end of
     /// a unit its content is passed on, and each new frame that is full is put once more bytes
     /// come.
@@ -109,6 +110,11 @@ impl Resealer {
             → asked_header v.opening piece.now ≡ None → opening.new ≡ opening.old }
         ensures opening { Went (A.state opening.old) (A.state opening.new) }
         ensures sealing { Went (B.state sealing.old) (B.state sealing.new) }
+        ensures once { (v : ResealingValue) → Stands self.old v → v.stopped ≡ false
+            → BearsUpTo (B.state sealing.old) (B.state sealing.new) now (is_some v.materials) }
+        ensures bears { (v w : ResealingValue) → Stands self.old v → v.stopped ≡ false
+            → Stands self.new w → IfOk result (λ _. BearsMade (B.state sealing.old)
+            (B.state sealing.new) now (is_some v.materials) (is_some w.materials)) }
     {
         // Where a manager isn't asked, it stays as it is: `wraps` says what that keeps.
         let _opening = opening.wraps();
@@ -157,6 +163,8 @@ impl Resealer {
         ensures opener { self.new.opener ≡ self.old.opener }
         ensures stopped { self.new.stopped ≡ self.old.stopped }
         ensures went { Went (B.state sealing.old) (B.state sealing.new) }
+        ensures bears { BearsAfter (B.state sealing.old) (B.state sealing.new) now
+            (is_some self.old.message.sealer) (is_some self.new.message.sealer) result }
     {
         if self.message.is_begun() {
             return Ok(());
@@ -173,13 +181,14 @@ impl Resealer {
     /// Says that no byte follows. Ok exactly where the message is whole and the final frame of the
     /// new one was put; M10 `Truncated` exactly where more bytes are wanted: then nothing is put;
     /// `SinkFault`, where the put failed; `Stopped` exactly where an earlier call answered an
-    /// error, or this one was made before. In all cases the resealer has stopped.
+    /// error, or this one was made before: then nothing changes. In all cases the resealer has
+    /// stopped.
     pub fn finish<O: Sink>(&mut self, output: &mut O) -> Result<(), ResealError>
         ensures finishes { (v : ResealingValue) → Stands self.old v → v.stopped ≡ false
             → Finishes v (O.state output.old) (O.state output.new) (output.new ≡ output.old)
             result }
         ensures stopped { (v : ResealingValue) → Stands self.old v → v.stopped ≡ true
-            → (result ≡ Err Stopped) × (output.new ≡ output.old) }
+            → (result ≡ Err Stopped) × (self.new ≡ self.old) × (output.new ≡ output.old) }
         ensures stands { (v : ResealingValue) → Stands self.old v → v.stopped ≡ false
             → Stands self.new (finished v) }
     {

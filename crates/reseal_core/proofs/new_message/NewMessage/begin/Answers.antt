@@ -1,6 +1,9 @@
-use Rattle.std.proofs.Common.{◌≡◌, ◌∙◌, ap, refl, inl, take, drop}
+use Rattle.std.proofs.Common.{◌≡◌, ◌∙◌, false, ap, refl, inl, inr, take, drop}
+use Rattle.std.proofs.lemmas.Result.{err_from_is_err_and}
+use Rattle.keyring_trait.specs.Requests.{EncRequestValue}
 use Rattle.keyring_trait.specs.Saying.{Saying, said_last}
 use Rattle.reseal_core.specs.NewMessage.{AreGiven}
+use Rattle.reseal_core.proofs.Bearing.{bears_asked, bears_same}
 use Rattle.reseal_core.proofs.NewMessages.{are_given, begins, header_fails}
 use Rattle.reseal_core.proofs.new_message.NewMessage.begin.Goals as goal
 
@@ -28,3 +31,28 @@ returns-clause-begins g c = λ size random text written.
     (c.in-Ok.ensures.gives, c.in-Ok.ensures.gave) c.in_ok-sealer.ensures.sound c.in_ok-sealer.ensures.taken in
     begins saying c.args.now c.args.whole.now c.args.only.now c.args.self.now size random text c.in-Ok.materials written given c.array_of-id.result c.header.result.now id_is
     (c.header.ensures _ c.in_ok-sealer.ensures.stands) (g.O.Sink.state c.args.output.now) (g.O.Sink.state c.put.new.self) c.in_ok-sealer.sealer c.in_ok-sealer.ensures.stands c.in-Ok-put.ensures.bytes c.in-Ok-put.ensures.cause.same
+
+-- ---- what the manager bears
+
+pub returns-in_err-request-clause-bears : goal.returns-in_err-request-clause-bears
+returns-in_err-request-clause-bears g c =
+    let p = err_from_is_err_and c.from_residual.result c.from_residual.ensures.1 in rw p.1 (bears_same (g.B.Manager.state c.args.sealing.now) c.args.now false)
+
+pub returns-in-Err-clause-bears : goal.returns-in-Err-clause-bears
+returns-in-Err-clause-bears g c = inl c.in-Err.ensures.bears
+
+pub returns-in_err-sealer-clause-bears : goal.returns-in_err-sealer-clause-bears
+returns-in_err-sealer-clause-bears g c =
+    let p = err_from_is_err_and c.from_residual-in_err-sealer.result c.from_residual-in_err-sealer.ensures.1 in
+    rw p.1 (inr (bears_asked (g.B.Manager.state c.args.sealing.now) (g.B.Manager.state c.for_encryption.new.self) c.args.now _ c.for_encryption.result c.in-Ok.materials
+    (ap (λ (r : EncRequestValue). r.declared) c.in_ok-request.ensures.request) c.in-Ok.is c.for_encryption.ensures.bears))
+
+pub returns-in_default-clause-bears : goal.returns-in_default-clause-bears
+returns-in_default-clause-bears g c =
+    inr (bears_asked (g.B.Manager.state c.args.sealing.now) (g.B.Manager.state c.for_encryption.new.self) c.args.now _ c.for_encryption.result c.in-Ok.materials
+    (ap (λ (r : EncRequestValue). r.declared) c.in_ok-request.ensures.request) c.in-Ok.is c.for_encryption.ensures.bears)
+
+pub returns-clause-bears : goal.returns-clause-bears
+returns-clause-bears g c =
+    bears_asked (g.B.Manager.state c.args.sealing.now) (g.B.Manager.state c.for_encryption.new.self) c.args.now _ c.for_encryption.result c.in-Ok.materials
+    (ap (λ (r : EncRequestValue). r.declared) c.in_ok-request.ensures.request) c.in-Ok.is c.for_encryption.ensures.bears

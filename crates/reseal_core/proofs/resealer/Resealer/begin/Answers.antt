@@ -30,3 +30,6 @@ returns-clause-cause g c = λ opening size random text m opens written.
     not_begun_as _ c.args.now size random text opening (c.begin.new.sealing ≡ c.args.sealing.now) c.args.self.now.message m c.in-Some.whole.now c.in-Some-only.only.now _ _ _ c.begin.new.self (sym c.is_begun.ensures ∙ c.if-is_begun.false) written
     (told_open opening c.in-Some.whole.now c.in-Some-only.only.now (sym (c.in-Some.ensures opening opens)) (sym (c.in-Some-only.ensures opening opens)))
     c.begin.result (c.begin.ensures.begins size random text)
+
+pub returns-clause-bears : goal.returns-clause-bears
+returns-clause-bears g c = rw (sym c.is_begun.ensures ∙ c.if-is_begun.false) c.begin.ensures.bears
