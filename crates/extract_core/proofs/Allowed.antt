@@ -10,7 +10,7 @@ use Rattle.header_codec.specs.Table.{Head, header}
 use Rattle.keyring_trait.specs.declared.manager_errors.ManagerError.TheVariants as managers
 use Rattle.keyring_trait.specs.Requests.{DecRequestValue}
 use Rattle.keyring_trait.specs.Unlocking.{Unlocking, Refuses, Unlocks}
-use Rattle.esdk_decrypt.specs.Decrypt.{Answering, AnswersReading, AnswersRequest, AnswersTo, FailsReading, FailsTo}
+use Rattle.esdk_decrypt.specs.Decrypt.{Answering, AnswersReading, AnswersRequest, AnswersTo}
 use Rattle.esdk_decrypt.proofs.Told.{Allows, asked_of}
 use Rattle.extract_core.specs.declared.errors.ExtractError.{ExtractError}
 use Rattle.extract_core.specs.declared.errors.ExtractError.TheVariants as errors
@@ -27,34 +27,32 @@ reading_allowed from to given b (Read parts body) answer allows answers = reques
 reading_allowed from to given b (Refused fault at) answer allows is = is
 reading_allowed from to given b Wanting answer allows is = is
 
-failing_allowed : (from to : Answering) (given : List KeyValue) (b : List ℕ) (r : Reading Head) → Allows from to → FailsReading from given b r → FailsReading to given b r
-failing_allowed from to given b (Read parts body) allows fails = allows.finds_none _ managers.KeyringFault fails
-failing_allowed from to given b (Refused fault at) allows none = none
-failing_allowed from to given b Wanting allows none = none
-
 answers_allowed : (from to : Answering) (settings : Settings) (given : List KeyValue) (b : List ℕ) (answer : Unlocking) → Allows from to → AnswersTo from settings given b answer → AnswersTo to settings given b answer
 answers_allowed from to settings given b answer allows answers = reading_allowed from to given b (header settings (start b)) answer allows answers
 
-fails_allowed : (from to : Answering) (settings : Settings) (given : List KeyValue) (b : List ℕ) → Allows from to → FailsTo from settings given b → FailsTo to settings given b
-fails_allowed from to settings given b allows fails = failing_allowed from to given b (header settings (start b)) allows fails
-
-pub extracts_allowed : (from to : Answering) (settings : Settings) (given : List KeyValue) (range : ByteRange) (old : ShelfState) (name : List ℕ) (output put : SinkState) (written : ℕ) → Allows from to
-    → Extracts (asked_of from settings given) range old name output put written → Extracts (asked_of to settings given) range old name output put written
-extracts_allowed from to settings given range old name output put written allows done = record {
+pub extracts_allowed : (from to : Answering) (settings : Settings) (given : List KeyValue) (range : ByteRange) (old new : ShelfState) (name : List ℕ) (output put : SinkState) (written : ℕ) → Allows from to
+    → Extracts (asked_of from settings given) range old new name output put written → Extracts (asked_of to settings given) range old new name output put written
+extracts_allowed from to settings given range old new name output put written allows done = record {
   there = done.there;
   writes = λ b held.
       let w = done.writes b held in
-      record { answer = w.answer; answered = answers_allowed from to settings given b w.answer allows w.answered; sound = w.sound; gained = w.gained; count = w.count };
+      record { answer = w.answer; answered = answers_allowed from to settings given b w.answer allows w.answered; sound = w.sound; gained = w.gained; count = w.count; read = w.read };
 }
 
-front_allowed : (from to : Answering) (settings : Settings) (given : List KeyValue) (range : ByteRange) (output put : SinkState) (b : List ℕ) → Allows from to
-    → WritesFront (asked_of from settings given) range output put b → WritesFront (asked_of to settings given) range output put b
-front_allowed from to settings given range output put b allows w = record { answer = w.answer; answered = answers_allowed from to settings given b w.answer allows w.answered; gained = w.gained }
+front_allowed : (from to : Answering) (settings : Settings) (given : List KeyValue) (range : ByteRange) (old new : ShelfState) (output put : SinkState) (b : List ℕ) → Allows from to
+    → WritesFront (asked_of from settings given) range old new output put b → WritesFront (asked_of to settings given) range old new output put b
+front_allowed from to settings given range old new output put b allows w =
+    record { answer = w.answer; answered = answers_allowed from to settings given b w.answer allows w.answered; gained = w.gained; read = w.read }
 
-less_allowed : (from to : Answering) (settings : Settings) (given : List KeyValue) (range : ByteRange) (old : ShelfState) (name : List ℕ) (output put : SinkState) (unwritten : Type 0) → Allows from to
-    → WritesLess (asked_of from settings given) range old name output put unwritten → WritesLess (asked_of to settings given) range old name output put unwritten
-less_allowed from to settings given range old name output put unwritten allows (inl same) = inl same
-less_allowed from to settings given range old name output put unwritten allows (inr front) = inr (λ b held. front_allowed from to settings given range output put b allows (front b held))
+less_allowed : (from to : Answering) (settings : Settings) (given : List KeyValue) (range : ByteRange) (old new : ShelfState) (name : List ℕ) (output put : SinkState) (unwritten : Type 0) → Allows from to
+    → WritesLess (asked_of from settings given) range old new name output put unwritten → WritesLess (asked_of to settings given) range old new name output put unwritten
+less_allowed from to settings given range old new name output put unwritten allows less = record {
+  front = elim less.front [
+    | inl same ↦ inl same
+    | inr front ↦ inr (λ b held. front_allowed from to settings given range old new output put b allows (front b held))
+  ];
+  missing = less.missing;
+}
 
 pub extract_ends_allowed : (from to : Answering) (settings : Settings) (given : List KeyValue) (range : ByteRange) (old new : ShelfState) (name : List ℕ) (output put : SinkState) (unwritten : Type 0) (error : ExtractError) → Allows from to
     → ExtractEnds (asked_of from settings given) range old new name output put unwritten error → ExtractEnds (asked_of to settings given) range old new name output put unwritten error
@@ -62,24 +60,24 @@ extract_ends_allowed from to settings given range old new name output put unwrit
   there = ends.there;
   writes = λ b held.
       let w = ends.writes b held in
-      record { answer = w.answer; answered = answers_allowed from to settings given b w.answer allows w.answered; fault_is = w.fault_is; gained = w.gained };
+      record { answer = w.answer; answered = answers_allowed from to settings given b w.answer allows w.answered; fault_is = w.fault_is; gained = w.gained; read = w.read };
 }
 extract_ends_allowed from to settings given range old new name output put unwritten (errors.Outside outsides.SourceFault) allows ends = absurd ends
 extract_ends_allowed from to settings given range old new name output put unwritten (errors.Outside outsides.SinkFault) allows ends =
-    record { there = ends.there; rose = ends.rose; writes = λ b held. front_allowed from to settings given range output put b allows (ends.writes b held) }
+    record { there = ends.there; rose = ends.rose; writes = λ b held. front_allowed from to settings given range old new output put b allows (ends.writes b held) }
 extract_ends_allowed from to settings given range old new name output put unwritten (errors.Outside outsides.ShelfFault) allows ends =
-    (ends.0, less_allowed from to settings given range old name output put unwritten allows ends.1)
+    (ends.0, less_allowed from to settings given range old new name output put unwritten allows ends.1)
 extract_ends_allowed from to settings given range old new name output put unwritten (errors.Outside outsides.EntropyFault) allows ends = absurd ends
 extract_ends_allowed from to settings given range old new name output put unwritten (errors.Outside outsides.KeyringFault) allows ends =
-    record { there = ends.there; failed = λ b held. fails_allowed from to settings given b allows (ends.failed b held); same = ends.same }
+    record { header = ends.header; has = ends.has; failed = allows.finds_none _ managers.KeyringFault ends.failed; same = ends.same }
 extract_ends_allowed from to settings given range old new name output put unwritten (errors.Outside outsides.InputTooLong) allows ends = absurd ends
-extract_ends_allowed from to settings given range old new name output put unwritten errors.Memory allows ends = less_allowed from to settings given range old name output put unwritten allows ends
+extract_ends_allowed from to settings given range old new name output put unwritten errors.Memory allows ends = less_allowed from to settings given range old new name output put unwritten allows ends
 
 -- the same of a result
-pub extracts_more : (from to : Answering) (settings : Settings) (given : List KeyValue) (range : ByteRange) (old : ShelfState) (name : List ℕ) (output put : SinkState) (r : Result ℕ ExtractError) → Allows from to
-    → IfOk r (Extracts (asked_of from settings given) range old name output put) → IfOk r (Extracts (asked_of to settings given) range old name output put)
-extracts_more from to settings given range old name output put (Ok written) allows done = extracts_allowed from to settings given range old name output put written allows done
-extracts_more from to settings given range old name output put (Err error) allows done = tt
+pub extracts_more : (from to : Answering) (settings : Settings) (given : List KeyValue) (range : ByteRange) (old new : ShelfState) (name : List ℕ) (output put : SinkState) (r : Result ℕ ExtractError) → Allows from to
+    → IfOk r (Extracts (asked_of from settings given) range old new name output put) → IfOk r (Extracts (asked_of to settings given) range old new name output put)
+extracts_more from to settings given range old new name output put (Ok written) allows done = extracts_allowed from to settings given range old new name output put written allows done
+extracts_more from to settings given range old new name output put (Err error) allows done = tt
 
 pub extract_stops_more : (from to : Answering) (settings : Settings) (given : List KeyValue) (range : ByteRange) (old new : ShelfState) (name : List ℕ) (output put : SinkState) (unwritten : Type 0) (r : Result ℕ ExtractError) → Allows from to
     → IfErr r (ExtractEnds (asked_of from settings given) range old new name output put unwritten) → IfErr r (ExtractEnds (asked_of to settings given) range old new name output put unwritten)

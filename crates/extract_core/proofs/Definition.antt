@@ -93,6 +93,11 @@ taken_least b range slot before within =
     range_prefix_least (good b) first count (slot - first) (omega (arith, within, before.order)) (λ k low high. before.each k low (omega (arith, high, before.order))) in
     omega (arith, found, within, before.order)
 
+-- no more are taken than the range names
+pub taken_most : (b : OpenBody) (range : ByteRange) → slots_taken b range ≤ slot_count b.content range
+unfolding slots_taken
+taken_most b range = omega arith
+
 -- ---- of a range that isn't empty
 
 pub not_zero : (n : ℕ) → 1 ≤ n → (n == 0) ≡ false

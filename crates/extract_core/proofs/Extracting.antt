@@ -1,5 +1,6 @@
 -- What an extraction comes to, once the file's header is known and the manager was asked about it.
-use Rattle.std.proofs.Common.{◌≡◌, ℕ, ◌+◌, ◌≤◌, List, length, drop, Some, None, Result, Ok, Err, IfOk, IfErr, refl, sym, ap, subst, ◌∙◌, arith, inl, inr}
+use Rattle.std.proofs.Common.{◌≡◌, ℕ, ◌+◌, ◌-◌, ◌≤◌, Bool, true, false, List, length, drop, Option, Some, None, Result, Ok, Err, IfOk, IfErr, refl, sym, ap, subst, ◌∙◌, arith, inl, inr, mul-le-mul_right}
+use Rattle.std.specs.Prelude.{◌==◌, if◌then◌else◌}
 use Rattle.std.specs.Result.{IsErrAnd}
 use Rattle.esdk_base.specs.Sink.{AppendsFront}
 use Rattle.std.specs.Io.KnownBytes.{Appends}
@@ -10,7 +11,7 @@ use Rattle.esdk_fields.specs.declared.refusals.Outside.TheVariants as outsides
 use Rattle.esdk_fields.specs.Place.{start}
 use Rattle.esdk_fields.specs.Reading.{Reading, Read, Refused, Wanting}
 use Rattle.esdk_fields.proofs.Fronts.{left_is}
-use Rattle.esdk_base.specs.Shelf.{Holds}
+use Rattle.esdk_base.specs.Shelf.{Holds, is_missing}
 use Rattle.esdk_base.specs.Streams.{ShelfState, SinkState}
 use Rattle.context_codec.specs.Context.{KeyValue}
 use Rattle.header_codec.specs.declared.settings.Settings.{Settings}
@@ -18,7 +19,6 @@ use Rattle.header_codec.specs.Header.{HeaderValue}
 use Rattle.header_codec.specs.Table.{Head, header}
 use Rattle.header_codec.proofs.Order.{IsSequential-header}
 use Rattle.suite_table.specs.Keys.{derived}
-use Rattle.keyring_trait.specs.declared.manager_errors.ManagerError.TheVariants as managers
 use Rattle.keyring_trait.specs.Manager.{ManagerNow}
 use Rattle.keyring_trait.specs.Unlocking.{Unlocking, Refuses, Unlocks}
 use Rattle.message_format.specs.declared.unlock_errors.UnlockError.{UnlockError}
@@ -27,15 +27,17 @@ use Rattle.message_format.specs.declared.unlocking.Unlocked.{Unlocked}
 use Rattle.message_format.specs.Judgement.{header_of, lock_fault}
 use Rattle.message_format.specs.Unlocking.{IsUnlocked, StaysLocked, request_of}
 use Rattle.message_format.proofs.WrittenHeads.{header_found}
-use Rattle.esdk_decrypt.specs.Decrypt.{Answering, AnswersReading, AnswersRequest, AnswersTo, Asked, FailsReading, FailsTo, asked_from}
+use Rattle.esdk_decrypt.specs.Decrypt.{Answering, AnswersReading, AnswersRequest, AnswersTo, Asked, asked_from}
 use Rattle.esdk_decrypt.specs.Underway.{BearsOnce}
 use Rattle.extract_core.specs.declared.errors.ExtractError.{ExtractError}
 use Rattle.extract_core.specs.declared.errors.ExtractError.TheVariants as errors
 use Rattle.extract_core.specs.declared.slots.Slots.{Slots}
-use Rattle.extract_core.specs.Extracted.{ByteRange, Extraction, OpenBody, body_behind, extracted, extracted_body, extracted_header, extracted_lock, extracted_reading, nothing}
-use Rattle.extract_core.specs.Extract.{ExtractEnds, Extracts, HasHeader, HasNoHeader, IsHeaderOf, OnFile, UnlessMemory, WritesBefore, WritesFront, body_begin, file_reach, header_fault_at_end, locked_as, most_read, range_of}
-use Rattle.extract_core.specs.Slots.{AreSlotsOf, OnBody, RangeFails, WritesRange, body_in, range_reach}
+use Rattle.extract_core.specs.Extracted.{ByteRange, Extraction, OpenBody, body_behind, extracted, extracted_body, extracted_header, extracted_lock, extracted_reading, nothing, slot_count, slot_width, slots_taken}
+use Rattle.extract_core.specs.Extract.{ExtractEnds, Extracts, HasHeader, HasNoHeader, IsHeaderOf, OnFile, UnlessMemory, WritesBefore, WritesFront, WritesLess, answer_reach, body_begin, header_fault_at_end, header_reach, lock_reach, locked_as, most_header, most_read, most_taken, named_reach, taken_reach}
+use Rattle.extract_core.specs.Slots.{AreSlotsOf, OnBody, RangeFails, WritesRange, body_in, range_reach, slots_reach}
+use Rattle.extract_core.proofs.Definition.{taken_most}
 use Rattle.extract_core.proofs.Taking.{fails_from, holds_same}
+use Rattle.whole_input.specs.Pieces.{most_piece}
 
 -- ---- the header that stands at the front
 
@@ -48,12 +50,6 @@ pub answers_of : (manager : Answering) (settings : Settings) (given : List KeyVa
 answers_of manager settings given b h answer is answers =
     subst (λ (r : Reading Head). AnswersReading manager given b r answer) (sym is.begins.read)
     (subst (λ (x : HeaderValue). AnswersRequest manager (request_of given x) answer) (sym (head_is settings h b is)) answers)
-
-pub fails_of : (manager : Answering) (settings : Settings) (given : List KeyValue) (b : List ℕ) (h : HeaderValue) → IsHeaderOf settings h b → manager.finds_none (request_of given h) managers.KeyringFault
-    → FailsTo manager settings given b
-fails_of manager settings given b h is fails =
-    subst (λ (r : Reading Head). FailsReading manager given b r) (sym is.begins.read)
-    (subst (λ (x : HeaderValue). manager.finds_none (request_of given x) managers.KeyringFault) (sym (head_is settings h b is)) fails)
 
 -- ---- what is extracted
 
@@ -95,45 +91,71 @@ headless_answer manager given b fault (Read parts end) e = absurd cc
 headless_answer manager given b fault (Refused other at) e = let same : other ≡ fault = cc in ap Refuses (sym same)
 headless_answer manager given b fault Wanting e = let same : Truncated ≡ fault = cc in ap Refuses (sym same)
 
+-- ---- how much is read
+
+-- what is read for the header is within what is read of the slots that are taken, and of those that the range names
+header_within : (settings : Settings) (range : ByteRange) (b : List ℕ) (answer : Unlocking) → most_header settings b ≤ most_taken b settings answer range
+unfolding most_taken
+header_within settings range b answer = omega arith
+
+-- where a header is read, up to a piece behind it is
+header_read : (settings : Settings) (old mid : ShelfState) (name : List ℕ) (h : HeaderValue) → HasHeader settings old mid name h → OnFile old name (λ b. mid.given ≤ old.given + most_header settings b)
+header_read settings old mid name h has = λ b held.
+    let is = has.is b held in
+    omega (arith, has.given, is.begin, ap (header_reach b) is.begins.read)
+
+taken_is : (b : List ℕ) (settings : Settings) (answer : Unlocking) (range : ByteRange) (r : Reading Head) → header settings (start b) ≡ r → most_taken b settings answer range ≡ header_reach b r + taken_reach b settings answer range r
+unfolding most_taken
+taken_is b settings answer range r e = ap (λ (r : Reading Head). header_reach b r + taken_reach b settings answer range r) e
+
+-- where it is unlocked, the slots that are taken are read behind it
+taken_open : (b : List ℕ) (settings : Settings) (whole only : List KeyValue) (key : List ℕ) (range : ByteRange) (h : HeaderValue) → IsHeaderOf settings h b → lock_fault h only key ≡ None
+    → most_taken b settings (Unlocks whole only key) range ≡ body_begin h + most_piece + range_reach (body_behind settings h key (drop (body_begin h) b)) range
+taken_open b settings whole only key range h is sound =
+    taken_is b settings (Unlocks whole only key) range (Read is.begins.parts is.end) is.begins.read
+    ∙ ap (λ (x : HeaderValue). is.end.at + most_piece + answer_reach settings range x is.end (Unlocks whole only key)) (head_is settings h b is)
+    ∙ ap (λ (f : Option Fault). is.end.at + most_piece + lock_reach range (body_behind settings h key is.end.left) f) sound
+    ∙ ap (λ (l : List ℕ). is.end.at + most_piece + range_reach (body_behind settings h key l) range) (body_left b settings h is)
+    ∙ ap (λ (n : ℕ). n + most_piece + range_reach (body_behind settings h key (drop (body_begin h) b)) range) is.begin
+
 -- nothing is written, and this fault ends it
-ends_empty : (asked : Asked) (range : ByteRange) (output : SinkState) (fault : Fault) (b : List ℕ) (answer : Unlocking) → AnswersTo asked.manager asked.settings asked.given b answer
-    → extracted b asked.settings answer range ≡ nothing (Some fault) → WritesBefore asked range output output fault b
-ends_empty asked range output fault b answer answers is = record {
+ends_empty : (asked : Asked) (range : ByteRange) (old new : ShelfState) (output : SinkState) (fault : Fault) (b : List ℕ) (answer : Unlocking) → AnswersTo asked.manager asked.settings asked.given b answer
+    → extracted b asked.settings answer range ≡ nothing (Some fault) → new.given ≤ old.given + most_header asked.settings b → WritesBefore asked range old new output output fault b
+ends_empty asked range old new output fault b answer answers is read = record {
   answer = answer;
   answered = answers;
   fault_is = ap (λ (x : Extraction). x.fault) is;
   gained = subst (Appends output.written output.written) (sym (ap (λ (x : Extraction). x.part) is)) (Appends-nil output.written);
+  read = omega (arith, read, header_within asked.settings range b answer);
 }
+
+-- nothing is written
+writes_none : (asked : Asked) (range : ByteRange) (old new : ShelfState) (name : List ℕ) (output put : SinkState) (unwritten : Type 0) → unwritten → WritesLess asked range old new name output put unwritten
+writes_none asked range old new name output put unwritten same = record { front = inl same; missing = λ missing. same }
 
 -- ---- no header came
 
 pub without_header : (asked : Asked) (range : ByteRange) (old new : ShelfState) (name : List ℕ) (output : SinkState) (unwritten : Type 0) (error : ExtractError) → unwritten
-    → HasNoHeader asked.settings old new name error → ExtractEnds asked range old new name output output unwritten error
-without_header asked range old new name output unwritten (errors.Fault fault) same none = record {
+    → HasNoHeader asked.settings old new name error → UnlessMemory {T = HeaderValue} (Err error) (OnFile old name (λ b. new.given ≤ old.given + most_header asked.settings b)) → ExtractEnds asked range old new name output output unwritten error
+without_header asked range old new name output unwritten (errors.Fault fault) same none given = record {
   there = none.0;
-  writes = λ b h. ends_empty asked range output fault b (Refuses fault)
+  writes = λ b h. ends_empty asked range old new output fault b (Refuses fault)
       (headless_answer asked.manager asked.given b fault (header asked.settings (start b)) (none.1 b h))
-      (extracted_is b asked.settings (Refuses fault) range (header asked.settings (start b)) refl ∙ headless b asked.settings range fault (header asked.settings (start b)) (none.1 b h));
+      (extracted_is b asked.settings (Refuses fault) range (header asked.settings (start b)) refl ∙ headless b asked.settings range fault (header asked.settings (start b)) (none.1 b h)) (given b h);
 }
-without_header asked range old new name output unwritten (errors.Outside outsides.SourceFault) same none = absurd none
-without_header asked range old new name output unwritten (errors.Outside outsides.SinkFault) same none = absurd none
-without_header asked range old new name output unwritten (errors.Outside outsides.ShelfFault) same none = (none, inl same)
-without_header asked range old new name output unwritten (errors.Outside outsides.EntropyFault) same none = absurd none
-without_header asked range old new name output unwritten (errors.Outside outsides.KeyringFault) same none = absurd none
-without_header asked range old new name output unwritten (errors.Outside outsides.InputTooLong) same none = absurd none
-without_header asked range old new name output unwritten errors.Memory same none = inl same
-
--- what is read for a range is no less than what is read for none
-least_reach : (range : ByteRange) (b : List ℕ) (r : Reading Head) → file_reach (range_of 0 0) b r ≤ file_reach range b r
-least_reach range b (Read parts end) = omega arith
-least_reach range b (Refused fault at) = omega arith
-least_reach range b Wanting = omega arith
+without_header asked range old new name output unwritten (errors.Outside outsides.SourceFault) same none given = absurd none
+without_header asked range old new name output unwritten (errors.Outside outsides.SinkFault) same none given = absurd none
+without_header asked range old new name output unwritten (errors.Outside outsides.ShelfFault) same none given = (none, writes_none asked range old new name output output unwritten same)
+without_header asked range old new name output unwritten (errors.Outside outsides.EntropyFault) same none given = absurd none
+without_header asked range old new name output unwritten (errors.Outside outsides.KeyringFault) same none given = absurd none
+without_header asked range old new name output unwritten (errors.Outside outsides.InputTooLong) same none given = absurd none
+without_header asked range old new name output unwritten errors.Memory same none given = writes_none asked range old new name output output unwritten same
 
 pub given_less : (T S : Type 0) (settings : Settings) (range : ByteRange) (old new : ShelfState) (name : List ℕ) (error : ExtractError)
-    → UnlessMemory {T = T} (Err error) (OnFile old name (λ b. new.given ≤ old.given + most_read settings (range_of 0 0) b))
+    → UnlessMemory {T = T} (Err error) (OnFile old name (λ b. new.given ≤ old.given + most_header settings b))
     → UnlessMemory {T = S} (Err error) (OnFile old name (λ b. new.given ≤ old.given + most_read settings range b))
-given_less T S settings range old new name (errors.Fault fault) given = λ b h. let m = given b h in omega (arith, m, least_reach range b (header settings (start b)))
-given_less T S settings range old new name (errors.Outside outside) given = λ b h. let m = given b h in omega (arith, m, least_reach range b (header settings (start b)))
+given_less T S settings range old new name (errors.Fault fault) given = λ b h. omega (arith, given b h)
+given_less T S settings range old new name (errors.Outside outside) given = λ b h. omega (arith, given b h)
 given_less T S settings range old new name errors.Memory given = tt
 
 -- ---- the header stays locked
@@ -142,24 +164,25 @@ pub stays_locked : (old_m new_m : ManagerNow) (now : ℕ) (settings : Settings) 
     → unwritten → HasHeader settings old mid name h → StaysLocked old_m new_m now given h error → ExtractEnds (asked_from old_m new_m now settings given) range old mid name output output unwritten (locked_as error)
 stays_locked old_m new_m now settings given range old mid name output unwritten h (locks.Fault fault) same has (inl named) = record {
   there = has.there;
-  writes = λ b held. ends_empty (asked_from old_m new_m now settings given) range output fault b (Refuses fault)
+  writes = λ b held. ends_empty (asked_from old_m new_m now settings given) range old mid output fault b (Refuses fault)
       (answers_of (asked_from old_m new_m now settings given).manager settings given b h (Refuses fault) (has.is b held) named.0)
-      (extracted_refused b settings fault range h (has.is b held));
+      (extracted_refused b settings fault range h (has.is b held)) (header_read settings old mid name h has b held);
 }
 stays_locked old_m new_m now settings given range old mid name output unwritten h (locks.Fault fault) same has (inr closed) = record {
   there = has.there;
   writes = λ b held.
       let m = closed.materials in
-      ends_empty (asked_from old_m new_m now settings given) range output fault b (Unlocks m.context m.only m.key)
+      ends_empty (asked_from old_m new_m now settings given) range old mid output fault b (Unlocks m.context m.only m.key)
       (answers_of (asked_from old_m new_m now settings given).manager settings given b h (Unlocks m.context m.only m.key) (has.is b held) (m.served, closed.answered.found))
-      (extracted_closed b settings m.context m.only m.key range h fault (has.is b held) closed.closed);
+      (extracted_closed b settings m.context m.only m.key range h fault (has.is b held) closed.closed) (header_read settings old mid name h has b held);
 }
 stays_locked old_m new_m now settings given range old mid name output unwritten h locks.KeyringFault same has failed = record {
-  there = has.there;
-  failed = λ b held. fails_of (asked_from old_m new_m now settings given).manager settings given b h (has.is b held) failed.0;
+  header = h;
+  has = has;
+  failed = failed.0;
   same = same;
 }
-stays_locked old_m new_m now settings given range old mid name output unwritten h locks.Memory same has memory = inl same
+stays_locked old_m new_m now settings given range old mid name output unwritten h locks.Memory same has memory = writes_none (asked_from old_m new_m now settings given) range old mid name output output unwritten same
 
 pub bears_locked : (old_m new_m : ManagerNow) (now : ℕ) (given : List KeyValue) (h : HeaderValue) (error : UnlockError) → StaysLocked old_m new_m now given h error → BearsOnce old_m new_m now
 bears_locked old_m new_m now given h (locks.Fault fault) (inl named) = (None, named.1)
@@ -170,9 +193,7 @@ bears_locked old_m new_m now given h locks.Memory memory = memory
 -- how much is read where no slot is
 pub header_given : (settings : Settings) (range : ByteRange) (old mid : ShelfState) (name : List ℕ) (h : HeaderValue) → HasHeader settings old mid name h
     → OnFile old name (λ b. mid.given ≤ old.given + most_read settings range b)
-header_given settings range old mid name h has = λ b held.
-    let is = has.is b held in
-    omega (arith, has.given, is.begin, ap (file_reach range b) is.begins.read)
+header_given settings range old mid name h has = λ b held. omega (arith, header_read settings old mid name h has b held)
 
 -- ---- the header is unlocked
 
@@ -215,10 +236,20 @@ open_extracts old_m new_m now settings given old mid name s range o b held =
     extracted_open b settings m.context m.only m.key range o.h (o.has.is b held) o.unlocked.sound
     ∙ ap (λ (x : OpenBody). extracted_body x range) (sym (body_same old_m new_m now settings given o.h o.opened o.begin s b o.unlocked o.slots o.at))
 
-pub extracts_all : (old_m new_m : ManagerNow) (now : ℕ) (settings : Settings) (given : List KeyValue) (old mid : ShelfState) (name : List ℕ) (s : Slots) (range : ByteRange) (output put : SinkState) (r : Result ℕ ExtractError)
-    → IsOpen old_m new_m now settings given old mid name s → IfOk r (λ written. OnBody s mid name (λ b. WritesRange b range output put written))
-    → IfOk r (Extracts (asked_from old_m new_m now settings given) range old name output put)
-extracts_all old_m new_m now settings given old mid name s range output put (Ok written) o wrote = record {
+-- how much is read, by what is read of the body
+open_reads : (old_m new_m : ManagerNow) (now : ℕ) (settings : Settings) (given : List KeyValue) (old mid after : ShelfState) (name : List ℕ) (s : Slots) (range : ByteRange) (o : IsOpen old_m new_m now settings given old mid name s)
+    → OnBody s mid name (λ b. after.given ≤ mid.given + range_reach b range)
+    → OnFile old name (λ b. after.given ≤ old.given + most_taken b settings (Unlocks o.unlocked.materials.context o.unlocked.materials.only o.unlocked.materials.key) range)
+open_reads old_m new_m now settings given old mid after name s range o read = λ b held.
+    let m = o.unlocked.materials in
+    let all = taken_open b settings m.context m.only m.key range o.h (o.has.is b held) o.unlocked.sound in
+    let same = ap (λ (x : OpenBody). range_reach x range) (body_same old_m new_m now settings given o.h o.opened o.begin s b o.unlocked o.slots o.at) in
+    omega (arith, read b (holds_same old mid name b o.files held), o.has.given, all, same)
+
+pub extracts_all : (old_m new_m : ManagerNow) (now : ℕ) (settings : Settings) (given : List KeyValue) (old mid after : ShelfState) (name : List ℕ) (s : Slots) (range : ByteRange) (output put : SinkState) (r : Result ℕ ExtractError)
+    → IsOpen old_m new_m now settings given old mid name s → IfOk r (λ written. OnBody s mid name (λ b. WritesRange b range output put written)) → OnBody s mid name (λ b. after.given ≤ mid.given + range_reach b range)
+    → IfOk r (Extracts (asked_from old_m new_m now settings given) range old after name output put)
+extracts_all old_m new_m now settings given old mid after name s range output put (Ok written) o wrote read = record {
   there = o.has.there;
   writes = λ b held.
       let w = wrote b (holds_same old mid name b o.files held) in
@@ -229,25 +260,40 @@ extracts_all old_m new_m now settings given old mid name s range output put (Ok 
         sound = ap (λ (x : Extraction). x.fault) is ∙ w.fault;
         gained = subst (Appends output.written put.written) (sym (ap (λ (x : Extraction). x.part) is)) w.gained;
         count = w.count ∙ sym (ap (λ (x : Extraction). length x.part) is);
+        read = open_reads old_m new_m now settings given old mid after name s range o read b held;
       };
 }
-extracts_all old_m new_m now settings given old mid name s range output put (Err error) o wrote = tt
+extracts_all old_m new_m now settings given old mid after name s range output put (Err error) o wrote read = tt
 
 -- a front of the range was written
-writes_front : (old_m new_m : ManagerNow) (now : ℕ) (settings : Settings) (given : List KeyValue) (old mid : ShelfState) (name : List ℕ) (s : Slots) (range : ByteRange) (output put : SinkState)
-    → IsOpen old_m new_m now settings given old mid name s → OnBody s mid name (λ b. AppendsFront output.written put.written (extracted_body b range).part)
-    → OnFile old name (WritesFront (asked_from old_m new_m now settings given) range output put)
-writes_front old_m new_m now settings given old mid name s range output put o front = λ b held. record {
+writes_front : (old_m new_m : ManagerNow) (now : ℕ) (settings : Settings) (given : List KeyValue) (old mid after : ShelfState) (name : List ℕ) (s : Slots) (range : ByteRange) (output put : SinkState)
+    → IsOpen old_m new_m now settings given old mid name s → OnBody s mid name (λ b. AppendsFront output.written put.written (extracted_body b range).part) → OnBody s mid name (λ b. after.given ≤ mid.given + range_reach b range)
+    → OnFile old name (WritesFront (asked_from old_m new_m now settings given) range old after output put)
+writes_front old_m new_m now settings given old mid after name s range output put o front read = λ b held. record {
   answer = Unlocks o.unlocked.materials.context o.unlocked.materials.only o.unlocked.materials.key;
   answered = open_answers old_m new_m now settings given old mid name s o b held;
   gained = subst (AppendsFront output.written put.written) (sym (ap (λ (x : Extraction). x.part) (open_extracts old_m new_m now settings given old mid name s range o b held)))
       (front b (holds_same old mid name b o.files held));
+  read = open_reads old_m new_m now settings given old mid after name s range o read b held;
+}
+
+is_there : (b : Bool) (so : Type 0) → b ≡ false → b ≡ true → so
+is_there true so here lost = absurd cc
+is_there false so here lost = absurd cc
+
+-- the file is there, and a front of the range was written
+writes_some : (old_m new_m : ManagerNow) (now : ℕ) (settings : Settings) (given : List KeyValue) (old mid after : ShelfState) (name : List ℕ) (s : Slots) (range : ByteRange) (output put : SinkState) (unwritten : Type 0)
+    → IsOpen old_m new_m now settings given old mid name s → OnBody s mid name (λ b. AppendsFront output.written put.written (extracted_body b range).part) → OnBody s mid name (λ b. after.given ≤ mid.given + range_reach b range)
+    → WritesLess (asked_from old_m new_m now settings given) range old after name output put unwritten
+writes_some old_m new_m now settings given old mid after name s range output put unwritten o front read = record {
+  front = inr (writes_front old_m new_m now settings given old mid after name s range output put o front read);
+  missing = is_there (is_missing old.files name) unwritten o.has.there;
 }
 
 range_ends : (old_m new_m : ManagerNow) (now : ℕ) (settings : Settings) (given : List KeyValue) (old mid after : ShelfState) (name : List ℕ) (s : Slots) (range : ByteRange) (output put : SinkState) (unwritten : Type 0) (error : ExtractError)
-    → IsOpen old_m new_m now settings given old mid name s → RangeFails s range mid after name output put error
+    → IsOpen old_m new_m now settings given old mid name s → RangeFails s range mid after name output put error → OnBody s mid name (λ b. after.given ≤ mid.given + range_reach b range)
     → ExtractEnds (asked_from old_m new_m now settings given) range old after name output put unwritten error
-range_ends old_m new_m now settings given old mid after name s range output put unwritten (errors.Fault fault) o fails = record {
+range_ends old_m new_m now settings given old mid after name s range output put unwritten (errors.Fault fault) o fails read = record {
   there = o.has.there;
   writes = λ b held.
       let w = fails b (holds_same old mid name b o.files held) in
@@ -257,24 +303,26 @@ range_ends old_m new_m now settings given old mid after name s range output put 
         answered = open_answers old_m new_m now settings given old mid name s o b held;
         fault_is = ap (λ (x : Extraction). x.fault) is ∙ w.fault_is;
         gained = subst (Appends output.written put.written) (sym (ap (λ (x : Extraction). x.part) is)) w.gained;
+        read = open_reads old_m new_m now settings given old mid after name s range o read b held;
       };
 }
-range_ends old_m new_m now settings given old mid after name s range output put unwritten (errors.Outside outsides.SourceFault) o fails = absurd fails
-range_ends old_m new_m now settings given old mid after name s range output put unwritten (errors.Outside outsides.SinkFault) o fails =
-    record { there = o.has.there; rose = fails.0; writes = writes_front old_m new_m now settings given old mid name s range output put o fails.1 }
-range_ends old_m new_m now settings given old mid after name s range output put unwritten (errors.Outside outsides.ShelfFault) o fails =
-    (fails_from old mid after name o.files o.has.faults fails.0, inr (writes_front old_m new_m now settings given old mid name s range output put o fails.1))
-range_ends old_m new_m now settings given old mid after name s range output put unwritten (errors.Outside outsides.EntropyFault) o fails = absurd fails
-range_ends old_m new_m now settings given old mid after name s range output put unwritten (errors.Outside outsides.KeyringFault) o fails = absurd fails
-range_ends old_m new_m now settings given old mid after name s range output put unwritten (errors.Outside outsides.InputTooLong) o fails = absurd fails
-range_ends old_m new_m now settings given old mid after name s range output put unwritten errors.Memory o fails = inr (writes_front old_m new_m now settings given old mid name s range output put o fails)
+range_ends old_m new_m now settings given old mid after name s range output put unwritten (errors.Outside outsides.SourceFault) o fails read = absurd fails
+range_ends old_m new_m now settings given old mid after name s range output put unwritten (errors.Outside outsides.SinkFault) o fails read =
+    record { there = o.has.there; rose = fails.0; writes = writes_front old_m new_m now settings given old mid after name s range output put o fails.1 read }
+range_ends old_m new_m now settings given old mid after name s range output put unwritten (errors.Outside outsides.ShelfFault) o fails read =
+    (fails_from old mid after name o.files o.has.faults fails.0, writes_some old_m new_m now settings given old mid after name s range output put unwritten o fails.1 read)
+range_ends old_m new_m now settings given old mid after name s range output put unwritten (errors.Outside outsides.EntropyFault) o fails read = absurd fails
+range_ends old_m new_m now settings given old mid after name s range output put unwritten (errors.Outside outsides.KeyringFault) o fails read = absurd fails
+range_ends old_m new_m now settings given old mid after name s range output put unwritten (errors.Outside outsides.InputTooLong) o fails read = absurd fails
+range_ends old_m new_m now settings given old mid after name s range output put unwritten errors.Memory o fails read =
+    writes_some old_m new_m now settings given old mid after name s range output put unwritten o fails read
 
 pub extract_ends : (old_m new_m : ManagerNow) (now : ℕ) (settings : Settings) (given : List KeyValue) (old mid after : ShelfState) (name : List ℕ) (s : Slots) (range : ByteRange) (output put : SinkState) (unwritten : Type 0) (r : Result ℕ ExtractError)
-    → IsOpen old_m new_m now settings given old mid name s → IfErr r (RangeFails s range mid after name output put)
+    → IsOpen old_m new_m now settings given old mid name s → IfErr r (RangeFails s range mid after name output put) → OnBody s mid name (λ b. after.given ≤ mid.given + range_reach b range)
     → IfErr r (ExtractEnds (asked_from old_m new_m now settings given) range old after name output put unwritten)
-extract_ends old_m new_m now settings given old mid after name s range output put unwritten (Ok written) o fails = tt
-extract_ends old_m new_m now settings given old mid after name s range output put unwritten (Err error) o fails =
-    range_ends old_m new_m now settings given old mid after name s range output put unwritten error o fails
+extract_ends old_m new_m now settings given old mid after name s range output put unwritten (Ok written) o fails read = tt
+extract_ends old_m new_m now settings given old mid after name s range output put unwritten (Err error) o fails read =
+    range_ends old_m new_m now settings given old mid after name s range output put unwritten error o fails read
 
 -- how much is read
 pub unless : {T : Type 0} (r : Result T ExtractError) (so : Type 0) → so → UnlessMemory r so
@@ -283,8 +331,19 @@ unless (Err (errors.Fault fault)) so holds = holds
 unless (Err (errors.Outside outside)) so holds = holds
 unless (Err errors.Memory) so holds = tt
 
+-- the slots that are taken are among those that the range names
+reach_named : (b : OpenBody) (range : ByteRange) → range_reach b range ≤ slots_reach b.content b.max_unit range b.bytes (slot_count b.content range)
+reach_named b range =
+    let most = taken_most b range in
+    let fewer : slots_taken b range - 1 ≤ slot_count b.content range - 1 = omega (arith, most) in
+    less (range.count == 0) (omega (arith, mul-le-mul_right (slot_width b.content) fewer))
+  where
+    less : {m n : ℕ} (empty : Bool) → m ≤ n → (if empty then 0 else m) ≤ (if empty then 0 else n)
+    less true few = omega arith
+    less false few = few
+
 pub extract_given : (old_m new_m : ManagerNow) (now : ℕ) (settings : Settings) (given : List KeyValue) (old mid after : ShelfState) (name : List ℕ) (s : Slots) (range : ByteRange) (r : Result ℕ ExtractError)
-    → IsOpen old_m new_m now settings given old mid name s → OnBody s mid name (λ b. after.given ≤ mid.given + range_reach s.content range b.bytes)
+    → IsOpen old_m new_m now settings given old mid name s → OnBody s mid name (λ b. after.given ≤ mid.given + range_reach b range)
     → UnlessMemory r (OnFile old name (λ b. after.given ≤ old.given + most_read settings range b))
 extract_given old_m new_m now settings given old mid after name s range r o read =
     unless r _ (λ b held.
@@ -292,12 +351,13 @@ extract_given old_m new_m now settings given old mid after name s range r o read
     let more = read b (holds_same old mid name b o.files held) in
     let content : s.content ≡ is.begins.parts.content = o.slots.content ∙ ap (λ (l : HeaderValue). l.content) o.unlocked.opens.lock_is ∙ ap (λ (x : HeaderValue). x.content) (sym (head_is settings o.h b is)) in
     let left : drop s.begin b ≡ is.end.left = ap (λ (n : ℕ). drop n b) (o.slots.first ∙ o.at) ∙ sym (body_left b settings o.h is) in
-    let reach : range_reach s.content range (drop s.begin b) ≡ range_reach is.begins.parts.content range is.end.left = rw (content, left) refl in
-    omega (arith, more, o.has.given, is.begin, reach, ap (file_reach range b) is.begins.read))
+    let reach : slots_reach s.content s.max_unit range (drop s.begin b) (slot_count s.content range) ≡ named_reach settings range (Read is.begins.parts is.end) = rw (content, left, o.slots.limit) refl in
+    let named = ap (named_reach settings range) is.begins.read in
+    omega (arith, more, header_read settings old mid name o.h o.has b held, reach, named, reach_named (body_in s b) range))
 
 -- the same of an error that was passed on
 pub passed_given : (T S : Type 0) (settings : Settings) (range : ByteRange) (old new : ShelfState) (name : List ℕ) (error : ExtractError) (r : Result S ExtractError) → IsErrAnd r (λ other. other ≡ error)
-    → UnlessMemory {T = T} (Err error) (OnFile old name (λ b. new.given ≤ old.given + most_read settings (range_of 0 0) b))
+    → UnlessMemory {T = T} (Err error) (OnFile old name (λ b. new.given ≤ old.given + most_header settings b))
     → UnlessMemory r (OnFile old name (λ b. new.given ≤ old.given + most_read settings range b))
 passed_given T S settings range old new name error (Ok x) is given = absurd is
 passed_given T S settings range old new name error (Err other) is given =

@@ -28,7 +28,7 @@ use Rattle.header_input.specs.declared.errors.NoHeader.{NoHeader}
 use Rattle.header_input.specs.declared.errors.NoHeader.TheVariants as headers
 use Rattle.whole_input.specs.declared.pieces.End.TheVariants as ends
 use Rattle.whole_input.specs.Taken.{Came}
-use Rattle.extract_core.specs.Extract.{HasHeader, HasNoHeader, IsHeaderOf, OnFile, UnlessMemory, authentication_size, body_begin, file_reach, header_fault_at_end, most_read, range_of, unheaded_as}
+use Rattle.extract_core.specs.Extract.{HasHeader, HasNoHeader, IsHeaderOf, OnFile, UnlessMemory, authentication_size, body_begin, header_fault_at_end, header_reach, most_header, unheaded_as}
 use Rattle.whole_input.specs.FileSource.{ReadsOn, file_left, left_from}
 
 -- ---- where a header ends
@@ -197,18 +197,18 @@ none_came settings old new name first now at headers.Memory front none = tt
 
 -- ---- how much was read
 
-reach_of : (settings : Settings) (told : List ℕ) (r : Reading Head) → header settings (start told) ≡ r → most_read settings (range_of 0 0) told ≡ file_reach (range_of 0 0) told r
-reach_of settings told r e = ap (file_reach (range_of 0 0) told) e
+reach_of : (settings : Settings) (told : List ℕ) (r : Reading Head) → header settings (start told) ≡ r → most_header settings told ≡ header_reach told r
+reach_of settings told r e = ap (header_reach told) e
 
 pub given_came : (settings : Settings) (reader : HeaderReader) (old new : ShelfState) (name : List ℕ) (h : HeaderValue) → HasHeader settings old new name h
-    → OnFile old name (λ told. new.given ≤ old.given + most_read settings (range_of 0 0) told)
+    → OnFile old name (λ told. new.given ≤ old.given + most_header settings told)
 given_came settings reader old new name h has = λ told holds.
     let is = has.is told holds in
     omega (arith, has.given, reach_of settings told (Read is.begins.parts is.end) is.begins.read, is.begin)
 
 -- bytes that want more are within what is read at the most
 within_reach : (settings : Settings) (told b rest : List ℕ) (r : Reading Head) → told ≡ b ++ rest → header settings (start b) ≡ Wanting → header settings (start (b ++ rest)) ≡ r
-    → length b ≤ file_reach (range_of 0 0) told r
+    → length b ≤ header_reach told r
 within_reach settings told b rest (Read parts end) is wants e =
     let h = read_after (header settings) b rest parts end (IsSequential-header settings) wants e in omega (arith, h)
 within_reach settings told b rest (Refused fault at) is wants e =
@@ -216,15 +216,15 @@ within_reach settings told b rest (Refused fault at) is wants e =
 within_reach settings told b rest Wanting is wants e = omega (arith, ap length is, length-append b rest)
 
 wanting_given : (settings : Settings) (old new : ShelfState) (name : List ℕ) (first now : SourceState) (at : ℕ) (b : List ℕ) → IsFront old new name first now at
-    → Came first now b → header settings (start b) ≡ Wanting → OnFile old name (λ told. new.given ≤ old.given + most_read settings (range_of 0 0) told)
+    → Came first now b → header settings (start b) ≡ Wanting → OnFile old name (λ told. new.given ≤ old.given + most_header settings told)
 wanting_given settings old new name first now at b front came wants = λ told h.
     let more = front_of first.left now.left told b (first_left old new name first now at front told h) came.consumed in
     let most = within_reach settings told b more.0 (header settings (start (b ++ more.0))) more.1 wants refl in
-    let same = ap (λ (l : List ℕ). file_reach (range_of 0 0) told (header settings (start l))) more.1 in
+    let same = ap (λ (l : List ℕ). header_reach told (header settings (start l))) more.1 in
     omega (arith, front.on.given, front.given, came.most, most, same, ap (λ (s : SourceState). s.given) front.first_is)
 
 pub none_given : (settings : Settings) (old new : ShelfState) (name : List ℕ) (first now : SourceState) (at : ℕ) (error : NoHeader) → IsFront old new name first now at
-    → NoneCame settings first now error → UnlessMemory {T = HeaderValue} (Err (unheaded_as error)) (OnFile old name (λ told. new.given ≤ old.given + most_read settings (range_of 0 0) told))
+    → NoneCame settings first now error → UnlessMemory {T = HeaderValue} (Err (unheaded_as error)) (OnFile old name (λ told. new.given ≤ old.given + most_header settings told))
 none_given settings old new name first now at (headers.Fault fault) front none = λ told h.
     let more = front_of first.left now.left told none.bytes (first_left old new name first now at front told h) none.came.consumed in
     let refused : header settings (start told) ≡ Refused fault none.at =

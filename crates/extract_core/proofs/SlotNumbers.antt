@@ -48,6 +48,7 @@ takes_slot s new before after name slot width (Ok last) h is takes = record {
   empty = takes.empty;
   faults = takes.faults;
   sized = takes.sized;
+  width = takes.width;
 }
 takes_slot s new before after name slot width (Err error) h is takes = tt
 

@@ -18,6 +18,7 @@ use Rattle.frame_codec.specs.declared.unit_heads.UnitHead.{UnitHead}
 use Rattle.frame_codec.specs.InPlace.{unit_size, whole_reading}
 use Rattle.frame_codec.specs.Unit.{Piece, piece_of, unit}
 use Rattle.frame_codec.specs.UnitBuffer.{opened_of}
+use Rattle.frame_codec.specs.UnitHead.{head_of}
 use Rattle.frame_codec.proofs.InPlace.{whole_is}
 use Rattle.frame_codec.proofs.Order.{IsSequential-unit}
 use Rattle.frame_codec.proofs.Units.{unit_refuses_head}
@@ -25,8 +26,9 @@ use Rattle.extract_core.specs.declared.errors.ExtractError.{ExtractError}
 use Rattle.extract_core.specs.declared.errors.ExtractError.TheVariants as errors
 use Rattle.extract_core.specs.declared.slots.Slots.{Slots}
 use Rattle.extract_core.specs.Extracted.{slot_width, unit_fault}
-use Rattle.extract_core.specs.Slots.{IsRead, IsRoom, IsThere, IsWithin, NeedsBytes, ReadsUnit, SameBody, StandsAt, TakesMore, TakesNone, TakesOn, TakesUnit, UnitFails, is_last, known, piece_at, read_count, unit_reach, unit_read}
-use Rattle.extract_core.proofs.Heads.{IsHead, is_head, opened_short}
+use Rattle.extract_core.specs.Slots.{IsRead, IsThere, IsWithin, NeedsBytes, ReadsUnit, ReadsWidth, SameBody, StandsAt, TakesMore, TakesNone, TakesOn, TakesUnit, UnitFails, head_room, is_last, known, least_room, piece_at, read_count, unit_reach, unit_read}
+use Rattle.stream_open.proofs.WholeUnits.{head_stays}
+use Rattle.extract_core.proofs.Heads.{IsHead, frame_room, is_head, least_within, one_block, opened_short, width_room}
 
 -- The bytes of the unit that came so far are held, and what is read ahead stands behind them.
 pub record IsTaking (old now : Slots) (before after : ShelfState) (name : List ℕ) (at want : ℕ) : Type 0 where
@@ -34,7 +36,7 @@ pub record IsTaking (old now : Slots) (before after : ShelfState) (name : List �
   pub files : after.files ≡ before.files
   pub faults : after.faults ≡ before.faults
   pub given : after.given ≤ before.given + read_count now
-  pub room : (frame : ℕ) → old.content ≡ Framed frame → read_count now ≤ frame + 40
+  pub room : (told : List ℕ) → Holds before.files name told → read_count now ≤ head_room old.content (known old want (drop at told))
   pub stands : (told : List ℕ) → Holds before.files name told → StandsAt now told at
   pub within : IsWithin now want now.unit.held
 
@@ -48,7 +50,7 @@ begins old now s name at want same held ahead =
       files = refl;
       faults = refl;
       given = omega arith;
-      room = λ frame is. omega arith;
+      room = λ told h. omega (arith, none);
       stands = λ told h. record { front = rw (held, ahead) (ap (λ (n : ℕ). drop n told) (sym here)) };
       within = λ head is. omega (arith, ap length held);
     }
@@ -73,13 +75,10 @@ within_same : (a b : Slots) (want : ℕ) (held grown : List ℕ) → SameBody a 
 within_same a b want held grown same is within = λ head e.
     let inside = within head (sym (same_known a b want held same) ∙ ap (λ (l : List ℕ). known b want l) (sym is) ∙ e) in omega (arith, inside, ap length is)
 
--- so many bytes may be read of a frame
-room_frame : (content : Content) (end frame : ℕ) → IsRoom content end → content ≡ Framed frame → (end ≤ frame + 40) × (slot_width content ≤ frame + 40)
-room_frame Single end frame room is = absurd cc
-room_frame (Framed n) end frame room is = let same : n ≡ frame = inner n frame is in (omega arith, omega arith)
-  where
-    inner : (m n : ℕ) → Framed m ≡ Framed n → m ≡ n
-    inner m n e = cc
+-- a slot's width is read in any case
+width_least : (content : Content) → slot_width content ≤ least_room content
+width_least Single = omega arith
+width_least (Framed frame) = omega arith
 
 -- files that are as they were hold what they held
 pub holds_same : (before mid : ShelfState) (name told : List ℕ) → mid.files ≡ before.files → Holds before.files name told → Holds mid.files name told
@@ -90,12 +89,20 @@ pub fails_from : (before mid after : ShelfState) (name : List ℕ) → mid.files
 fails_from before mid after name files faults (inl rose) = inl (omega (arith, rose, faults))
 fails_from before mid after name files faults (inr missing) = inr (ap (λ (f : Option Files). is_missing f name) (sym files) ∙ missing.0, missing.1 ∙ faults)
 
+-- the file has what is held, and more
+held_front : (s : Slots) (told : List ℕ) (at : ℕ) → StandsAt s told at → drop at told ≡ s.unit.held ++ (s.ahead ++ drop (at + read_count s) told)
+held_front s told at stands = stands.front ∙ append_assoc s.unit.held s.ahead (drop (at + read_count s) told)
+
 -- how much is read of the unit, more of the file being read
-read_room : (old l new : Slots) (before mid after : ShelfState) (name : List ℕ) (at want end : ℕ) → IsTaking old l before mid name at want → TakesOn l new mid after name at end → IsRoom l.content end
-    → (frame : ℕ) → old.content ≡ Framed frame → read_count new ≤ frame + 40
-read_room old l new before mid after name at want end taking on room frame is =
-    let most = room_frame l.content end frame room (taking.same.content ∙ is) in
-    omega (arith, taking.room frame is, on.reach, most.0, most.1)
+read_room : (old l new : Slots) (before mid after : ShelfState) (name : List ℕ) (at want end : ℕ) → IsTaking old l before mid name at want → TakesOn l new mid after name at end → NeedsBytes l want end
+    → (told : List ℕ) → Holds before.files name told → read_count new ≤ head_room old.content (known old want (drop at told))
+read_room old l new before mid after name at want end taking on needs told h =
+    let more : List ℕ = l.ahead ++ drop (at + read_count l) told in
+    let there : drop at told ≡ l.unit.held ++ more = held_front l told at (taking.stands told h) in
+    let same : head_room l.content (known l want (l.unit.held ++ more)) ≡ head_room old.content (known old want (drop at told)) =
+    ap (λ (b : List ℕ). head_room l.content (known l want b)) (sym there) ∙ ap (head_room l.content) (same_known old l want (drop at told) taking.same)
+    ∙ ap (λ (c : Content). head_room c (known old want (drop at told))) taking.same.content in
+    omega (arith, taking.room told h, on.reach, needs.room more, same, width_least l.content, least_within l.content (known l want (l.unit.held ++ more)))
 
 read_stands : (old l new : Slots) (before mid after : ShelfState) (name : List ℕ) (at want end : ℕ) → IsTaking old l before mid name at want → TakesOn l new mid after name at end
     → (told : List ℕ) → Holds before.files name told → StandsAt new told at
@@ -109,16 +116,12 @@ goes_on old l new before mid after name at want end taking on more needs = recor
   files = on.files ∙ taking.files;
   faults = more.faults ∙ taking.faults;
   given = omega (arith, taking.given, on.given, on.on);
-  room = read_room old l new before mid after name at want end taking on needs.room;
+  room = read_room old l new before mid after name at want end taking on needs;
   stands = read_stands old l new before mid after name at want end taking on;
   within = within_same l new want (l.unit.held ++ more.bytes) new.unit.held on.same more.grown (needs.within more.bytes (omega (arith, ap length more.grown, more.most)));
 }
 
 -- ---- what is read
-
--- the file has what is held, and more
-held_front : (s : Slots) (told : List ℕ) (at : ℕ) → StandsAt s told at → drop at told ≡ s.unit.held ++ (s.ahead ++ drop (at + read_count s) told)
-held_front s told at stands = stands.front ∙ append_assoc s.unit.held s.ahead (drop (at + read_count s) told)
 
 fault_of_reading : (s : Slots) (want : ℕ) (held more bytes : List ℕ) (fault : Fault) (at : ℕ) → unit_read s want held ≡ Refused fault at → bytes ≡ held ++ more → unit_fault (unit_read s want bytes) ≡ Some fault
 fault_of_reading s want held more bytes fault at e is =
@@ -185,6 +188,17 @@ opened_read s want held more bytes text head last e last_is is = record {
 read_of_same : (old now : Slots) (want : ℕ) (bytes text : List ℕ) (last : Bool) → SameBody old now → IsRead (unit_read now want bytes) last text → IsRead (unit_read old want bytes) last text
 read_of_same old now want bytes text last same read = record { next = read.next; is = sym (same_read old now want bytes same) ∙ read.is }
 
+-- where others follow the unit, no more than a slot's width was read for it
+width_read : (old now : Slots) (before after : ShelfState) (name : List ℕ) (at want : ℕ) (head : UnitHead) (last : Bool) → IsTaking old now before after name at want → IsThere now want head
+    → last ≡ is_last head.kind → ReadsWidth old.content before after name last
+width_read old now before after name at want head last taking there last_is others told h =
+    let more : List ℕ = now.ahead ++ drop (at + read_count now) told in
+    let known_is : known old want (drop at told) ≡ heads.Unit head =
+    sym (same_known old now want (drop at told) taking.same) ∙ ap (λ (b : List ℕ). known now want b) (held_front now told at (taking.stands told h))
+    ∙ head_stays now.content want now.max_unit now.unit.held more head there.known in
+    let is : IsHead old.content head = is_head old.content want old.max_unit (drop at told) head known_is in
+    omega (arith, taking.given, taking.room told h, ap (head_room old.content) known_is, width_room old.content head is (sym last_is ∙ others))
+
 pub opened_there : (old now new : Slots) (before after : ShelfState) (name : List ℕ) (at want : ℕ) (head : UnitHead) (last : Bool) → IsTaking old now before after name at want → IsThere now want head
     → opened_of now.key now.message_id head now.unit.held ≡ Some new.unit.out → last ≡ is_last head.kind → new.unit.held ≡ [] → TakesUnit old new before after name at want last
 opened_there old now new before after name at want head last taking there opens last_is empty =
@@ -200,14 +214,18 @@ opened_there old now new before after name at want head last taking there opens 
         frame = λ frame is. let most = h.frame frame (taking.same.content ∙ is) in omega (arith, short, most);
         single = λ is. last_is ∙ h.single (taking.same.content ∙ is);
       };
+      width = width_read old now before after name at want head last taking there last_is;
     }
 
 -- ---- how much is read
 
-reach_is : (content : Content) (s : Slots) (told : List ℕ) (at : ℕ) → ((frame : ℕ) → content ≡ Framed frame → read_count s ≤ frame + 40) → StandsAt s told at → read_count s ≤ unit_reach content (drop at told)
-reach_is Single s told at room stands =
-    omega (arith, ap length stands.front, length-append (s.unit.held ++ s.ahead) (drop (at + read_count s) told), length-append s.unit.held s.ahead)
-reach_is (Framed frame) s told at room stands = room frame refl
+reach_is : (content : Content) (want : ℕ) (max_unit : Option ℕ) (s : Slots) (told : List ℕ) (at : ℕ) → read_count s ≤ head_room content (head_of content want max_unit (drop at told)) → StandsAt s told at
+    → read_count s ≤ unit_reach content max_unit (drop at told)
+reach_is Single want max_unit s told at room stands =
+    let one = ap (head_room Single) (one_block want max_unit (drop at told)) in
+    omega (arith, room, one, ap length stands.front, length-append (s.unit.held ++ s.ahead) (drop (at + read_count s) told), length-append s.unit.held s.ahead)
+reach_is (Framed frame) want max_unit s told at room stands =
+    let most = frame_room frame want max_unit (drop at told) (head_of (Framed frame) want max_unit (drop at told)) refl in omega (arith, room, most)
 
 -- where nothing more was read than what is taken
 pub reads_so_far : (old now new : Slots) (before after : ShelfState) (name : List ℕ) (at want : ℕ) → IsTaking old now before after name at want → SameBody now new → ReadsUnit old new before after name at
@@ -215,7 +233,7 @@ reads_so_far old now new before after name at want taking same = record {
   same = same_same old now new taking.same same;
   files = taking.files;
   later = omega (arith, taking.faults);
-  given = λ told h. let most = reach_is old.content now told at taking.room (taking.stands told h) in omega (arith, taking.given, most);
+  given = λ told h. let most = reach_is old.content want old.max_unit now told at (taking.room told h) (taking.stands told h) in omega (arith, taking.given, most);
 }
 
 -- where more was read
@@ -226,7 +244,7 @@ reads_on old l new before mid after name at want end taking on needs = record {
   files = on.files ∙ taking.files;
   later = omega (arith, taking.faults, on.later);
   given = λ told h.
-      let most = reach_is old.content new told at (read_room old l new before mid after name at want end taking on needs.room) (read_stands old l new before mid after name at want end taking on told h) in
+      let most = reach_is old.content want old.max_unit new told at (read_room old l new before mid after name at want end taking on needs told h) (read_stands old l new before mid after name at want end taking on told h) in
       omega (arith, taking.given, on.given, on.on, most);
 }
 

@@ -21,19 +21,14 @@ use Rattle.body_format.specs.Rows.{is_more}
 use Rattle.extract_core.specs.declared.errors.ExtractError.{ExtractError}
 use Rattle.extract_core.specs.declared.errors.ExtractError.TheVariants as errors
 use Rattle.extract_core.specs.declared.slots.Slots.{Slots}
-use Rattle.extract_core.specs.Extracted.{ByteRange, Extraction, OpenBody, extracted_body, first_slot, in_range, slot_count, slot_part, slot_read, unit_content, unit_fault}
-use Rattle.extract_core.specs.Slots.{FindsFault, IsRead, IsSized, OnBody, RangeFails, ReadsSlot, SameBody, TakesSlot, UnitFails, WritesRange, body_in, body_reach, first_byte, range_reach, unit_reach}
-use Rattle.extract_core.proofs.Definition.{AreGood, begins_part, ends_at, ends_behind, fault_ends, not_zero, nothing_in_range, of_nothing, parts_before, parts_next}
+use Rattle.extract_core.specs.Extracted.{ByteRange, Extraction, OpenBody, extracted_body, first_slot, in_range, slot_count, slot_part, slot_read, slot_width, slots_taken, unit_content, unit_fault}
+use Rattle.extract_core.specs.Slots.{FindsFault, IsRead, IsSized, OnBody, RangeFails, ReadsSlot, SameBody, TakesSlot, UnitFails, WritesRange, body_in, first_byte, range_reach, unit_reach}
+use Rattle.extract_core.proofs.Definition.{AreGood, begins_part, ends_at, ends_behind, fault_ends, not_zero, nothing_in_range, of_nothing, parts_before, parts_next, taken_all, taken_least}
 use Rattle.extract_core.proofs.Taking.{fails_from, holds_same, same_same}
 
 -- all of what was gained is a front of it
 pub whole_front : (a b : Option (List ℕ)) (xs : List ℕ) → Appends a b xs → AppendsFront a b xs
 whole_front a b xs gained = (length xs, subst (Appends a b) (sym (take_all (length xs) xs (omega arith))) gained)
-
--- how many bytes are read for so many slots at the most
-abbrev pub slots_reach : Content → ℕ → ℕ
-slots_reach Single count = 0
-slots_reach (Framed frame) count = count * (frame + 40)
 
 -- The slots before this one are good ones that others follow, their parts were written, and so many bytes are in them.
 pub record IsWriting (old now : Slots) (range : ByteRange) (before after : ShelfState) (name : List ℕ) (output put : SinkState) (slot written : ℕ) : Type 0 where
@@ -41,12 +36,11 @@ pub record IsWriting (old now : Slots) (range : ByteRange) (before after : Shelf
   pub empty : now.unit.held ≡ []
   pub files : after.files ≡ before.files
   pub faults : after.faults ≡ before.faults
-  pub single : old.content ≡ Single → slot ≡ first_slot old.content range
   pub few : written ≤ first_byte old.content slot - range.at
   pub good : OnBody old before name (λ b. AreGood b range slot)
   pub gained : OnBody old before name (λ b. Appends output.written put.written (parts_before b range slot))
   pub count : OnBody old before name (λ b. written ≡ length (parts_before b range slot))
-  pub given : OnBody old before name (λ b. after.given ≤ before.given + slots_reach old.content (slot - first_slot old.content range))
+  pub given : OnBody old before name (λ b. after.given ≤ before.given + (slot - first_slot old.content range) * slot_width old.content)
   pub later : output.faults ≤ put.faults
 
 pub no_parts : (b : OpenBody) (range : ByteRange) → parts_before b range (first_slot b.content range) ≡ []
@@ -59,7 +53,6 @@ begins s range shelf name output slot empty is = record {
   empty = empty;
   files = refl;
   faults = refl;
-  single = λ single. is;
   few = omega arith;
   good = λ told h. record { order = omega (arith, is); each = λ k low high. absurd (omega (arith, low, high, is)) };
   gained = λ told h. rw is (subst (Appends output.written output.written) (sym (no_parts (body_in s told) range)) (Appends-nil output.written));
@@ -130,28 +123,30 @@ count_next old l new range before mid after name output put slot written n last 
     ap (λ (c : Content). in_range range (first_byte c slot) new.unit.out) w.same.content ∙ sym (part_is b range slot last new.unit.out read) in
     omega (arith, w.count told h, is, ap length here, length-append (parts_before b range slot) (slot_part b range slot))
 
--- how much was read of the slots up to this one
+one_more : (width n : ℕ) → (n + 1) * width ≡ n * width + width
+one_more width n = omega arith
+
+-- how much was read of the slots before this one, and of it, where others follow
+width_next : (old l new : Slots) (range : ByteRange) (before mid after : ShelfState) (name : List ℕ) (output put : SinkState) (slot written : ℕ)
+    → IsWriting old l range before mid name output put slot written → TakesSlot l new mid after name slot false → first_slot old.content range ≤ slot
+    → OnBody old before name (λ b. after.given ≤ before.given + (slot + 1 - first_slot old.content range) * slot_width old.content)
+width_next old l new range before mid after name output put slot written w takes order = λ told h.
+    let more = takes.width refl told (holds_same before mid name told w.files h) in
+    let on = one_more (slot_width old.content) (slot - first_slot old.content range) in
+    let e : slot + 1 - first_slot old.content range ≡ (slot - first_slot old.content range) + 1 = omega (arith, order) in
+    omega (arith, w.given told h, more, ap slot_width w.same.content, on, ap (λ (n : ℕ). n * slot_width old.content) e)
+
+-- and of it, whatever it is
 given_next : (old l new : Slots) (range : ByteRange) (before mid after : ShelfState) (name : List ℕ) (output put : SinkState) (slot written : ℕ)
     → IsWriting old l range before mid name output put slot written → ReadsSlot l new mid after name
-    → OnBody old before name (λ b. after.given ≤ before.given + slots_reach old.content (slot - first_slot old.content range) + unit_reach old.content b.bytes)
+    → OnBody old before name (λ b. after.given ≤ before.given + (slot - first_slot old.content range) * slot_width old.content + unit_reach old.content old.max_unit b.bytes)
 given_next old l new range before mid after name output put slot written w reads = λ told h.
     let more = reads.given told (holds_same before mid name told w.files h) in
-    let same : unit_reach l.content (drop l.begin told) ≡ unit_reach old.content (drop old.begin told) = rw (w.same.content, w.same.begin) refl in
+    let same : unit_reach l.content l.max_unit (drop l.begin told) ≡ unit_reach old.content old.max_unit (drop old.begin told) = rw (w.same.content, w.same.max_unit, w.same.begin) refl in
     omega (arith, w.given told h, more, same)
-
-more_slots : (content : Content) (range : ByteRange) (bytes : List ℕ) (slot : ℕ) → (content ≡ Single → ⊥) → first_slot content range ≤ slot
-    → slots_reach content (slot - first_slot content range) + unit_reach content bytes ≤ slots_reach content (slot + 1 - first_slot content range)
-more_slots Single range bytes slot framed order = absurd (framed refl)
-more_slots (Framed frame) range bytes slot framed order =
-    let e : slot + 1 - range.at / frame ≡ (slot - range.at / frame) + 1 = omega (arith, order) in
-    let on : ((slot - range.at / frame) + 1) * (frame + 40) ≡ (slot - range.at / frame) * (frame + 40) + (frame + 40) = omega arith in
-    omega (arith, on, ap (λ (n : ℕ). n * (frame + 40)) e)
 
 sized_same : (old l : Slots) (last : Bool) (out : List ℕ) → SameBody old l → IsSized l.content last out → IsSized old.content last out
 sized_same old l last out same sized = subst (λ (c : Content). IsSized c last out) same.content sized
-
-no_single : (content : Content) (out : List ℕ) → IsSized content false out → content ≡ Single → ⊥
-no_single content out sized is = let no : false ≡ true = sized.single is in cc
 
 -- a slot more that another one follows
 pub writes_on : (old l new : Slots) (range : ByteRange) (before mid after : ShelfState) (name : List ℕ) (output put put2 : SinkState) (slot written n : ℕ)
@@ -167,7 +162,6 @@ writes_on old l new range before mid after name output put put2 slot written n w
       empty = takes.empty;
       files = reads.files ∙ w.files;
       faults = takes.faults ∙ w.faults;
-      single = λ single. absurd (no_single old.content new.unit.out sized single);
       few = few_next old.content range new.unit.out slot written n sized w.few size;
       good = λ told h.
           let read = read_same old l told new.unit.out slot false w.same (takes.read told (holds_same before mid name told w.files h)) in
@@ -181,38 +175,28 @@ writes_on old l new range before mid after name output put put2 slot written n w
       gained = λ told h. subst (Appends output.written put2.written) (sym (parts_next (body_in old told) range slot order))
           (gained_next old l new range before mid after name output put put2 slot written false w takes put_is told h);
       count = λ told h. count_next old l new range before mid after name output put slot written n false w takes n_is told h ∙ sym (ap length (parts_next (body_in old told) range slot order));
-      given = λ told h.
-          let most = given_next old l new range before mid after name output put slot written w reads told h in
-          let more = more_slots old.content range (drop old.begin told) slot (no_single old.content new.unit.out sized) order in
-          omega (arith, most, more);
+      given = width_next old l new range before mid after name output put slot written w takes order;
       later = omega (arith, w.later, later);
     }
 
 -- ---- the ends
 
--- how much is read of a body at the most
-ends_reach : (content : Content) (range : ByteRange) (bytes : List ℕ) (slot : ℕ) → first_slot content range ≤ slot → slot < first_slot content range + slot_count content range
-    → slots_reach content (slot - first_slot content range) + unit_reach content bytes ≤ body_reach content range bytes
-ends_reach Single range bytes slot order within = omega arith
-ends_reach (Framed frame) range bytes slot order within =
-    let m : ℕ = slot - range.at / frame in
-    let few : m + 1 ≤ slot_count (Framed frame) range = omega (arith, order, within) in
-    let on : (m + 1) * (frame + 40) ≡ m * (frame + 40) + (frame + 40) = omega arith in
-    omega (arith, on, mul-le-mul_right (frame + 40) few)
-
--- of a range that isn't empty
-some_reach : (content : Content) (range : ByteRange) (bytes : List ℕ) → 1 ≤ range.count
-    → range_reach content range bytes ≡ body_reach content range bytes
-some_reach content range bytes some = rw (not_zero range.count some) refl
+-- so many slots before the last are within those that are taken
+within_taken : (b : OpenBody) (range : ByteRange) (slots : ℕ) → 1 ≤ range.count → slots + 1 ≤ slots_taken b range
+    → slots * slot_width b.content + unit_reach b.content b.max_unit b.bytes ≤ range_reach b range
+within_taken b range slots some few =
+    let fewer : slots ≤ slots_taken b range - 1 = omega (arith, few) in
+    rw (not_zero range.count some) (omega (arith, mul-le-mul_right (slot_width b.content) fewer))
 
 pub reach_at : (old l new : Slots) (range : ByteRange) (before mid after : ShelfState) (name : List ℕ) (output put : SinkState) (slot written : ℕ)
     → IsWriting old l range before mid name output put slot written → ReadsSlot l new mid after name → 1 ≤ range.count
     → first_slot old.content range ≤ slot → slot < first_slot old.content range + slot_count old.content range
-    → OnBody old before name (λ b. after.given ≤ before.given + range_reach old.content range b.bytes)
+    → OnBody old before name (λ b. after.given ≤ before.given + range_reach b range)
 reach_at old l new range before mid after name output put slot written w reads some order within = λ told h.
+    let b : OpenBody = body_in old told in
     let most = given_next old l new range before mid after name output put slot written w reads told h in
-    let all = some_reach old.content range (drop old.begin told) some in
-    omega (arith, most, all, ends_reach old.content range (drop old.begin told) slot order within)
+    let few = taken_least b range slot (w.good told h) within in
+    omega (arith, most, within_taken b range (slot - first_slot old.content range) some few)
 
 -- the last unit's part is written
 pub writes_last : (old l new : Slots) (range : ByteRange) (before mid after : ShelfState) (name : List ℕ) (output put put2 : SinkState) (slot written n : ℕ)
@@ -243,20 +227,22 @@ writes_all old l range before mid name output put behind written w some slots is
       count = w.count told h ∙ sym (ap (λ (x : Extraction). length x.part) is);
     }
 
-all_reach : (content : Content) (range : ByteRange) (bytes : List ℕ) (behind : ℕ) → (content ≡ Single → behind ≡ first_slot content range) → behind ≡ first_slot content range + slot_count content range
-    → slots_reach content (behind - first_slot content range) ≤ body_reach content range bytes
-all_reach Single range bytes behind single is = omega arith
-all_reach (Framed frame) range bytes behind single is =
-    let e : behind - range.at / frame ≡ slot_count (Framed frame) range = omega (arith, is) in
-    omega (arith, ap (λ (n : ℕ). n * (frame + 40)) e)
+-- a slot's width is no more than what is read for a unit at the most
+width_reach : (content : Content) (max_unit : Option ℕ) (bytes : List ℕ) → slot_width content ≤ unit_reach content max_unit bytes
+width_reach Single max_unit bytes = omega arith
+width_reach (Framed frame) max_unit bytes = omega arith
 
 pub reach_all : (old l : Slots) (range : ByteRange) (before mid : ShelfState) (name : List ℕ) (output put : SinkState) (behind written : ℕ)
-    → IsWriting old l range before mid name output put behind written → 1 ≤ range.count
+    → IsWriting old l range before mid name output put behind written → 1 ≤ range.count → 1 ≤ slot_count old.content range
     → behind ≡ first_slot old.content range + slot_count old.content range
-    → OnBody old before name (λ b. mid.given ≤ before.given + range_reach old.content range b.bytes)
-reach_all old l range before mid name output put behind written w some is = λ told h.
-    let all = some_reach old.content range (drop old.begin told) some in
-    omega (arith, w.given told h, all, all_reach old.content range (drop old.begin told) behind w.single is)
+    → OnBody old before name (λ b. mid.given ≤ before.given + range_reach b range)
+reach_all old l range before mid name output put behind written w some slots is = λ told h.
+    let b : OpenBody = body_in old told in
+    let all : AreGood b range (first_slot old.content range + slot_count old.content range) = subst (AreGood b range) is (w.good told h) in
+    let taken = taken_all b range all in
+    let last : ℕ = slot_count old.content range - 1 in
+    let e : behind - first_slot old.content range ≡ last + 1 = omega (arith, is, slots) in
+    omega (arith, w.given told h, ap (λ (n : ℕ). n * slot_width old.content) e, one_more (slot_width old.content) last, width_reach old.content old.max_unit (drop old.begin told), within_taken b range last some (omega (arith, slots, taken)))
 
 -- what was written before this slot is a front of the part
 front_before : (old l : Slots) (range : ByteRange) (before mid : ShelfState) (name : List ℕ) (output put : SinkState) (slot written : ℕ)

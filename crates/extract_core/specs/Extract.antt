@@ -1,6 +1,6 @@
 -- What extracting a range of a message comes to, which stands in a file of a shelf. Standard: AWS
 -- Encryption SDK Specification, "Decrypt".
-use Rattle.std.specs.Prelude.{◌≡◌, ◌⊎◌, ℕ, ◌+◌, ◌≤◌, List, length, false, Option, Some, None, Result, Ok, Err, ⊤}
+use Rattle.std.specs.Prelude.{◌≡◌, ◌⊎◌, ℕ, ◌+◌, ◌≤◌, List, length, false, true, Option, Some, None, Result, Ok, Err, ⊤}
 use Rattle.std.specs.Io.KnownBytes.{Appends}
 use Rattle.esdk_fields.specs.Counts.{Rose}
 use Rattle.esdk_fields.specs.declared.faults.Fault.{Fault}
@@ -16,18 +16,21 @@ use Rattle.suite_table.specs.declared.suite.Suite.TheVariants.{Committing, Uncom
 use Rattle.header_codec.specs.declared.settings.Settings.{Settings}
 use Rattle.header_codec.specs.Header.{HeaderValue}
 use Rattle.header_codec.specs.Table.{BeginsWith, Head, header}
-use Rattle.keyring_trait.specs.Unlocking.{Unlocking}
+use Rattle.keyring_trait.specs.declared.manager_errors.ManagerError.TheVariants as managers
+use Rattle.keyring_trait.specs.Unlocking.{Unlocking, Refuses, Unlocks}
+use Rattle.message_format.specs.Judgement.{header_of, lock_fault}
+use Rattle.message_format.specs.Unlocking.{request_of}
 use Rattle.message_format.specs.declared.unlock_errors.UnlockError.{UnlockError}
 use Rattle.message_format.specs.declared.unlock_errors.UnlockError.TheVariants as locks
 use Rattle.header_input.specs.declared.errors.NoHeader.{NoHeader}
 use Rattle.header_input.specs.declared.errors.NoHeader.TheVariants as headers
 use Rattle.whole_input.specs.declared.pieces.End.TheVariants as ends
 use Rattle.whole_input.specs.Pieces.{most_piece}
-use Rattle.esdk_decrypt.specs.Decrypt.{AnswersTo, Asked, FailsTo}
+use Rattle.esdk_decrypt.specs.Decrypt.{AnswersTo, Asked}
 use Rattle.extract_core.specs.declared.errors.ExtractError.{ExtractError}
 use Rattle.extract_core.specs.declared.errors.ExtractError.TheVariants as errors
-use Rattle.extract_core.specs.Extracted.{ByteRange, extracted}
-use Rattle.extract_core.specs.Slots.{range_reach}
+use Rattle.extract_core.specs.Extracted.{ByteRange, OpenBody, body_behind, extracted, slot_count}
+use Rattle.extract_core.specs.Slots.{range_reach, slots_reach}
 
 -- the range that begins at this byte of the content and has so many
 abbrev pub range_of : ℕ → ℕ → ByteRange
@@ -37,108 +40,51 @@ range_of at count = record { at = at; count = count }
 abbrev pub OnFile : ShelfState → List ℕ → (List ℕ → Type 0) → Type 0
 OnFile shelf name so = (bytes : List ℕ) → Holds shelf.files name bytes → so bytes
 
--- ---- how it ends
-
--- The answer is the manager's to the header of these bytes; what is extracted then was written, so
--- many bytes, and no fault ends it.
-pub record WritesAll (asked : Asked) (range : ByteRange) (output put : SinkState) (written : ℕ)
-    (bytes : List ℕ) : Type 0 where
-  pub answer : Unlocking
-  pub answered : AnswersTo asked.manager asked.settings asked.given bytes answer
-  pub sound : (extracted bytes asked.settings answer range).fault ≡ None
-  pub gained : Appends output.written put.written
-      (extracted bytes asked.settings answer range).part
-  pub count : written ≡ length (extracted bytes asked.settings answer range).part
-
--- The answer is the manager's to the header of these bytes; what is extracted then was written, and
--- this fault ends it.
-pub record WritesBefore (asked : Asked) (range : ByteRange) (output put : SinkState)
-    (fault : Fault) (bytes : List ℕ) : Type 0 where
-  pub answer : Unlocking
-  pub answered : AnswersTo asked.manager asked.settings asked.given bytes answer
-  pub fault_is : (extracted bytes asked.settings answer range).fault ≡ Some fault
-  pub gained : Appends output.written put.written
-      (extracted bytes asked.settings answer range).part
-
--- The answer is the manager's to the header of these bytes, and a front of what is extracted then
--- was written.
-pub record WritesFront (asked : Asked) (range : ByteRange) (output put : SinkState)
-    (bytes : List ℕ) : Type 0 where
-  pub answer : Unlocking
-  pub answered : AnswersTo asked.manager asked.settings asked.given bytes answer
-  pub gained : AppendsFront output.written put.written
-      (extracted bytes asked.settings answer range).part
-
--- The shelf has the file; the range of its content was written, and that is so many bytes.
-pub record Extracts (asked : Asked) (range : ByteRange) (old : ShelfState) (name : List ℕ)
-    (output put : SinkState) (written : ℕ) : Type 0 where
-  pub there : is_missing old.files name ≡ false
-  pub writes : OnFile old name (WritesAll asked range output put written)
-
--- The shelf has the file, and its header, the answer or a slot of the range has this fault. What
--- stands before it in the range was written.
-pub record HasFault (asked : Asked) (range : ByteRange) (old : ShelfState) (name : List ℕ)
-    (output put : SinkState) (fault : Fault) : Type 0 where
-  pub there : is_missing old.files name ≡ false
-  pub writes : OnFile old name (WritesBefore asked range output put fault)
-
--- The shelf has the file, and the output failed at a front of the range.
-pub record SinkFails (asked : Asked) (range : ByteRange) (old : ShelfState) (name : List ℕ)
-    (output put : SinkState) : Type 0 where
-  pub there : is_missing old.files name ≡ false
-  pub rose : Rose output.faults put.faults
-  pub writes : OnFile old name (WritesFront asked range output put)
-
--- The shelf has the file, and the manager failed when it was asked about its header; nothing was
--- written.
-pub record ManagerFails (asked : Asked) (old : ShelfState) (name : List ℕ) (unwritten : Type 0)
-    : Type 0 where
-  pub there : is_missing old.files name ≡ false
-  pub failed : OnFile old name (FailsTo asked.manager asked.settings asked.given)
-  pub same : unwritten
-
--- nothing was written, or a front of the range
-abbrev pub WritesLess : Asked → ByteRange → ShelfState → List ℕ → SinkState → SinkState → Type 0
-    → Type 0
-WritesLess asked range old name output put unwritten =
-    unwritten ⊎ OnFile old name (WritesFront asked range output put)
-
--- Why a range isn't extracted, and what that left; `unwritten` says that the output is as before.
--- Want of memory is free.
-abbrev pub ExtractEnds : Asked → ByteRange → ShelfState → ShelfState → List ℕ → SinkState
-    → SinkState → Type 0 → ExtractError → Type 0
-ExtractEnds asked range old new name output put unwritten (errors.Fault fault) =
-    HasFault asked range old name output put fault
-ExtractEnds asked range old new name output put unwritten (errors.Outside outsides.ShelfFault) =
-    FailsToRead old new name × WritesLess asked range old name output put unwritten
-ExtractEnds asked range old new name output put unwritten (errors.Outside outsides.SinkFault) =
-    SinkFails asked range old name output put
-ExtractEnds asked range old new name output put unwritten (errors.Outside outsides.KeyringFault) =
-    ManagerFails asked old name unwritten
-ExtractEnds asked range old new name output put unwritten (errors.Outside outside) = ⊥
-ExtractEnds asked range old new name output put unwritten errors.Memory =
-    WritesLess asked range old name output put unwritten
-
 -- ---- how much is read
 
--- how many bytes are read of a file at the most: the header, up to a piece behind it, and the slots
--- that hold the range; up to a piece behind a fault of the header; and of a header that isn't whole
--- all there is
-abbrev pub file_reach : ByteRange → List ℕ → Reading Head → ℕ
-file_reach range bytes (Read parts body) =
-    body.at + most_piece + range_reach parts.content range body.left
-file_reach range bytes (Refused fault at) = at + most_piece
-file_reach range bytes Wanting = length bytes
+-- how many bytes are read for a header at the most: up to a piece behind it, or behind its fault;
+-- and of a header that isn't whole all there is
+abbrev pub header_reach : List ℕ → Reading Head → ℕ
+header_reach bytes (Read parts body) = body.at + most_piece
+header_reach bytes (Refused fault at) = at + most_piece
+header_reach bytes Wanting = length bytes
 
+abbrev pub most_header : Settings → List ℕ → ℕ
+most_header settings bytes = header_reach bytes (header settings (start bytes))
+
+-- how many are read behind it: those of the slots that the range names
+abbrev pub named_reach : Settings → ByteRange → Reading Head → ℕ
+named_reach settings range (Read parts body) =
+    slots_reach parts.content settings.max_unit range body.left (slot_count parts.content range)
+named_reach settings range (Refused fault at) = 0
+named_reach settings range Wanting = 0
+
+-- How many bytes are read of a file at the most, whatever the manager answers.
 abbrev pub most_read : Settings → ByteRange → List ℕ → ℕ
-most_read settings range bytes = file_reach range bytes (header settings (start bytes))
+most_read settings range bytes =
+    most_header settings bytes + named_reach settings range (header settings (start bytes))
 
--- This is so, unless memory ran out.
-abbrev pub UnlessMemory : {T : Type 0} → Result T ExtractError → Type 0 → Type 0
-UnlessMemory (Ok value) so = so
-UnlessMemory (Err (errors.Fault fault)) so = so
-UnlessMemory (Err (errors.Outside outside)) so = so
-UnlessMemory (Err errors.Memory) so = ⊤
+-- where the lock is sound, those of the slots that are taken
+abbrev pub lock_reach : ByteRange → OpenBody → Option Fault → ℕ
+lock_reach range b (Some fault) = 0
+lock_reach range b None = range_reach b range
+
+abbrev pub answer_reach : Settings → ByteRange → HeaderValue → Place → Unlocking → ℕ
+answer_reach settings range h body (Refuses fault) = 0
+answer_reach settings range h body (Unlocks whole only key) =
+    lock_reach range (body_behind settings h key body.left) (lock_fault h only key)
+
+abbrev pub taken_reach : List ℕ → Settings → Unlocking → ByteRange → Reading Head → ℕ
+taken_reach bytes settings answer range (Read parts body) =
+    answer_reach settings range (header_of bytes parts) body answer
+taken_reach bytes settings answer range (Refused fault at) = 0
+taken_reach bytes settings answer range Wanting = 0
+
+-- How many bytes are read of a file at the most, when the manager answers so to its header: those
+-- for the header, and of the slots only those that are taken.
+unfoldable pub most_taken : List ℕ → Settings → Unlocking → ByteRange → ℕ
+most_taken bytes settings answer range = most_header settings bytes
+    + taken_reach bytes settings answer range (header settings (start bytes))
 
 -- ---- the header
 
@@ -179,6 +125,100 @@ HasNoHeader settings old new name (errors.Outside outsides.ShelfFault) =
     FailsToRead old new name
 HasNoHeader settings old new name (errors.Outside outside) = ⊥
 HasNoHeader settings old new name errors.Memory = ⊤
+
+-- ---- how it ends
+
+-- The answer is the manager's to the header of these bytes; what is extracted then was written, so
+-- many bytes, and no fault ends it. No more was read than the header and the slots that are taken.
+pub record WritesAll (asked : Asked) (range : ByteRange) (old new : ShelfState)
+    (output put : SinkState) (written : ℕ) (bytes : List ℕ) : Type 0 where
+  pub answer : Unlocking
+  pub answered : AnswersTo asked.manager asked.settings asked.given bytes answer
+  pub sound : (extracted bytes asked.settings answer range).fault ≡ None
+  pub gained : Appends output.written put.written
+      (extracted bytes asked.settings answer range).part
+  pub count : written ≡ length (extracted bytes asked.settings answer range).part
+  pub read : new.given ≤ old.given + most_taken bytes asked.settings answer range
+
+-- The answer is the manager's to the header of these bytes; what is extracted then was written, and
+-- this fault ends it. No more was read than the header and the slots that are taken.
+pub record WritesBefore (asked : Asked) (range : ByteRange) (old new : ShelfState)
+    (output put : SinkState) (fault : Fault) (bytes : List ℕ) : Type 0 where
+  pub answer : Unlocking
+  pub answered : AnswersTo asked.manager asked.settings asked.given bytes answer
+  pub fault_is : (extracted bytes asked.settings answer range).fault ≡ Some fault
+  pub gained : Appends output.written put.written
+      (extracted bytes asked.settings answer range).part
+  pub read : new.given ≤ old.given + most_taken bytes asked.settings answer range
+
+-- The answer is the manager's to the header of these bytes, and a front of what is extracted then
+-- was written. No more was read than the header and the slots that are taken.
+pub record WritesFront (asked : Asked) (range : ByteRange) (old new : ShelfState)
+    (output put : SinkState) (bytes : List ℕ) : Type 0 where
+  pub answer : Unlocking
+  pub answered : AnswersTo asked.manager asked.settings asked.given bytes answer
+  pub gained : AppendsFront output.written put.written
+      (extracted bytes asked.settings answer range).part
+  pub read : new.given ≤ old.given + most_taken bytes asked.settings answer range
+
+-- The shelf has the file; the range of its content was written, and that is so many bytes.
+pub record Extracts (asked : Asked) (range : ByteRange) (old new : ShelfState) (name : List ℕ)
+    (output put : SinkState) (written : ℕ) : Type 0 where
+  pub there : is_missing old.files name ≡ false
+  pub writes : OnFile old name (WritesAll asked range old new output put written)
+
+-- The shelf has the file, and its header, the answer or a slot of the range has this fault. What
+-- stands before it in the range was written.
+pub record HasFault (asked : Asked) (range : ByteRange) (old new : ShelfState) (name : List ℕ)
+    (output put : SinkState) (fault : Fault) : Type 0 where
+  pub there : is_missing old.files name ≡ false
+  pub writes : OnFile old name (WritesBefore asked range old new output put fault)
+
+-- The shelf has the file, and the output failed at a front of the range.
+pub record SinkFails (asked : Asked) (range : ByteRange) (old new : ShelfState) (name : List ℕ)
+    (output put : SinkState) : Type 0 where
+  pub there : is_missing old.files name ≡ false
+  pub rose : Rose output.faults put.faults
+  pub writes : OnFile old name (WritesFront asked range old new output put)
+
+-- The file has a header, and the manager failed when it was asked about it: its count of faults
+-- rose. Nothing was written, and behind the header up to a piece was read.
+pub record ManagerFails (asked : Asked) (old new : ShelfState) (name : List ℕ) (unwritten : Type 0)
+    : Type 0 where
+  pub header : HeaderValue
+  pub has : HasHeader asked.settings old new name header
+  pub failed : asked.manager.finds_none (request_of asked.given header) managers.KeyringFault
+  pub same : unwritten
+
+-- Nothing was written, or a front of the range; where the shelf tells that it has no file of the
+-- name, nothing.
+pub record WritesLess (asked : Asked) (range : ByteRange) (old new : ShelfState) (name : List ℕ)
+    (output put : SinkState) (unwritten : Type 0) : Type 0 where
+  pub front : unwritten ⊎ OnFile old name (WritesFront asked range old new output put)
+  pub missing : is_missing old.files name ≡ true → unwritten
+
+-- Why a range isn't extracted, and what that left; `unwritten` says that the output is as before.
+-- Want of memory is free.
+abbrev pub ExtractEnds : Asked → ByteRange → ShelfState → ShelfState → List ℕ → SinkState
+    → SinkState → Type 0 → ExtractError → Type 0
+ExtractEnds asked range old new name output put unwritten (errors.Fault fault) =
+    HasFault asked range old new name output put fault
+ExtractEnds asked range old new name output put unwritten (errors.Outside outsides.ShelfFault) =
+    FailsToRead old new name × WritesLess asked range old new name output put unwritten
+ExtractEnds asked range old new name output put unwritten (errors.Outside outsides.SinkFault) =
+    SinkFails asked range old new name output put
+ExtractEnds asked range old new name output put unwritten (errors.Outside outsides.KeyringFault) =
+    ManagerFails asked old new name unwritten
+ExtractEnds asked range old new name output put unwritten (errors.Outside outside) = ⊥
+ExtractEnds asked range old new name output put unwritten errors.Memory =
+    WritesLess asked range old new name output put unwritten
+
+-- This is so, unless memory ran out.
+abbrev pub UnlessMemory : {T : Type 0} → Result T ExtractError → Type 0 → Type 0
+UnlessMemory (Ok value) so = so
+UnlessMemory (Err (errors.Fault fault)) so = so
+UnlessMemory (Err (errors.Outside outside)) so = so
+UnlessMemory (Err errors.Memory) so = ⊤
 
 -- ---- what errors of the calls below are called
 

@@ -1,6 +1,6 @@
 -- What is so while slots are read and opened one after another. Standard: AWS Encryption SDK
 -- Specification, message body.
-use Rattle.std.specs.Prelude.{◌≡◌, ℕ, ◌+◌, ◌-◌, ◌*◌, ◌^◌, ◌<◌, ◌≤◌, max, List, [], ◌++◌, length, drop, Bool, true, false, ◌==◌, if◌then◌else◌, Option, Some, None, ⊤}
+use Rattle.std.specs.Prelude.{◌≡◌, ℕ, ◌+◌, ◌-◌, ◌*◌, ◌^◌, ◌<◌, ◌≤◌, max, min, List, [], ◌++◌, length, drop, Bool, true, false, ◌==◌, if◌then◌else◌, Option, Some, None, ⊤}
 use Rattle.std.specs.Io.KnownBytes.{Appends}
 use Rattle.esdk_fields.specs.Counts.{Rose}
 use Rattle.esdk_fields.specs.declared.contents.Content.{Content}
@@ -16,6 +16,7 @@ use Rattle.esdk_base.specs.Streams.{FailsToRead, ShelfState, SinkState}
 use Rattle.frame_codec.specs.declared.kinds.UnitKind.{UnitKind}
 use Rattle.frame_codec.specs.declared.kinds.UnitKind.TheVariants.{Regular, Final}
 use Rattle.frame_codec.specs.declared.kinds.UnitKind.TheVariants as kinds
+use Rattle.frame_codec.specs.declared.unit_heads.Head.{Head}
 use Rattle.frame_codec.specs.declared.unit_heads.Head.TheVariants as heads
 use Rattle.frame_codec.specs.declared.unit_heads.UnitHead.{UnitHead}
 use Rattle.frame_codec.specs.InPlace.{unit_size}
@@ -28,7 +29,7 @@ use Rattle.extract_core.specs.declared.slots.Needs.TheVariants as needs
 use Rattle.extract_core.specs.declared.slots.Slots.{Slots}
 use Rattle.header_codec.specs.Header.{IsContent, frame_length}
 use Rattle.message_format.specs.declared.unlocking.Unlocked.{Unlocked}
-use Rattle.extract_core.specs.Extracted.{ByteRange, OpenBody, extracted_body, last_slot, slot_count, slot_read, slot_width, unit_fault}
+use Rattle.extract_core.specs.Extracted.{ByteRange, OpenBody, extracted_body, last_slot, slot_read, slot_width, slots_taken, unit_fault}
 
 -- ---- the body
 
@@ -57,7 +58,7 @@ pub record SameBody (old new : Slots) : Type 0 where
 -- ---- one unit
 
 -- what is known of the unit of this number that begins with these bytes
-abbrev pub known : Slots → ℕ → List ℕ → Rattle.frame_codec.specs.declared.unit_heads.Head.Head
+abbrev pub known : Slots → ℕ → List ℕ → Head
 known s want bytes = head_of s.content want s.max_unit bytes
 
 -- what is read of it
@@ -69,17 +70,23 @@ abbrev pub IsWithin : Slots → ℕ → List ℕ → Type 0
 IsWithin s want held = (head : UnitHead) → known s want held ≡ heads.Unit head
     → length held ≤ unit_size head
 
--- so many bytes of a unit may be asked for
-abbrev pub IsRoom : Content → ℕ → Type 0
-IsRoom Single end = end ≤ 2 ^ 37
-IsRoom (Framed frame) end = end ≤ frame + 40
+-- how many bytes are read for a unit in any case: a slot's width, and of a single block its head
+abbrev pub least_room : Content → ℕ
+least_room Single = 20
+least_room (Framed frame) = slot_width (Framed frame)
+
+-- how many are read at the most, by what is known of its head: behind a good one all of the unit
+abbrev pub head_room : Content → Head → ℕ
+head_room content (heads.NeedMore end) = least_room content
+head_room content (heads.Refused fault) = least_room content
+head_room content (heads.Unit head) = max (least_room content) (unit_size head)
 
 -- More bytes are needed, up to this end: the unit isn't whole, and with no more than these bytes
 -- none behind it is held.
 pub record NeedsBytes (s : Slots) (want end : ℕ) : Type 0 where
   pub more : length s.unit.held < end
   pub few : end ≤ 2 ^ 37
-  pub room : IsRoom s.content end
+  pub room : (more : List ℕ) → end ≤ head_room s.content (known s want (s.unit.held ++ more))
   pub wanting : unit_read s want s.unit.held ≡ Wanting
   pub within : (bytes : List ℕ) → length (s.unit.held ++ bytes) ≤ end
       → IsWithin s want (s.unit.held ++ bytes)
@@ -161,10 +168,17 @@ pub record IsSized (content : Content) (last : Bool) (out : List ℕ) : Type 0 w
   pub frame : (frame : ℕ) → content ≡ Framed frame → length out ≤ frame
   pub single : content ≡ Single → last ≡ true
 
--- how many bytes are read for one unit at the most
-abbrev pub unit_reach : Content → List ℕ → ℕ
-unit_reach Single bytes = length bytes
-unit_reach (Framed frame) bytes = frame + 40
+-- how many bytes are read for one unit at the most: for a frame 40 beside its content; for a single
+-- block what its head says, and no more than there is
+abbrev pub unit_reach : Content → Option ℕ → List ℕ → ℕ
+unit_reach Single max_unit bytes =
+    min (head_room Single (head_of Single 1 max_unit bytes)) (length bytes)
+unit_reach (Framed frame) max_unit bytes = frame + 40
+
+-- Where others follow the unit, no more than a slot's width was read for it.
+abbrev pub ReadsWidth : Content → ShelfState → ShelfState → List ℕ → Bool → Type 0
+ReadsWidth content before after name last = last ≡ false → (told : List ℕ)
+    → Holds before.files name told → after.given ≤ before.given + slot_width content
 
 -- The unit of this number stands at that offset of the file, and its content was opened.
 pub record TakesUnit (old new : Slots) (before after : ShelfState) (name : List ℕ) (at want : ℕ)
@@ -174,6 +188,7 @@ pub record TakesUnit (old new : Slots) (before after : ShelfState) (name : List 
   pub empty : new.unit.held ≡ []
   pub faults : after.faults ≡ before.faults
   pub sized : IsSized old.content last new.unit.out
+  pub width : ReadsWidth old.content before after name last
 
 -- Why no unit is opened: what is read there isn't a good unit, and has this fault; or a read
 -- failed. Want of memory is free.
@@ -193,7 +208,7 @@ pub record ReadsUnit (old new : Slots) (before after : ShelfState) (name : List 
   pub files : after.files ≡ before.files
   pub later : before.faults ≤ after.faults
   pub given : (told : List ℕ) → Holds before.files name told
-      → after.given ≤ before.given + unit_reach old.content (drop at told)
+      → after.given ≤ before.given + unit_reach old.content old.max_unit (drop at told)
 
 -- ---- the slots of a range
 
@@ -210,6 +225,7 @@ pub record TakesSlot (old new : Slots) (before after : ShelfState) (name : List 
   pub empty : new.unit.held ≡ []
   pub faults : after.faults ≡ before.faults
   pub sized : IsSized old.content last new.unit.out
+  pub width : ReadsWidth old.content before after name last
 
 -- what reading one slot leaves, however it ends
 pub record ReadsSlot (old new : Slots) (before after : ShelfState) (name : List ℕ) : Type 0 where
@@ -217,12 +233,17 @@ pub record ReadsSlot (old new : Slots) (before after : ShelfState) (name : List 
   pub files : after.files ≡ before.files
   pub later : before.faults ≤ after.faults
   pub given : (told : List ℕ) → Holds before.files name told
-      → after.given ≤ before.given + unit_reach old.content (drop old.begin told)
+      → after.given ≤ before.given + unit_reach old.content old.max_unit (drop old.begin told)
 
--- how many bytes are read of a body for a range at the most
-abbrev pub body_reach : Content → ByteRange → List ℕ → ℕ
-body_reach Single range bytes = length bytes
-body_reach (Framed frame) range bytes = slot_count (Framed frame) range * (frame + 40)
+-- how many bytes are read of a body for so many slots of a range at the most: the width of each but
+-- the last, and what that has; none, where the range is empty
+abbrev pub slots_reach : Content → Option ℕ → ByteRange → List ℕ → ℕ → ℕ
+slots_reach content max_unit range bytes slots = if range.count == 0 then 0
+    else (slots - 1) * slot_width content + unit_reach content max_unit bytes
+
+-- how many are read of it for the range at the most: those of the slots that are taken
+abbrev pub range_reach : OpenBody → ByteRange → ℕ
+range_reach b range = slots_reach b.content b.max_unit range b.bytes (slots_taken b range)
 
 -- The part of the range was written, and so many bytes are in it.
 pub record WritesRange (b : OpenBody) (range : ByteRange) (output put : SinkState) (written : ℕ)
@@ -240,11 +261,6 @@ pub record FindsFault (b : OpenBody) (range : ByteRange) (output put : SinkState
 -- where the shelf tells the file, this is so of the body in it
 abbrev pub OnBody : Slots → ShelfState → List ℕ → (OpenBody → Type 0) → Type 0
 OnBody s before name so = (told : List ℕ) → Holds before.files name told → so (body_in s told)
-
--- how many bytes are read of it for a range at the most; none where that is empty
-abbrev pub range_reach : Content → ByteRange → List ℕ → ℕ
-range_reach content range bytes =
-    if range.count == 0 then 0 else body_reach content range bytes
 
 -- The slots are those of the body that begins there behind a header that is unlocked; none is read.
 pub record AreSlotsOf (opened : Unlocked) (begin : ℕ) (max_unit : Option ℕ) (s : Slots)

@@ -4,7 +4,7 @@ ghost use Rattle.std.specs.Prelude.{◌≡◌, ◌+◌, ◌≤◌, ◌^◌, IfEr
 ghost use Rattle.esdk_decrypt.specs.Decrypt.{asked_from};
 ghost use Rattle.esdk_decrypt.specs.Underway.{BearsOnce};
 ghost use Rattle.keyring_trait.specs.Manager.{Went};
-ghost use Rattle.extract_core.specs.Extract.{ExtractEnds, Extracts, HasHeader, HasNoHeader, OnFile, UnlessMemory, body_begin, locked_as, most_read, range_of, unheaded_as};
+ghost use Rattle.extract_core.specs.Extract.{ExtractEnds, Extracts, HasHeader, HasNoHeader, OnFile, UnlessMemory, body_begin, locked_as, most_header, most_read, range_of, unheaded_as};
 
 use crate::errors::ExtractError;
 use crate::slots::Slots;
@@ -31,21 +31,26 @@ const IV_AND_TAG: usize = 28;
 /// The header is taken from the front of the file, within these limits, and unlocked: the materials
 /// manager is asked for the data key at the moment `now`, in seconds, and is told the pairs that
 /// the caller gives beside those that the header stores. Then the slots that hold the range are
-/// read, each at its own offset and opened where it lies; its part of the range is written before
-/// the next one is read. Slots before the range or behind it aren't read, and bytes behind the last
-/// slot taken aren't judged. With `count` 0 header and unlocking are judged, and no slot is read.
-/// Of a whole message a range that begins at the end of the content or behind it has no bytes;
-/// where it begins behind the slots of the message, that is M10, or rarely M18. It holds one unit
-/// and one piece of 65,536 bytes, and takes no memory for bytes that the file doesn't have.
+/// taken, each read at its own offset and opened where it lies; its part of the range is written
+/// before the next one is read. A final frame, a single block and a fault end this: no more of the
+/// file is read than the header, up to a piece of 65,536 bytes behind it, and the slots that are
+/// taken: of each its length and the 32 bytes beside it, and of the last 8 more; of a single block
+/// what its length says. Bytes behind the last slot taken aren't judged. With `count` 0 header and
+/// unlocking are judged, and no slot is read. Of a whole message a range that begins at the end of
+/// the content or behind it has no bytes; where it begins behind the slots of the message, that is
+/// M10, or rarely M18. It holds one unit and one piece, and takes no memory for bytes that the file
+/// doesn't have.
 ///
 /// - `Fault`: the first that applies of the header's, M10 where it isn't whole; the manager's, M11
 ///   to M15; the lock's, M16 and M17; and those of the slots, in order: M18 to M20 of a frame, M20,
 ///   M21 and M9 of a single block, M10 where bytes are missing or no slot has the number. What
 ///   stands before the fault in the range was written.
-/// - `Outside` with `ShelfFault`: a read failed, or the shelf has no file of the name; with
-///   `SinkFault`: the output failed; then a front of the range was written. With `KeyringFault`: a
-///   keyring failed when the manager was asked, and nothing was written.
-/// - `Memory`: memory ran out. A front of the range was written.
+/// - `Outside` with `ShelfFault`: a read failed, or the shelf has no file of the name, and then
+///   nothing was written; with `SinkFault`: the output failed. Else a front of the range was
+///   written. With `KeyringFault`: a keyring failed when the manager was asked about the file's
+///   header, so that its count of faults rose; nothing was written, and no slot was read.
+/// - `Memory`: memory ran out. A front of the range was written; nothing, where the shelf tells
+///   that it has no file of the name.
 pub fn extract<M: Manager, F: Shelf, O: Sink>(
     alloc: Global,
     manager: &mut M,
@@ -62,7 +67,7 @@ pub fn extract<M: Manager, F: Shelf, O: Sink>(
     requires count { count ≤ 2 ^ 62 }
     ensures done { IfOk result (Extracts
         (asked_from (M.state manager.old) (M.state manager.new) now settings given.now)
-        (range_of at count) (F.state shelf.old) name.now
+        (range_of at count) (F.state shelf.old) (F.state shelf.new) name.now
         (O.state output.old) (O.state output.new)) }
     ensures ends { IfErr result (ExtractEnds
         (asked_from (M.state manager.old) (M.state manager.new) now settings given.now)
@@ -105,7 +110,7 @@ fn header_in<F: Shelf>(
     ensures files { (F.state shelf.new).files ≡ (F.state shelf.old).files }
     ensures given { UnlessMemory result (OnFile (F.state shelf.old) name.now
         (λ bytes. (F.state shelf.new).given
-        ≤ (F.state shelf.old).given + most_read settings (range_of 0 0) bytes)) }
+        ≤ (F.state shelf.old).given + most_header settings bytes)) }
 {
     let mut file = FileSource::new(shelf, name, 0);
     match take_header(alloc, &mut file, settings) {

@@ -297,7 +297,7 @@ impl Slots {
 
     /// Writes the range of the message's content: of each slot that holds some of it the part that
     /// lies in it, before the next slot is read. Answers how many bytes were written. No slot is
-    /// read for an empty range.
+    /// read for an empty range, and none behind a last unit or one that isn't good.
     ///
     /// `Fault` of the first slot that isn't good, what stands before it being written; so M10 where
     /// the range begins behind the end of the bytes. `ShelfFault` or `SinkFault` where a call
@@ -325,8 +325,7 @@ impl Slots {
         ensures faults { IfOk result (λ _. (F.state shelf.new).faults
             ≡ (F.state shelf.old).faults) }
         ensures given { OnBody self.old (F.state shelf.old) name.now (λ b. (F.state shelf.new).given
-            ≤ (F.state shelf.old).given + range_reach self.old.content
-            (record { at = at; count = count }) b.bytes) }
+            ≤ (F.state shelf.old).given + range_reach b (record { at = at; count = count })) }
     {
         if count == 0 {
             return Ok(0);

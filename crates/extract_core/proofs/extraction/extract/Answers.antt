@@ -11,7 +11,7 @@ returns-in_err-header-clause-ends g c =
     let m = g.M.Manager.state c.args.manager.now in
     passed_on _ c.from_residual.result c.in_err-header.field-0.0 c.from_residual.ensures.1
     (without_header (asked_from m m c.args.now c.args.settings c.args.given.now) (range_of c.args.at c.args.count) (g.F.Shelf.state c.args.shelf.now) (g.F.Shelf.state c.header_in.new.shelf) c.args.name.now
-    (g.O.Sink.state c.args.output.now) _ c.in_err-header.field-0.0 refl c.in_err-header.ensures.none)
+    (g.O.Sink.state c.args.output.now) _ c.in_err-header.field-0.0 refl c.in_err-header.ensures.none c.in_err-header.ensures.given)
 
 pub returns-in_err-header-clause-given : goal.returns-in_err-header-clause-given
 returns-in_err-header-clause-given g c =
@@ -45,8 +45,8 @@ returns-in_err-slots-clause-bears g c = (Some c.in-Ok.ensures.unlocked.materials
 
 pub returns-clause-done : goal.returns-clause-done
 returns-clause-done g c =
-    extracts_all (g.M.Manager.state c.args.manager.now) (g.M.Manager.state c.unlock.new.manager) c.args.now c.args.settings c.args.given.now (g.F.Shelf.state c.args.shelf.now) (g.F.Shelf.state c.header_in.new.shelf) c.args.name.now c.in_ok-slots.slots
-    (range_of c.args.at c.args.count) (g.O.Sink.state c.args.output.now) (g.O.Sink.state c.write_range.new.output) c.write_range.result
+    extracts_all (g.M.Manager.state c.args.manager.now) (g.M.Manager.state c.unlock.new.manager) c.args.now c.args.settings c.args.given.now (g.F.Shelf.state c.args.shelf.now) (g.F.Shelf.state c.header_in.new.shelf) (g.F.Shelf.state c.write_range.new.shelf)
+    c.args.name.now c.in_ok-slots.slots (range_of c.args.at c.args.count) (g.O.Sink.state c.args.output.now) (g.O.Sink.state c.write_range.new.output) c.write_range.result
     (record {
       h = c.in_ok-header.header;
       opened = c.in-Ok.opened;
@@ -57,7 +57,7 @@ returns-clause-done g c =
       slots = c.in_ok-slots.ensures;
       at = c.body_begin-begin.ensures.value;
     })
-    c.write_range.ensures.done
+    c.write_range.ensures.done c.write_range.ensures.given
 
 pub returns-clause-ends : goal.returns-clause-ends
 returns-clause-ends g c =
@@ -73,7 +73,7 @@ returns-clause-ends g c =
       slots = c.in_ok-slots.ensures;
       at = c.body_begin-begin.ensures.value;
     })
-    c.write_range.ensures.fails
+    c.write_range.ensures.fails c.write_range.ensures.given
 
 pub returns-clause-given : goal.returns-clause-given
 returns-clause-given g c =

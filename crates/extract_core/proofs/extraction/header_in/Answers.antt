@@ -1,7 +1,7 @@
 use Rattle.std.proofs.Common.{◌∙◌, ◌+◌, ◌≤◌, Err, ap, subst, sym}
 use Rattle.esdk_base.specs.Streams.{ShelfState}
 use Rattle.header_codec.specs.Header.{HeaderValue}
-use Rattle.extract_core.specs.Extract.{HasHeader, HasNoHeader, OnFile, UnlessMemory, most_read, range_of}
+use Rattle.extract_core.specs.Extract.{HasHeader, HasNoHeader, OnFile, UnlessMemory, most_header}
 use Rattle.extract_core.proofs.Front.{front_made, given_came, header_came, none_came, none_given, shows_none}
 use Rattle.extract_core.proofs.extraction.header_in.Goals as goal
 
@@ -49,7 +49,7 @@ returns-in-Err-clause-given g c =
     let lasts = c.take_header.ensures.lasts in
     let front = front_made (g.F.Shelf.state made.shelf.now) old read made.name.now c.args.name.now now.name.now made.at made.faults now.at now.faults (ap (λ r. g.F.Shelf.state r.now) c.new-file.ensures.shelf)
     (ap (λ r. r.now) c.new-file.ensures.name) c.new-file.ensures.at c.new-file.ensures.faults (ap (λ r. r.now) lasts.1) lasts.2 c.take_header.ensures.taken in
-    subst (λ s. UnlessMemory {T = HeaderValue} (Err c.unheaded_as.result) (OnFile old c.args.name.now (λ bytes. (g.F.Shelf.state s).given ≤ old.given + most_read c.args.settings (range_of 0 0) bytes)))
+    subst (λ s. UnlessMemory {T = HeaderValue} (Err c.unheaded_as.result) (OnFile old c.args.name.now (λ bytes. (g.F.Shelf.state s).given ≤ old.given + most_header c.args.settings bytes)))
     (sym (c.shelf-1.given.1 (sym (lasts.0 ∙ ap (λ r. r.ghost_name) c.new-file.ensures.shelf))))
-    (subst (λ e. UnlessMemory {T = HeaderValue} (Err e) (OnFile old c.args.name.now (λ bytes. read.given ≤ old.given + most_read c.args.settings (range_of 0 0) bytes))) (sym c.unheaded_as.ensures)
+    (subst (λ e. UnlessMemory {T = HeaderValue} (Err e) (OnFile old c.args.name.now (λ bytes. read.given ≤ old.given + most_header c.args.settings bytes))) (sym c.unheaded_as.ensures)
     (none_given c.args.settings old read c.args.name.now _ _ now.at c.in-Err.error front c.in-Err.ensures.cause))

@@ -1,4 +1,4 @@
-use Rattle.extract_core.proofs.Taking.{closed_answer, opened_answer, reads_on, refused_head}
+use Rattle.extract_core.proofs.Taking.{closed_answer, opened_answer, reads_on, reads_so_far, refused_head, same_as_is}
 use Rattle.extract_core.proofs.slots.Slots.take_unit.Goals as goal
 
 pub returns-in-Refused-clause-fails : goal.returns-in-Refused-clause-fails
@@ -18,3 +18,11 @@ returns-in-Nothing-clause-unit g c =
 pub returns-in-Nothing-clause-fails : goal.returns-in-Nothing-clause-fails
 returns-in-Nothing-clause-fails g c =
     closed_answer c.args.self.now c.bytes.self _ _ c.args.name.now c.args.at c.args.want c.in-Nothing.head c.open.result c.bytes.invariant c.in-Nothing.ensures c.open.ensures.fault
+
+pub returns-in-Refused-clause-reads : goal.returns-in-Refused-clause-reads
+returns-in-Refused-clause-reads g c =
+    reads_so_far c.args.self.now c.bytes.self c.bytes.self _ _ c.args.name.now c.args.at c.args.want c.bytes.invariant (same_as_is c.bytes.self)
+
+pub returns-in-Nothing-clause-reads : goal.returns-in-Nothing-clause-reads
+returns-in-Nothing-clause-reads g c =
+    reads_so_far c.args.self.now c.bytes.self c.open.new.self _ _ c.args.name.now c.args.at c.args.want c.bytes.invariant c.open.ensures.same

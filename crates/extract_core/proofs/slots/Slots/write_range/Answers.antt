@@ -61,5 +61,5 @@ returns-clause-done g c =
 pub returns-clause-given : goal.returns-clause-given
 returns-clause-given g c =
     reach_all c.args.self.now c.loop-slot.self (record { at = c.args.at; count = c.args.count }) (g.F.Shelf.state c.args.shelf.now) (g.F.Shelf.state c.loop-slot.shelf) c.args.name.now
-    (g.O.Sink.state c.args.output.now) (g.O.Sink.state c.loop-slot.output) c.loop-slot.slot c.loop-slot.written c.loop-slot.invariant (omega (arith, c.if-count-eq0.false))
+    (g.O.Sink.state c.args.output.now) (g.O.Sink.state c.loop-slot.output) c.loop-slot.slot c.loop-slot.written c.loop-slot.invariant (omega (arith, c.if-count-eq0.false)) c.slots_of-first.ensures.some
     (omega (arith, c.loop-slot-test.false, c.slots_of-first.ensures.behind, c.slots_of-first.ensures.first))
