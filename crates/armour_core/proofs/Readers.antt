@@ -288,17 +288,18 @@ part_length out filled = length-take-le (length out - filled) (drop filled out) 
 pub record Filling (old : ArmourReader) (first : List ℕ) (now : ArmourReader) (out : List ℕ) (filled : ℕ) : Type 0 where
   pub outlook : (text : List ℕ) → reader_outlook old text ≡ with_front (take filled out) (reader_outlook now text)
   pub pieces : now.pieces ≡ old.pieces
+  pub goes : now.ending ≡ None → old.ending ≡ None
   pub size : length out ≡ length first
   pub room : filled ≤ length out
   pub some : 1 ≤ length (pending old) → (1 ≤ filled) ⊎ (1 ≤ length (pending now))
 
 pub filling_begins : (r : ArmourReader) (out : List ℕ) → Filling r out r out 0
-filling_begins r out = record { outlook = λ text. refl; pieces = refl; size = refl; room = omega arith; some = λ some. inr some }
+filling_begins r out = record { outlook = λ text. refl; pieces = refl; goes = λ on. on; size = refl; room = omega arith; some = λ some. inr some }
 
 pub filling_more : (old now new : ArmourReader) (first out part : List ℕ) (filled count k : ℕ) → Filling old first now out filled → filled + k ≤ length out → length part ≡ k
-    → ((text : List ℕ) → reader_outlook now text ≡ with_front (take count part) (reader_outlook new text)) → new.pieces ≡ now.pieces → count ≤ k → 1 ≤ count
+    → ((text : List ℕ) → reader_outlook now text ≡ with_front (take count part) (reader_outlook new text)) → new.pieces ≡ now.pieces → (new.ending ≡ None → now.ending ≡ None) → count ≤ k → 1 ≤ count
     → Filling old first new (put_mid filled k out part) (filled + count)
-filling_more old now new first out part filled count k f within size handed pieces few some =
+filling_more old now new first out part filled count k f within size handed pieces goes few some =
     let all : List ℕ = put_mid filled k out part in
     let rest : List ℕ = drop k (drop filled out) in
     let long : length all ≡ length out = omega (arith, length-append (take filled out) (part ++ rest), length-append part rest, length-take-le filled out f.room, size, f.room, within, length-drop k (drop filled out), length-drop filled out) in record {
@@ -306,6 +307,7 @@ filling_more old now new first out part filled count k f within size handed piec
           f.outlook text ∙ ap (with_front (take filled out)) (handed text) ∙ with_both (take filled out) (take count part) (reader_outlook new text)
           ∙ ap (λ (x : List ℕ). with_front x (reader_outlook new text)) (sym (filled_more filled k count out part f.room (omega (arith, few, size))));
       pieces = pieces ∙ f.pieces;
+      goes = λ on. f.goes (goes on);
       size = long ∙ f.size;
       room = omega (arith, long, few, within);
       some = λ _. inl (omega (arith, some));

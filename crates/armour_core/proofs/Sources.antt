@@ -1,16 +1,19 @@
 -- A source of armour text that is read.
-use Rattle.std.proofs.Common.{◌≡◌, ℕ, ◌+◌, ◌-◌, ◌*◌, ◌^◌, ◌<◌, ◌≤◌, min, List, [], ◌∷◌, ◌++◌, length, Option, Some, None, refl, sym, subst, ap, ◌∙◌, arith, inl, inr, if◌then◌else◌}
+use Rattle.std.proofs.Common.{◌≡◌, ◌⊎◌, ℕ, ◌+◌, ◌-◌, ◌*◌, ◌^◌, ◌<◌, ◌≤◌, min, List, [], ◌∷◌, ◌++◌, length, Option, Some, None, refl, sym, subst, ap, ◌∙◌, arith, inl, inr, if◌then◌else◌}
 use Rattle.std.specs.Prelude.{IfSome}
 use Rattle.std.specs.Option.{is_none, option_map}
 use Rattle.std.specs.Io.KnownBytes.{Consumes, IsAtEnd, Keeps}
 use Rattle.std.proofs.lemmas.Bool.{cases_lt}
-use Rattle.esdk_fields.specs.Counts.{Rose}
+use Rattle.std.proofs.lemmas.List.{append-nil, length-append}
+use Rattle.whole_input.specs.Pieces.{APieceBehind}
+use Rattle.whole_input.proofs.Coming.{came_none}
+use Rattle.esdk_fields.specs.Counts.{Rose, counted}
 use Rattle.esdk_base.specs.Streams.{SourceState}
 use Rattle.armour_core.specs.declared.reader.ArmourReader.{ArmourReader}
 use Rattle.armour_core.specs.declared.text_end.TextEnd.{TextEnd}
 use Rattle.armour_core.specs.Outlook.{Outlook, with_front}
-use Rattle.armour_core.specs.ReaderLaws.{reads_more}
-use Rattle.armour_core.specs.ReaderOutlook.{KeepsOutlook, Outlasts, ReadsOn, coming, pending, reader_outlook, room_of, told_end, turns_left}
+use Rattle.armour_core.specs.ReaderLaws.{gives_behind, reads_more, reads_none}
+use Rattle.armour_core.specs.ReaderOutlook.{Awaits, FailsAs, IsWanted, KeepsOutlook, Outlasts, ReadsOn, TakesPiece, coming, gives, pending, reader_outlook, room_of, told_end, turns_left}
 
 -- ---- what is kept
 
@@ -28,35 +31,111 @@ same_end : (left : Option (List ℕ)) (s t : ArmourReader) → ((text : List ℕ
 same_end None s t same = refl
 same_end (Some text) s t same = ap (λ (e : TextEnd). Some e) (sym (same text))
 
-pub reads_same : (before now : SourceState) (r s t : ArmourReader) → ReadsOn before now r s → ((text : List ℕ) → (reader_outlook s text).end ≡ (reader_outlook t text).end) → t.pieces ≡ s.pieces → ReadsOn before now r t
-reads_same before now r s t reads same pieces = record {
-  text = reads.text;
-  came = reads.came;
-  taken = ap (λ p. p.taken) pieces ∙ reads.taken;
-  end = λ end is. same_end now.left s t same ∙ reads.end end is;
+-- bytes that are handed on of the last piece
+pub hands_on : (input : SourceState) (s t : ArmourReader) (front : List ℕ) → ((text : List ℕ) → reader_outlook s text ≡ with_front front (reader_outlook t text)) → t.pieces ≡ s.pieces → (t.ending ≡ None → s.ending ≡ None)
+    → ReadsOn input input s t (length front)
+hands_on input s t front handed pieces goes = record {
+  text = [];
+  came = came_none input;
+  taken = omega (arith, ap (λ p. p.taken) pieces);
+  end = λ end is. same_end input.left s t (λ text. ap (λ (o : Outlook). o.end) (handed text)) ∙ is;
+  over = λ over. (refl, λ none. over (goes none));
+  all = λ more may. ap (λ (o : Outlook). length o.bytes) (handed more) ∙ length-append front (reader_outlook t more).bytes;
 }
 
-pub outlasts_same : (before now : SourceState) (r s t : ArmourReader) (k m : ℕ) → Outlasts before now r s k m → ((text : List ℕ) → (reader_outlook s text).end ≡ (reader_outlook t text).end) → t.pieces ≡ s.pieces → Outlasts before now r t k m
-outlasts_same before now r s t k m out same pieces = record { reads = reads_same before now r s t out.reads same pieces; later = out.later; kept = out.kept; failed = out.failed; stayed = out.stayed; same = out.same }
-
-pub outlasts_ok : (a b c : SourceState) (r s t : ArmourReader) (k m : ℕ) → Outlasts a b r s k m → ReadsOn b c s t → c.faults ≡ b.faults → Outlasts a c r t k m
-outlasts_ok a b c r s t k m out reads same = record {
-  reads = reads_more a b c r s t out.reads reads;
-  later = out.later;
-  kept = omega (arith, out.kept, same);
-  failed = λ more. let rose = out.failed more in omega (arith, rose, same);
-  stayed = λ still. out.stayed (omega (arith, still, same));
-  same = λ is few. same ∙ out.same is few;
+-- text of the last piece that is read
+pub awaits_same : (before now : SourceState) (r s t : ArmourReader) (k : ℕ) → k ≡ 0 → Awaits before now r s k → ((text : List ℕ) → reader_outlook t text ≡ reader_outlook s text) → t.pieces ≡ s.pieces → (t.ending ≡ None → s.ending ≡ None)
+    → Awaits before now r t k
+awaits_same before now r s t k zero awaits same pieces goes = record {
+  reads = record {
+    text = awaits.reads.text;
+    came = awaits.reads.came;
+    taken = ap (λ p. p.taken) pieces ∙ awaits.reads.taken;
+    end = λ end is. same_end now.left s t (λ text. ap (λ (o : Outlook). o.end) (sym (same text))) ∙ awaits.reads.end end is;
+    over = λ over. let o = awaits.reads.over over in (o.0, λ none. o.1 (goes none));
+    all = λ more may. let all = awaits.reads.all more (λ over. may (λ none. over (goes none))) in omega (arith, all, ap (λ (o : Outlook). length o.bytes) (same more));
+  };
+  last = awaits.last;
+  stuck = λ some. absurd (omega (arith, zero, some));
 }
 
-pub outlasts_err : (a b c : SourceState) (r s t : ArmourReader) (k m n : ℕ) → Outlasts a b r s k m → ReadsOn b c s t → Rose b.faults c.faults → m ≤ 2 ^ 64 - 1 → n ≡ min (m + 1) (2 ^ 64 - 1) → Outlasts a c r t k n
-outlasts_err a b c r s t k m n out reads rose few is = record {
-  reads = reads_more a b c r s t out.reads reads;
-  later = omega (arith, out.later, few, is);
-  kept = omega (arith, out.kept, rose);
-  failed = λ _. omega (arith, out.kept, rose);
-  stayed = λ still. absurd (omega (arith, still, out.kept, rose));
-  same = λ kept fewer. absurd (omega (arith, kept, fewer, is, out.later));
+pub awaits_none : (input : SourceState) (r : ArmourReader) (k : ℕ) → Awaits input input r r k
+unfolding reads_none
+awaits_none input r k = record { reads = reads_none input r; last = inl refl; stuck = λ some. (refl, refl) }
+
+-- a piece more, where none of the text before gave a byte
+pub awaits_more : (a b c : SourceState) (r s t : ArmourReader) (k : ℕ) → k ≡ 0 → Awaits a b r s k → gives s [] ≡ 0 → TakesPiece b c s t → Awaits a c r t k
+unfolding reads_more
+awaits_more a b c r s t k zero awaits none takes = record {
+  reads = reads_more a b c r s t 0 0 awaits.reads takes.reads;
+  last = inr (record {
+    before = awaits.reads.text;
+    piece = takes.reads.text;
+    all = refl;
+    few = takes.few;
+    was = let front = gives_behind a b r s 0 awaits.reads in omega (arith, front, none);
+  });
+  stuck = λ some. absurd (omega (arith, zero, some));
+}
+
+-- ---- failures
+
+pub fails_ok : (before now : SourceState) (k n : ℕ) → n ≡ k → now.faults ≡ before.faults → FailsAs before now k n
+fails_ok before now k n same stays = record { later = omega (arith, same); kept = omega (arith, stays); failed = λ none some. absurd (omega (arith, same, none, some)); same = λ _ _. stays }
+
+pub fails_err : (before now : SourceState) (k n : ℕ) → k < n → Rose before.faults now.faults → FailsAs before now k n
+fails_err before now k n more rose = record { later = omega (arith, more); kept = omega (arith, rose); failed = λ none some. rose; same = λ is few. absurd (omega (arith, is, more)) }
+
+pub fails_again : (input : SourceState) (k n : ℕ) → 1 ≤ k → k ≤ 2 ^ 64 - 1 → n ≡ min (k + 1) (2 ^ 64 - 1) → FailsAs input input k n
+fails_again input k n some few is = record { later = omega (arith, few, is); kept = omega arith; failed = λ none _. absurd (omega (arith, none, some)); same = λ _ _. refl }
+
+-- ---- a read
+
+-- one that gave so many bytes
+pub read_outlasts : (before now : SourceState) (r s t : ArmourReader) (front : List ℕ) (given gave k n : ℕ) → Awaits before now r s k → FailsAs before now k n → k ≡ 0 → n ≡ 0 → gave ≡ counted given (length front)
+    → ((text : List ℕ) → reader_outlook s text ≡ with_front front (reader_outlook t text)) → t.pieces ≡ s.pieces → (t.ending ≡ None → s.ending ≡ None) → (1 ≤ length front) ⊎ (gives s [] ≡ 0)
+    → Outlasts before now r t given gave k n
+unfolding reads_more hands_on
+read_outlasts before now r s t front given gave k n awaits fails zero none counts handed pieces goes some =
+    let on = hands_on now s t front handed pieces goes in
+    let whole = reads_more before now now r s t 0 (length front) awaits.reads on in
+    record {
+      handed = 0 + length front;
+      given = omega (arith, counts);
+      reads = whole;
+      wanted = by_some awaits.last some;
+      faults = fails;
+      stuck = λ more. absurd (omega (arith, zero, more));
+      spent = λ _ more. absurd (omega (arith, none, more));
+    }
+  where
+    text : List ℕ
+    text = awaits.reads.text ++ []
+
+    same : text ≡ awaits.reads.text
+    same = append-nil awaits.reads.text
+
+    by_some : (awaits.reads.text ≡ []) ⊎ APieceBehind (λ b. gives r b ≡ 0) awaits.reads.text → (1 ≤ length front) ⊎ (gives s [] ≡ 0) → (text ≡ []) ⊎ IsWanted r text (0 + length front)
+    by_some (inl empty) some = inl (same ∙ empty)
+    by_some (inr last) (inl some) = inr (inr (record { before = last.before; piece = last.piece; all = same ∙ last.all; few = last.few; was = omega (arith, last.was, some) }))
+    by_some (inr last) (inr over) =
+        let front_is = gives_behind before now r s 0 awaits.reads in
+        let rest = ap (λ (o : Outlook). length o.bytes) (handed []) ∙ length-append front (reader_outlook t []).bytes in
+        inr (inl (omega (arith, ap (gives r) same, front_is, over, rest)))
+
+-- one that failed
+pub failed_outlasts : (before now : SourceState) (r s : ArmourReader) (given gave k n : ℕ) → Awaits before now r s k → FailsAs before now k n → gave ≡ given → given ≤ 2 ^ 64 - 1 → (k ≡ 0 → gives s [] ≡ 0) → Outlasts before now r s given gave k n
+failed_outlasts before now r s given gave k n awaits fails same few spent = record {
+  handed = 0;
+  given = omega (arith, same, few);
+  reads = awaits.reads;
+  wanted = elim (cases_lt 0 k) [
+    | inl stuck ↦ inl (awaits.stuck (omega (arith, stuck))).1
+    | inr first ↦ (let front = gives_behind before now r s 0 awaits.reads in let none = spent (omega (arith, first)) in inr (inl (omega (arith, front, none))))
+  ];
+  faults = fails;
+  stuck = λ some. (awaits.stuck some).0;
+  spent = λ none _. spent none;
 }
 
 -- ---- the turns of the loop
@@ -74,7 +153,7 @@ turns_fall s next t goes pieces later falls =
         let two : turns_left t ≡ 2 * room_of t + 0 = ap (λ (e : Option TextEnd). 2 * room_of t + (if is_none e then 1 else 0)) is in
         omega (arith, one, two, later)
 
--- ---- a read
+-- ---- what a read leaves
 
 -- the bytes that are left
 abbrev pub left_of : SourceState → ArmourReader → Option (List ℕ)

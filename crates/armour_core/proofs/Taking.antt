@@ -1,12 +1,13 @@
 -- A reader that takes a piece more of its text.
-use Rattle.std.proofs.Common.{◌≡◌, ℕ, ◌+◌, ◌<◌, nat_le, true, false, List, [], ◌++◌, length, take, drop, Option, Some, None, Err, refl, sym, subst, ap, ◌∙◌, arith, inl, inr}
+use Rattle.std.proofs.Common.{◌≡◌, ◌⊎◌, ℕ, ◌+◌, ◌<◌, ◌≤◌, nat_le, true, false, List, [], ◌++◌, length, take, drop, Option, Some, None, Err, refl, sym, subst, ap, ◌∙◌, arith, inl, inr}
 use Rattle.std.specs.Option.{option_map}
 use Rattle.std.specs.Io.KnownBytes.{Consumes, IsAtEnd}
 use Rattle.std.proofs.lemmas.Bool.{cases_lt, le-leb, lt-leb}
-use Rattle.std.proofs.lemmas.List.{length-append}
+use Rattle.std.specs.Prelude.{IfSome}
+use Rattle.std.proofs.lemmas.List.{drop_all, length-append}
 use Rattle.std.proofs.Math.Seq.{drop-nil, take-append-add, take-nil}
 use Rattle.esdk_base.specs.Streams.{SourceState}
-use Rattle.whole_input.specs.Pieces.{NextPiece, PiecesValue, most_input}
+use Rattle.whole_input.specs.Pieces.{NextPiece, PiecesValue, most_input, most_piece}
 use Rattle.whole_input.specs.declared.pieces.End.{End}
 use Rattle.whole_input.specs.declared.pieces.End.TheVariants as ends
 use Rattle.whole_input.specs.Taken.{Came}
@@ -16,7 +17,7 @@ use Rattle.armour_core.specs.declared.text_end.TextEnd.{TextEnd}
 use Rattle.armour_core.specs.declared.text_end.TextEnd.TheVariants.{TooLong}
 use Rattle.armour_core.specs.declared.unarmour.Unarmour.{Unarmour}
 use Rattle.armour_core.specs.Outlook.{Outlook, open_of, read_out, with_front}
-use Rattle.armour_core.specs.ReaderOutlook.{IsSpent, KeepsOutlook, ReadsOn, coming, pending, reader_outlook, room_of, told_end, unread}
+use Rattle.armour_core.specs.ReaderOutlook.{IsOver, IsSpent, KeepsOutlook, TakesPiece, coming, gives, pending, reader_outlook, room_of, told_end, unread}
 use Rattle.armour_core.proofs.Readers.{no_more}
 
 -- ---- what a source tells
@@ -37,8 +38,13 @@ end_kept (Some text) before now r new is keeps end told =
     let k = keeps text is in
     ap (λ (x : Option (List ℕ)). option_map (λ t. (reader_outlook new t).end) x) k.1 ∙ ap (λ (l : Outlook). Some l.end) k.2 ∙ told
 
-pub reads_as : (before now : SourceState) (r new : ArmourReader) (text : List ℕ) → Came before now text → new.pieces.taken ≡ r.pieces.taken + length text → KeepsOutlook before now r new → ReadsOn before now r new
-reads_as before now r new text came taken keeps = record { text = text; came = came; taken = taken; end = end_kept before.left before now r new refl keeps }
+-- what a reader takes by one read that goes on, where the same is to come behind it
+pub takes_as : (before now : SourceState) (r new : ArmourReader) (text : List ℕ) → Came before now text → length text ≤ most_piece → new.pieces.taken ≡ r.pieces.taken + length text → KeepsOutlook before now r new
+    → r.ending ≡ None → ((more : List ℕ) → (IsOver new → more ≡ []) → gives r (text ++ more) ≡ gives new more) → TakesPiece before now r new
+takes_as before now r new text came few taken keeps goes all = record {
+  reads = record { text = text; came = came; taken = taken; end = end_kept before.left before now r new refl keeps; over = λ over. absurd (over goes); all = λ more may. omega (arith, all more may) };
+  few = few;
+}
 
 -- ---- a piece
 
@@ -53,6 +59,37 @@ unfolding reader_outlook
 spent_outlook r text spent goes =
     ap (λ (b : List ℕ). with_front b (coming r.ending r text)) spent.handed ∙ ap (λ (e : Option TextEnd). coming e r text) goes
     ∙ ap (λ (x : List ℕ). read_out (open_of r.unarmour) (x ++ take (room_of r) text) (nat_le (room_of r) (length text))) (spent.read goes)
+
+-- nothing is to come of no more text
+pub spent_gives : (r : ArmourReader) → IsSpent r → gives r [] ≡ 0
+unfolding reader_outlook
+spent_gives r spent = by_end r.ending refl
+  where
+    by_end : (e : Option TextEnd) → r.ending ≡ e → gives r [] ≡ 0
+    by_end None goes =
+        ap (λ (o : Outlook). length o.bytes)
+        (spent_outlook r [] spent goes ∙ ap (λ (x : List ℕ). read_out (open_of r.unarmour) x (nat_le (room_of r) 0)) (take-nil (room_of r)) ∙ no_more r.unarmour (nat_le (room_of r) 0))
+    by_end (Some end) is = ap (λ (b : List ℕ). length (b ++ (coming r.ending r []).bytes)) spent.handed ∙ ap (λ (e : Option TextEnd). length (coming e r []).bytes) is
+
+-- or of any text behind the end that was seen
+over_gives : (r : ArmourReader) (end : TextEnd) (text : List ℕ) → pending r ≡ [] → r.ending ≡ Some end → gives r text ≡ 0
+unfolding reader_outlook
+over_gives r end text none is = ap (λ (b : List ℕ). length (b ++ (coming r.ending r text).bytes)) none ∙ ap (λ (e : Option TextEnd). length (coming e r text).bytes) is
+
+pub ended_gives : (r : ArmourReader) (end : TextEnd) → r.ending ≡ Some end → gives r [] ≡ 0
+ended_gives r end is = over_gives r end [] (drop_all r.handed (take r.unarmour.given r.unarmour.bytes) (r.none (λ none. let e = sym is ∙ none in cc e))) is
+
+-- some bytes are to be handed on, or none are to come
+pub some_or_none : (r : ArmourReader) → (r.ending ≡ None → 1 ≤ length (pending r)) → (1 ≤ length (pending r)) ⊎ (gives r [] ≡ 0)
+some_or_none r some = by_end r.ending refl
+  where
+    by_end : (e : Option TextEnd) → r.ending ≡ e → (1 ≤ length (pending r)) ⊎ (gives r [] ≡ 0)
+    by_end None is = inl (some is)
+    by_end (Some end) is = inr (ended_gives r end is)
+
+pub when_ended : (r : ArmourReader) (e : Option TextEnd) → r.ending ≡ e → IfSome e (λ end. gives r [] ≡ 0)
+when_ended r None is = tt
+when_ended r (Some end) is = ended_gives r end is
 
 -- the same group is open, and the same bytes are handed on
 pub record SameReading (r new : ArmourReader) : Type 0 where
@@ -110,8 +147,18 @@ end_keeps before now r new spent goes ends few came end text told =
 pub came_still : (before now : SourceState) → now ≡ before → Came before now []
 came_still before now same = subst (λ (s : SourceState). Came before s []) (sym same) (came_none before)
 
-pub end_reads : (before now : SourceState) (r new : ArmourReader) → Came before now [] → new.pieces.taken ≡ r.pieces.taken → KeepsOutlook before now r new → ReadsOn before now r new
-end_reads before now r new came taken keeps = reads_as before now r new [] came (omega (arith, taken)) keeps
+pub piece_takes : (before now : SourceState) (r new : ArmourReader) (piece : List ℕ) → IsSpent r → r.ending ≡ None → SameReading r new → new.ending ≡ None → unread new ≡ piece → new.pieces.taken ≡ r.pieces.taken + length piece
+    → length piece ≤ most_piece → Came before now piece → TakesPiece before now r new
+piece_takes before now r new piece spent goes same on is taken few came =
+    takes_as before now r new piece came few taken (piece_keeps before now r new piece spent goes same on is taken came) goes
+    (λ more _. ap (λ (o : Outlook). length o.bytes) (sym (piece_taken r new piece (piece ++ more) more spent goes same on is taken refl)))
+
+-- the end was seen, or too much was taken
+over_takes : (before now : SourceState) (r new : ArmourReader) → IsSpent r → r.ending ≡ None → Came before now [] → new.pieces.taken ≡ r.pieces.taken → KeepsOutlook before now r new → IsOver new → gives new [] ≡ 0
+    → TakesPiece before now r new
+over_takes before now r new spent goes came taken keeps over none =
+    takes_as before now r new [] came (omega arith) (omega (arith, taken)) keeps goes
+    (λ more may. let empty : more ≡ [] = may over in ap (gives r) empty ∙ spent_gives r spent ∙ sym none ∙ ap (gives new) (sym empty))
 
 -- ---- by how a call for the next piece ended
 
@@ -124,8 +171,13 @@ module _ (before now : SourceState) (r new : ArmourReader) (end : End) where
       let n = failed_next new.pieces is next in
       piece_keeps before now r new [] spent goes same on (ap (drop new.at) none ∙ drop-nil new.at) (omega (arith, n.3)) n.0
 
-  pub failed_reads : end ≡ ends.Failed → NextPiece {T = Unit {0}} r.pieces.taken before now new.pieces (Err end) → new.pieces.piece ≡ [] → IsSpent r → r.ending ≡ None → SameReading r new → new.ending ≡ None → ReadsOn before now r new
-  failed_reads is next none spent goes same on = let n = failed_next new.pieces is next in end_reads before now r new n.0 n.3 (failed_keeps is next none spent goes same on)
+  pub failed_takes : end ≡ ends.Failed → NextPiece {T = Unit {0}} r.pieces.taken before now new.pieces (Err end) → new.pieces.piece ≡ [] → IsSpent r → r.ending ≡ None → SameReading r new → new.ending ≡ None → TakesPiece before now r new
+  failed_takes is next none spent goes same on =
+      let n = failed_next new.pieces is next in
+      piece_takes before now r new [] spent goes same on (ap (drop new.at) none ∙ drop-nil new.at) (omega (arith, n.3)) (omega arith) n.0
+
+  pub failed_spent : new.pieces.piece ≡ [] → IsSpent r → SameReading r new → gives new [] ≡ 0
+  failed_spent none spent same = spent_gives new (record { handed = none_pending r new same spent.handed; read = λ _. ap (drop new.at) none ∙ drop-nil new.at })
 
   long_next : (v : PiecesValue) → end ≡ ends.TooLong → NextPiece {T = Unit {0}} r.pieces.taken before now v (Err end) → NextPiece {T = Unit {0}} r.pieces.taken before now v (Err ends.TooLong)
   long_next v is next = subst (λ (e : End). NextPiece {T = Unit {0}} r.pieces.taken before now v (Err e)) is next
@@ -133,8 +185,11 @@ module _ (before now : SourceState) (r new : ArmourReader) (end : End) where
   pub long_keeps : end ≡ ends.TooLong → NextPiece {T = Unit {0}} r.pieces.taken before now new.pieces (Err end) → IsSpent r → r.ending ≡ None → SameReading r new → new.ending ≡ Some TooLong → KeepsOutlook before now r new
   long_keeps is next spent goes same ending = let n = long_next new.pieces is next in too_long_keeps before now r new spent goes same ending n.0 n.1
 
-  pub long_reads : end ≡ ends.TooLong → NextPiece {T = Unit {0}} r.pieces.taken before now new.pieces (Err end) → IsSpent r → r.ending ≡ None → SameReading r new → new.ending ≡ Some TooLong → ReadsOn before now r new
-  long_reads is next spent goes same ending = let n = long_next new.pieces is next in end_reads before now r new (came_still before now n.0) n.2 (long_keeps is next spent goes same ending)
+  pub long_takes : end ≡ ends.TooLong → NextPiece {T = Unit {0}} r.pieces.taken before now new.pieces (Err end) → IsSpent r → r.ending ≡ None → SameReading r new → new.ending ≡ Some TooLong → TakesPiece before now r new
+  long_takes is next spent goes same ending =
+      let n = long_next new.pieces is next in
+      over_takes before now r new spent goes (came_still before now n.0) n.2 (long_keeps is next spent goes same ending) (λ none. let e = sym ending ∙ none in cc e)
+      (over_gives new TooLong [] (none_pending r new same spent.handed) ending)
 
   seen_next : (v : PiecesValue) → end ≡ ends.Seen → NextPiece {T = Unit {0}} r.pieces.taken before now v (Err end) → NextPiece {T = Unit {0}} r.pieces.taken before now v (Err ends.Seen)
   seen_next v is next = subst (λ (e : End). NextPiece {T = Unit {0}} r.pieces.taken before now v (Err e)) is next
@@ -142,5 +197,9 @@ module _ (before now : SourceState) (r new : ArmourReader) (end : End) where
   pub seen_keeps : (v : PiecesValue) → end ≡ ends.Seen → NextPiece {T = Unit {0}} r.pieces.taken before now v (Err end) → IsSpent r → r.ending ≡ None → ((text : List ℕ) → reader_outlook new text ≡ read_out (open_of r.unarmour) [] false) → KeepsOutlook before now r new
   seen_keeps v is next spent goes ended = let n = seen_next v is next in end_keeps before now r new spent goes ended n.3 n.0 n.1
 
-  pub seen_reads : (v : PiecesValue) → end ≡ ends.Seen → NextPiece {T = Unit {0}} r.pieces.taken before now v (Err end) → new.pieces ≡ v → IsSpent r → r.ending ≡ None → ((text : List ℕ) → reader_outlook new text ≡ read_out (open_of r.unarmour) [] false) → ReadsOn before now r new
-  seen_reads v is next same spent goes ended = let n = seen_next v is next in end_reads before now r new n.0 (ap (λ (p : PiecesValue). p.taken) same ∙ n.4) (seen_keeps v is next spent goes ended)
+  pub seen_takes : (v : PiecesValue) → end ≡ ends.Seen → NextPiece {T = Unit {0}} r.pieces.taken before now v (Err end) → new.pieces ≡ v → IsSpent r → r.ending ≡ None → ((text : List ℕ) → reader_outlook new text ≡ read_out (open_of r.unarmour) [] false) → IsOver new
+      → TakesPiece before now r new
+  seen_takes v is next same spent goes ended over =
+      let n = seen_next v is next in
+      over_takes before now r new spent goes n.0 (ap (λ (p : PiecesValue). p.taken) same ∙ n.4) (seen_keeps v is next spent goes ended) over
+      (ap (λ (o : Outlook). length o.bytes) (ended [] ∙ no_more r.unarmour false))

@@ -1,9 +1,9 @@
 -- What is to come of a text that a reader takes from a source piece by piece.
-use Rattle.std.specs.Prelude.{◌≡◌, ℕ, ◌+◌, ◌-◌, ◌*◌, ◌^◌, ◌<◌, ◌≤◌, nat_le, is_none, if◌then◌else◌, List, [], ◌++◌, length, take, drop, Option, Some, None}
+use Rattle.std.specs.Prelude.{◌≡◌, ◌≢◌, ◌⊎◌, ℕ, ◌+◌, ◌-◌, ◌*◌, ◌^◌, ◌<◌, ◌≤◌, nat_le, is_none, if◌then◌else◌, List, [], ◌++◌, length, take, drop, Option, Some, None}
 use Rattle.std.specs.Option.{option_map}
-use Rattle.esdk_fields.specs.Counts.{Rose, RoseBy, Stayed}
+use Rattle.esdk_fields.specs.Counts.{Rose, RoseBy, counted}
 use Rattle.esdk_base.specs.Streams.{SourceState}
-use Rattle.whole_input.specs.Pieces.{most_input}
+use Rattle.whole_input.specs.Pieces.{APieceBehind, most_input, most_piece}
 use Rattle.whole_input.specs.Taken.{Came}
 use Rattle.armour_core.specs.declared.reader.ArmourReader.{ArmourReader}
 use Rattle.armour_core.specs.declared.text_end.TextEnd.{TextEnd}
@@ -45,24 +45,66 @@ KeepsOutlook before now old new = (text : List ℕ) → before.left ≡ Some tex
 abbrev pub told_end : SourceState → ArmourReader → Option TextEnd
 told_end input r = option_map (λ text. (reader_outlook r text).end) input.left
 
--- The reader took more of the same text.
-pub record ReadsOn (before now : SourceState) (old new : ArmourReader) : Type 0 where
+-- ---- what is taken
+
+-- how many bytes are to come, where this text follows the last piece and then ends
+abbrev pub gives : ArmourReader → List ℕ → ℕ
+gives r text = length (reader_outlook r text).bytes
+
+-- it was seen how the text ends
+abbrev pub IsOver : ArmourReader → Type 0
+IsOver r = r.ending ≢ None
+
+-- The reader took more of the same text, and handed so many bytes on. Behind the end that it saw it
+-- takes none.
+pub record ReadsOn (before now : SourceState) (old new : ArmourReader) (handed : ℕ) : Type 0 where
   pub text : List ℕ
   pub came : Came before now text
   pub taken : new.pieces.taken ≡ old.pieces.taken + length text
   pub end : (end : TextEnd) → told_end before old ≡ Some end → told_end now new ≡ Some end
+  pub over : IsOver old → (text ≡ []) × IsOver new
+  pub all : (more : List ℕ) → (IsOver new → more ≡ [])
+      → gives old (text ++ more) ≡ handed + gives new more
+
+-- By one read it took a piece at the most, and handed nothing on.
+pub record TakesPiece (before now : SourceState) (old new : ArmourReader) : Type 0 where
+  pub reads : ReadsOn before now old new 0
+  pub few : length reads.text ≤ most_piece
+
+-- It took text until some bytes came, and handed none on: what stands before the last piece gives
+-- none. Once a read failed, it takes nothing.
+pub record Awaits (before now : SourceState) (old new : ArmourReader) (old_faults : ℕ) : Type 0 where
+  pub reads : ReadsOn before now old new 0
+  pub last : (reads.text ≡ []) ⊎ APieceBehind (λ front. gives old front ≡ 0) reads.text
+  pub stuck : 1 ≤ old_faults → (new ≡ old) × (reads.text ≡ [])
+
+-- All bytes that the text gives were handed on, so many, or its last piece was read for a byte that
+-- was handed on.
+abbrev pub IsWanted : (old : ArmourReader) → (text : List ℕ) → (handed : ℕ) → Type 0
+IsWanted old text handed = (gives old text ≡ handed)
+    ⊎ APieceBehind (λ front. gives old front < handed) text
 
 -- how many turns a loop has at the most that takes text: two for each byte, and one for the end
 abbrev pub turns_left : ArmourReader → ℕ
 turns_left r = 2 * room_of r + (if is_none r.ending then 1 else 0)
 
--- Since the first moment more of the same text was taken. A read of it failed where one of this
--- source failed, and only there; at 2^64 - 1 failures this source counts no more of them.
-pub record Outlasts (before now : SourceState) (old new : ArmourReader)
-    (old_faults new_faults : ℕ) : Type 0 where
-  pub reads : ReadsOn before now old new
+-- A read of the text failed where one of this source failed, and no read had failed before, and
+-- only there; at 2^64 - 1 failures this source counts no more of them.
+pub record FailsAs (before now : SourceState) (old_faults new_faults : ℕ) : Type 0 where
   pub later : old_faults ≤ new_faults
   pub kept : RoseBy 0 before.faults now.faults
-  pub failed : old_faults < new_faults → Rose before.faults now.faults
-  pub stayed : Stayed before.faults now.faults → new_faults ≡ old_faults
+  pub failed : old_faults ≡ 0 → 1 ≤ new_faults → Rose before.faults now.faults
   pub same : new_faults ≡ old_faults → new_faults < 2 ^ 64 - 1 → now.faults ≡ before.faults
+
+-- Since the first moment more of the same text was taken, and no more than the bytes that were
+-- handed on called for. Once a read failed, nothing more is taken, and all bytes that the text gives
+-- were handed on.
+pub record Outlasts (before now : SourceState) (old new : ArmourReader)
+    (old_given new_given old_faults new_faults : ℕ) : Type 0 where
+  pub handed : ℕ
+  pub given : new_given ≡ counted old_given handed
+  pub reads : ReadsOn before now old new handed
+  pub wanted : (reads.text ≡ []) ⊎ IsWanted old reads.text handed
+  pub faults : FailsAs before now old_faults new_faults
+  pub stuck : 1 ≤ old_faults → new ≡ old
+  pub spent : old_faults ≡ 0 → 1 ≤ new_faults → gives new [] ≡ 0

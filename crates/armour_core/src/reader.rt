@@ -27,13 +27,14 @@ pub(crate) struct ArmourReader {
     ghost within: { at ≤ length pieces.piece },
     ghost few: { handed ≤ length (take unarmour.given unarmour.bytes) },
     ghost goes: { ending ≡ None → unarmour.stopped ≡ false },
+    ghost none: { ending ≢ None → length (take unarmour.given unarmour.bytes) ≤ handed },
     ghost most: { pieces.taken ≤ most_input },
     ghost long: { ending ≡ Some TooLong → pieces.taken ≡ most_input },
 }
 
 impl ArmourReader {
     ghost use Rattle.armour_core.specs.Outlook.{open_of, read_out, text_outlook, with_front};
-    ghost use Rattle.armour_core.specs.ReaderOutlook.{IsSpent, KeepsOutlook, ReadsOn, pending, reader_outlook};
+    ghost use Rattle.armour_core.specs.ReaderOutlook.{IsSpent, KeepsOutlook, TakesPiece, gives, pending, reader_outlook};
 
     /// Nothing is taken yet through these pieces.
     pub(crate) fn new(pieces: Pieces) -> ArmourReader
@@ -120,6 +121,7 @@ impl ArmourReader {
         ensures outlook { (text : List ℕ) → reader_outlook self.old text
             ≡ with_front (take result out.new) (reader_outlook self.new text) }
         ensures pieces { self.new.pieces ≡ self.old.pieces }
+        ensures ending { self.new.ending ≡ self.old.ending }
         ensures room { result ≤ length out.old }
         ensures some { 1 ≤ length (pending self.old) → 1 ≤ length out.old → 1 ≤ result }
     {
@@ -135,6 +137,7 @@ impl ArmourReader {
         ensures outlook { (text : List ℕ) → reader_outlook self.new text
             ≡ reader_outlook self.old text }
         ensures pieces { self.new.pieces ≡ self.old.pieces }
+        ensures ending { self.new.ending ≡ self.old.ending }
         ensures later { self.old.at ≤ self.new.at }
     {
         while self.at < self.pieces.piece().len() {
@@ -163,6 +166,7 @@ impl ArmourReader {
         ensures outlook { (text : List ℕ) → reader_outlook self.old text
             ≡ with_front (take result out.new) (reader_outlook self.new text) }
         ensures pieces { self.new.pieces ≡ self.old.pieces }
+        ensures ending { self.new.ending ≡ self.old.ending }
         ensures room { result ≤ length out.old }
         ensures none { result ≡ 0 → self.new ≡ self.old }
     {
@@ -186,6 +190,7 @@ impl ArmourReader {
         ensures outlook { (text : List ℕ) → reader_outlook self.old text
             ≡ with_front (take result out.new) (reader_outlook self.new text) }
         ensures pieces { self.new.pieces ≡ self.old.pieces }
+        ensures goes { self.new.ending ≡ None → self.old.ending ≡ None }
         ensures room { result ≤ length out.old }
         ensures some { 1 ≤ length (pending self.old) → 1 ≤ length out.old → 1 ≤ result }
     {
@@ -204,6 +209,7 @@ impl ArmourReader {
         ensures outlook { (text : List ℕ) → reader_outlook self.old text
             ≡ with_front (take result out.new) (reader_outlook self.new text) }
         ensures pieces { self.new.pieces ≡ self.old.pieces }
+        ensures goes { self.new.ending ≡ None → self.old.ending ≡ None }
         ensures room { result ≤ length out.old }
         ensures some { 1 ≤ length (pending self.old) → 1 ≤ length out.old → 1 ≤ result }
     {
@@ -234,11 +240,13 @@ impl ArmourReader {
     }
 
     /// Takes the next piece of the text from the source, by one read, or sees how the text ends.
+    /// After a read that failed no bytes are to be handed on.
     pub(crate) fn take_text<S: Source>(&mut self, input: &mut S) -> Result<(), Failed>
         requires spent { IsSpent self.old }
         requires goes { self.old.ending ≡ None }
         ensures outlook { KeepsOutlook (S.state input.old) (S.state input.new) self.old self.new }
-        ensures reads { ReadsOn (S.state input.old) (S.state input.new) self.old self.new }
+        ensures takes { TakesPiece (S.state input.old) (S.state input.new) self.old self.new }
+        ensures spent { OnErr result (gives self.new [] ≡ 0) }
         ensures same { OnOk result ((S.state input.new).faults ≡ (S.state input.old).faults) }
         ensures failed { OnErr result (Rose (S.state input.old).faults (S.state input.new).faults) }
         ensures falls { OnOk result (self.new.ending ≡ None

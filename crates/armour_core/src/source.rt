@@ -1,11 +1,11 @@
 //! A source of armour text as a source of the bytes that it gives.
 
-ghost use Rattle.std.specs.Prelude.{◌≡◌, ◌-◌, ◌^◌, ◌≤◌, List, [], ℕ, None, Some, IfOk, IfSome, OnOk, length};
+ghost use Rattle.std.specs.Prelude.{◌≡◌, ◌-◌, ◌^◌, ◌≤◌, List, [], ℕ, None, Some, IfOk, IfSome, OnErr, OnOk, length};
 ghost use Rattle.std.specs.Option.{option_map};
 ghost use Rattle.armour_core.specs.declared.text_end.TextEnd.{TextEnd};
 ghost use Rattle.armour_core.specs.declared.text_end.TextEnd.TheVariants.{TooLong};
 ghost use Rattle.whole_input.specs.Pieces.{most_input};
-ghost use Rattle.esdk_fields.specs.Counts.{HasCause};
+ghost use Rattle.esdk_fields.specs.Counts.{HasCause, Rose};
 ghost use Rattle.std.proofs.Common.{◌∙◌, refl};
 
 use crate::reader::ArmourReader;
@@ -19,7 +19,8 @@ use whole_input::Pieces;
 /// is bad, where the text ends, and behind 2^62 bytes of text; `ending` says which of these it was.
 ///
 /// The source tells its bytes where the text's source tells. A read fails where one of the text
-/// does, and each failure is counted here.
+/// does, and from then on each read fails, and no more of the text is taken: all bytes that it gave
+/// so far were handed on then. Each failure is counted here.
 #[derive(Drop)]
 pub struct UnarmouredSource<'a, S> {
     text: &'a mut S,
@@ -32,7 +33,7 @@ pub struct UnarmouredSource<'a, S> {
 
 impl<'a, S: Source> UnarmouredSource<'a, S> {
     ghost use Rattle.armour_core.specs.Outlook.{text_outlook};
-    ghost use Rattle.armour_core.specs.ReaderOutlook.{KeepsOutlook, Outlasts, pending, reader_outlook, told_end};
+    ghost use Rattle.armour_core.specs.ReaderOutlook.{Awaits, FailsAs, KeepsOutlook, gives, pending, reader_outlook, told_end};
 
     /// The bytes that this text gives. Its buffer of 65,536 bytes is taken now, and nothing is read
     /// yet. Fails only where memory runs out.
@@ -41,6 +42,7 @@ impl<'a, S: Source> UnarmouredSource<'a, S> {
         ensures outlook { IfOk result (λ s. (bytes : List ℕ)
             → reader_outlook s.reader bytes ≡ text_outlook bytes) }
         ensures none { IfOk result (λ s. s.reader.pieces.taken ≡ 0) }
+        ensures given { IfOk result (λ s. s.given ≡ 0) }
         ensures faults { IfOk result (λ s. s.faults ≡ 0) }
     {
         let pieces = Pieces::new(alloc)?;
@@ -55,6 +57,7 @@ impl<'a, S: Source> UnarmouredSource<'a, S> {
         ensures outlook { (bytes : List ℕ)
             → reader_outlook result.reader bytes ≡ text_outlook bytes }
         ensures none { result.reader.pieces.taken ≡ 0 }
+        ensures given { result.given ≡ 0 }
         ensures faults { result.faults ≡ 0 }
     {
         UnarmouredSource {
@@ -74,43 +77,80 @@ impl<'a, S: Source> UnarmouredSource<'a, S> {
         self.text
     }
 
-    /// How the text ends, once that was seen. Where it is `TooLong`, 2^62 bytes of it were taken.
+    /// How the text ends, once that was seen; all bytes that it gives were handed on then. Where it
+    /// is `TooLong`, 2^62 bytes of it were taken.
     pub fn ending(&self) -> Option<TextEnd>
         ensures ending { result ≡ self.now.reader.ending }
         ensures told { (told : TextEnd) → told_end (S.state self.now.text.now) self.now.reader
             ≡ Some told → IfSome result (λ end. end ≡ told) }
         ensures long { result ≡ Some TooLong → self.now.reader.pieces.taken ≡ most_input }
+        ensures over { IfSome result (λ end. gives self.now.reader [] ≡ 0) }
     {
         self.reader.ending()
     }
 
-    /// Takes text until some bytes come or it is seen how the text ends.
+    /// Takes text until some bytes come or it is seen how the text ends. Fails where a read of the
+    /// text fails, and where one did before; then it takes nothing.
     pub fn await_some(&mut self) -> Result<(), Failed>
         ensures same { self.new.text.ghost_name ≡ self.old.text.ghost_name }
         ensures outlook { KeepsOutlook (S.state self.old.text.now) (S.state self.new.text.now)
             self.old.reader self.new.reader }
-        ensures outlasts { Outlasts (S.state self.old.text.now) (S.state self.new.text.now)
-            self.old.reader self.new.reader self.old.faults self.new.faults }
+        ensures awaits { Awaits (S.state self.old.text.now) (S.state self.new.text.now)
+            self.old.reader self.new.reader self.old.faults }
+        ensures fails { FailsAs (S.state self.old.text.now) (S.state self.new.text.now)
+            self.old.faults self.new.faults }
+        ensures lasts { S.lasts self.old.text.now self.new.text.now }
+        ensures whole { OnOk result (self.old.faults ≡ 0) }
+        ensures some { OnOk result (self.new.reader.ending ≡ None
+            → 1 ≤ length (pending self.new.reader)) }
+        ensures spent { OnErr result (self.old.faults ≡ 0 → gives self.new.reader [] ≡ 0) }
+        ensures given { self.new.given ≡ self.old.given }
+        ensures cause { HasCause self.old.faults self.new.faults result }
+    {
+        if self.faults > 0 {
+            self.faults = self.faults.saturating_add(1);
+            return Err(Failed);
+        }
+        match self.take_some() {
+            Ok(()) => Ok(()),
+            Err(failed) => {
+                self.faults = 1;
+                Err(failed)
+            }
+        }
+    }
+
+    /// Takes text until some bytes come or it is seen how the text ends, and counts no failure.
+    fn take_some(&mut self) -> Result<(), Failed>
+        requires whole { self.old.faults ≡ 0 }
+        ensures same { self.new.text.ghost_name ≡ self.old.text.ghost_name }
+        ensures outlook { KeepsOutlook (S.state self.old.text.now) (S.state self.new.text.now)
+            self.old.reader self.new.reader }
+        ensures awaits { Awaits (S.state self.old.text.now) (S.state self.new.text.now)
+            self.old.reader self.new.reader self.old.faults }
         ensures lasts { S.lasts self.old.text.now self.new.text.now }
         ensures some { OnOk result (self.new.reader.ending ≡ None
             → 1 ≤ length (pending self.new.reader)) }
+        ensures stays { OnOk result
+            ((S.state self.new.text.now).faults ≡ (S.state self.old.text.now).faults) }
+        ensures fails { OnErr result
+            (Rose (S.state self.old.text.now).faults (S.state self.new.text.now).faults) }
+        ensures spent { OnErr result (gives self.new.reader [] ≡ 0) }
         ensures given { self.new.given ≡ self.old.given }
-        ensures cause { HasCause self.old.faults self.new.faults result }
+        ensures faults { self.new.faults ≡ self.old.faults }
     {
         while self.reader.wants_text() {
             match self.reader.take_text(self.text) {
                 Ok(()) => {}
-                Err(failed) => {
-                    self.faults = self.faults.saturating_add(1);
-                    return Err(failed);
-                }
+                Err(failed) => return Err(failed),
             }
         }
         Ok(())
     }
 }
 
-/// Between two moments it is the same text, of which more was taken.
+/// Between two moments it is the same text, of which more was taken: a last piece of it only for a
+/// byte that was handed on, or since all bytes that the text gave were.
 impl<'a, S: Source> Source for UnarmouredSource<'a, S> {
     ghost use Rattle.armour_core.specs.ReaderOutlook.{Outlasts, reader_outlook};
     ghost use Rattle.armour_core.specs.ReaderLaws.{outlasts_more, outlasts_none};
@@ -124,7 +164,7 @@ impl<'a, S: Source> Source for UnarmouredSource<'a, S> {
     ghost lasts = { λ old new. (new.text.ghost_name ≡ old.text.ghost_name)
         × S.lasts old.text.now new.text.now
         × Outlasts (S.state old.text.now) (S.state new.text.now) old.reader new.reader
-        old.faults new.faults };
+        old.given new.given old.faults new.faults };
 
     fn read(&mut self, out: &mut [u8]) -> Result<usize, Failed> {
         if out.is_empty() {
@@ -142,13 +182,14 @@ impl<'a, S: Source> Source for UnarmouredSource<'a, S> {
     ghost lasts_none = { λ s. (
       refl,
       S.lasts_none s.text.now,
-      outlasts_none (S.state s.text.now) s.reader s.faults,
+      outlasts_none (S.state s.text.now) s.reader s.given s.faults s.few,
     ) };
 
     ghost lasts_more = { λ r s t first second. (
       second.0 ∙ first.0,
       S.lasts_more r.text.now s.text.now t.text.now first.1 second.1,
       outlasts_more (S.state r.text.now) (S.state s.text.now) (S.state t.text.now)
-          r.reader s.reader t.reader r.faults s.faults t.faults first.2 second.2,
+          r.reader s.reader t.reader r.given s.given t.given r.faults s.faults t.faults
+          first.2 second.2,
     ) };
 }

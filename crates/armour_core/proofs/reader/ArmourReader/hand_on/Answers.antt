@@ -14,6 +14,7 @@ invariant_of-self c =
       within = c.args.self.now.within;
       few = omega (arith, out, rest, length-drop c.args.self.now.handed c.out.result.now, c.min-count.ensures, c.args.self.now.few);
       goes = c.args.self.now.goes;
+      none = λ over. let all = c.args.self.now.none over in omega (arith, all);
       most = c.args.self.now.most;
       long = c.args.self.now.long;
     }

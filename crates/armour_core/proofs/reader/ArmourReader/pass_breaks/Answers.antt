@@ -11,5 +11,6 @@ loop-self-preserved c =
     ap (λ p. is_character (slice_index p r.at)) (sym c.piece-in-loop-self.ensures) ∙ sym c.is_character.ensures ∙ c.if-is_character.false in record {
       outlook = λ text. break_passed r _ text within passed refl refl refl refl refl ∙ c.loop-self.invariant.outlook text;
       pieces = c.loop-self.invariant.pieces;
+      ending = c.loop-self.invariant.ending;
       later = omega (arith, c.loop-self.invariant.later);
     }

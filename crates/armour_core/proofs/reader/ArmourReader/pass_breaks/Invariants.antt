@@ -6,6 +6,7 @@ abbrev pub invariant-loop-self : goal.invariant-loop-self
 invariant-loop-self l = record {
   outlook : (text : List ℕ) → reader_outlook l.self text ≡ reader_outlook l.fn.self text;
   pieces : l.self.pieces ≡ l.fn.self.pieces;
+  ending : l.self.ending ≡ l.fn.self.ending;
   later : l.fn.self.at ≤ l.self.at;
 }
 

@@ -10,6 +10,7 @@ invariant_of-self c =
       within = omega (arith, c.in-Ok.ensures.within, ap length slice, length-drop c.args.self.now.at c.args.self.now.pieces.piece, c.requires.some);
       few = omega arith;
       goes = λ _. goes_on c.args.self.now.unarmour c.step.new.self (slice_of c.piece.result.now c.args.self.now.at) c.in-Ok.used (c.args.self.now.goes c.requires.goes) (λ v at. c.in-Ok.ensures.answer v at) (λ v at. c.step.ensures.reads v at);
+      none = λ over. absurd (over c.requires.goes);
       most = c.args.self.now.most;
       long = c.args.self.now.long;
     }
@@ -28,3 +29,7 @@ returns-in-Err-clause-outlook c =
     (λ v at. c.in-Err.ensures.answer v at) c.bad_group.ensures
     (nothing_there c.args.self.now.unarmour c.step.new.self (slice_of c.piece.result.now c.args.self.now.at) c.in-Err.error (c.args.self.now.goes c.requires.goes) (λ v at. c.in-Err.ensures.answer v at) (λ v at. c.step.ensures.reads v at))
     refl refl
+
+pub invariant_of-self-in-Err-clause-none : goal.invariant_of-self-in-Err-clause-none
+invariant_of-self-in-Err-clause-none c = λ _.
+    omega (arith, ap length (nothing_there c.args.self.now.unarmour c.step.new.self (slice_of c.piece.result.now c.args.self.now.at) c.in-Err.error (c.args.self.now.goes c.requires.goes) (λ v at. c.in-Err.ensures.answer v at) (λ v at. c.step.ensures.reads v at)))

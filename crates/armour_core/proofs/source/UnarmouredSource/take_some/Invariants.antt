@@ -1,13 +1,14 @@
 use Rattle.std.proofs.Common.{◌≡◌}
-use Rattle.armour_core.specs.ReaderOutlook.{KeepsOutlook, Outlasts, turns_left}
-use Rattle.armour_core.proofs.source.UnarmouredSource.await_some.Given as goal
+use Rattle.armour_core.specs.ReaderOutlook.{Awaits, KeepsOutlook, turns_left}
+use Rattle.armour_core.proofs.source.UnarmouredSource.take_some.Given as goal
 
 abbrev pub invariant-loop-self : goal.invariant-loop-self
 invariant-loop-self g l = record {
   same : l.self.text.ghost_name ≡ l.fn.self.text.ghost_name;
   outlook : KeepsOutlook (g.S.Source.state l.fn.self.text.now) (g.S.Source.state l.self.text.now) l.fn.self.reader l.self.reader;
-  outlasts : Outlasts (g.S.Source.state l.fn.self.text.now) (g.S.Source.state l.self.text.now) l.fn.self.reader l.self.reader l.fn.self.faults l.self.faults;
+  awaits : Awaits (g.S.Source.state l.fn.self.text.now) (g.S.Source.state l.self.text.now) l.fn.self.reader l.self.reader l.fn.self.faults;
   lasts : g.S.Source.lasts l.fn.self.text.now l.self.text.now;
+  stays : (g.S.Source.state l.self.text.now).faults ≡ (g.S.Source.state l.fn.self.text.now).faults;
   given : l.self.given ≡ l.fn.self.given;
   faults : l.self.faults ≡ l.fn.self.faults;
 }
