@@ -19,11 +19,11 @@ use Rattle.message_format.specs.Judgement.{Judged}
 use Rattle.message_format.specs.Reading.{read, unlocking}
 use Rattle.esdk_decrypt.specs.Decrypt.{AnswersTo, Asked}
 use Rattle.esdk_decrypt.specs.Told.{Reader, answering_by, asked_by, judged_by}
-use Rattle.esdk_decrypt.proofs.Readers.{answers_unlocking, never_fails}
+use Rattle.esdk_decrypt.proofs.Readers.{answers_unlocking}
 use Rattle.extract_core.specs.declared.errors.ExtractError.{ExtractError}
 use Rattle.extract_core.specs.declared.errors.ExtractError.TheVariants as errors
 use Rattle.extract_core.specs.Extracted.{ByteRange, Extraction, extracted}
-use Rattle.extract_core.specs.Extract.{ExtractEnds, Extracts, UnlessMemory, most_read}
+use Rattle.extract_core.specs.Extract.{ExtractEnds, Extracts, UnlessMemory, most_read, most_taken}
 use Rattle.extract_core.specs.Laws.{EndsAsItBegins, ExtractsOfWhole}
 use Rattle.extract_core.proofs.Judged.{extracts_whole}
 use Rattle.extract_core.proofs.Allowed.{extract_ends_allowed, extracts_allowed}
@@ -33,7 +33,7 @@ use Rattle.esdk_report.specs.Report.{Reports}
 use Rattle.esdk_report.specs.declared.failure.Failure.{Failure}
 use Rattle.esdk_report.specs.declared.failure.Failure.TheVariants as failures
 use Rattle.esdk_run.specs.Extract.{ExtractFails, ExtractionFails, HasTreeFor, ReadsOfFile, as_decryption, extract_asked, extract_reader, no_limits, range_asked}
-use Rattle.esdk_run.specs.ExtractTold.{ComesBackBefore, ExtractsOfContent, ExtractsSoundRanges, GainsRange, NamesExtractFault, NothingFailsOf, ReadsFile, ReadsNoMore, SaysWhatItExtracts, WritesOfContent, extracted_by}
+use Rattle.esdk_run.specs.ExtractTold.{ComesBackBefore, ExtractsOfContent, ExtractsSoundRanges, GainsRange, NamesExtractFault, NothingFailsOf, ReadsFile, ReadsNoMore, ReadsTaken, SaysWhatItExtracts, WritesOfContent, extracted_by}
 use Rattle.esdk_run.specs.Failures.{extraction_failure}
 use Rattle.esdk_run.specs.Objects.{Objects, Unchanged}
 use Rattle.esdk_run.specs.Pairs.{context_in}
@@ -64,7 +64,7 @@ extraction_fails trees asked before after unchanged (errors.Outside outside) fai
 extraction_fails trees asked before after unchanged errors.Memory fails = inr fails
 
 pub extraction_ran : (trees : Trees) (asked : ExtractWords) (before after : Objects) (unchanged : Unchanged) (code : ℕ) (r : Result ℕ ExtractError) (t : HasTreeFor trees asked before after)
-    → IfOk r (Extracts (extract_asked asked t.given t.tree t.left) (range_asked asked) t.middle asked.from before.output after.output)
+    → IfOk r (Extracts (extract_asked asked t.given t.tree t.left) (range_asked asked) t.middle after.shelf asked.from before.output after.output)
     → IfErr r (ExtractEnds (extract_asked asked t.given t.tree t.left) (range_asked asked) t.middle after.shelf asked.from before.output after.output unchanged.output)
     → IfOk r (λ written. after.shelf.faults ≡ t.middle.faults) → UnlessMemory r (ReadsOfFile asked t.middle after.shelf)
     → OnOk r (IsDone code before.report after.report) → IfErr r (λ error. Reports (extraction_failure error) code before.report after.report)
@@ -85,7 +85,7 @@ extraction_ran trees asked before after unchanged code (Err error) t done ends f
 -- The extraction ended so.
 abbrev Ended : Asked → ExtractWords → ShelfState → Objects → Objects → Type 0 → ℕ → Type 0
 Ended about asked middle before after unwritten code =
-    (IsDone code before.report after.report × ((written : ℕ) × Extracts about (range_asked asked) middle asked.from before.output after.output written))
+    (IsDone code before.report after.report × ((written : ℕ) × Extracts about (range_asked asked) middle after.shelf asked.from before.output after.output written))
     ⊎ ((error : ExtractError) × (ExtractEnds about (range_asked asked) middle after.shelf asked.from before.output after.output unwritten error
     × Reports (extraction_failure error) code before.report after.report))
 
@@ -152,7 +152,7 @@ reader_ended : (asked : ExtractWords) (middle : ShelfState) (before after : Obje
     → Ended (asked_by (extract_reader asked given keys)) asked middle before after unwritten code
 reader_ended asked middle before after unwritten code pairs given tree left keys is told stayed (inl (done, (written, extracts))) =
     subst (λ (g : List KeyValue). Ended (asked_by (extract_reader asked g keys)) asked middle before after unwritten code) is
-    (inl (done, (written, extracts_allowed _ _ no_limits pairs (range_asked asked) middle asked.from before.output after.output written (reader_allows (as_decryption asked) pairs tree left keys told stayed) extracts)))
+    (inl (done, (written, extracts_allowed _ _ no_limits pairs (range_asked asked) middle after.shelf asked.from before.output after.output written (reader_allows (as_decryption asked) pairs tree left keys told stayed) extracts)))
 reader_ended asked middle before after unwritten code pairs given tree left keys is told stayed (inr (error, (ends, said))) =
     subst (λ (g : List KeyValue). Ended (asked_by (extract_reader asked g keys)) asked middle before after unwritten code) is
     (inr (error, (extract_ends_allowed _ _ no_limits pairs (range_asked asked) middle after.shelf asked.from before.output after.output unwritten error (reader_allows (as_decryption asked) pairs tree left keys told stayed) ends, said)))
@@ -160,7 +160,7 @@ reader_ended asked middle before after unwritten code pairs given tree left keys
 -- so what is so of each such end is so of the run
 over_reader : (So : Type 0) (trees : Trees) (asked : ExtractWords) (before after : Objects) (unchanged : Unchanged) (code : ℕ) (given : List KeyValue) (keys : List WrapKeyValue) (bytes : List ℕ)
     → ExtractRuns trees asked before after unchanged code → ReadsFile trees asked before given keys bytes
-    → ((middle : ShelfState) → middle.files ≡ before.shelf.files → middle.faults ≡ before.shelf.faults → Ended (asked_by (extract_reader asked given keys)) asked middle before after unchanged.output code → So)
+    → ((middle : ShelfState) → middle.files ≡ before.shelf.files → middle.faults ≡ before.shelf.faults → middle.given ≤ before.shelf.given + most_file + most_piece → Ended (asked_by (extract_reader asked given keys)) asked middle before after unchanged.output code → So)
     → (middle : ShelfState) × IfNoneFailed trees asked.keyring before.shelf middle So
 over_reader So trees asked before after unchanged code given keys bytes runs reads so =
     let had = had_range trees asked before after unchanged code reads.reads.left reads.reads.kept runs in
@@ -171,7 +171,7 @@ over_reader So trees asked before after unchanged code given keys bytes runs rea
         kept = t.has.kept;
         is = record { tree = t.tree; file = t.has.file; goes = t.has.goes };
         so = λ stayed.
-            so t.middle t.files t.has.file.file.faults
+            so t.middle t.files t.has.file.file.faults (omega (arith, t.has.file.file.most, t.has.file.file.few))
             (reader_ended asked t.middle before after unchanged.output code t.given given t.tree t.left keys (one_context asked.pairs t.given given t.has.given.made reads.reads.pairs)
             (told_then trees t.tree t.left reads.reads.left keys t.has.goes t.has.kept reads.reads.kept reads.reads.told) stayed had.ended);
       },
@@ -183,47 +183,64 @@ by_reader : (reader : Reader) (bytes : List ℕ) (range : ByteRange) (answer : U
     → extracted bytes reader.settings answer range ≡ extracted_by reader bytes range
 by_reader reader bytes range answer answers = ap (λ (a : Unlocking). extracted bytes reader.settings a range) (answers_unlocking reader bytes answer answers)
 
+-- no more was read than this reader reads
+taken_read : (reader : Reader) (bytes : List ℕ) (range : ByteRange) (answer : Unlocking) (before middle after : ShelfState) → AnswersTo (answering_by reader) reader.settings reader.given bytes answer
+    → middle.given ≤ before.given + most_file + most_piece → after.given ≤ middle.given + most_taken bytes reader.settings answer range → ReadsTaken reader bytes range before after
+taken_read reader bytes range answer before middle after answers few read =
+    omega (arith, few, read, ap (λ (a : Unlocking). most_taken bytes reader.settings a range) (answers_unlocking reader bytes answer answers))
+
 held_then : (before : Objects) (middle : ShelfState) (name bytes : List ℕ) → middle.files ≡ before.shelf.files → Holds before.shelf.files name bytes → Holds middle.files name bytes
 held_then before middle name bytes same held = subst (λ (f : Option Files). Holds f name bytes) (sym same) held
 
-range_gained : (reader : Reader) (asked : ExtractWords) (middle : ShelfState) (before after : Objects) (unwritten : Type 0) (code : ℕ) (bytes : List ℕ) → Holds middle.files asked.from bytes → code ≡ 0
-    → Ended (asked_by reader) asked middle before after unwritten code → GainsRange reader asked bytes before after
-range_gained reader asked middle before after unwritten code bytes held is_zero (inl (done, (written, extracts))) =
+range_gained : (reader : Reader) (asked : ExtractWords) (middle : ShelfState) (before after : Objects) (unwritten : Type 0) (code : ℕ) (bytes : List ℕ) → Holds middle.files asked.from bytes
+    → middle.given ≤ before.shelf.given + most_file + most_piece → code ≡ 0 → Ended (asked_by reader) asked middle before after unwritten code → GainsRange reader asked bytes before after
+range_gained reader asked middle before after unwritten code bytes held few is_zero (inl (done, (written, extracts))) =
     let w = extracts.writes bytes held in
     let is = by_reader reader bytes (range_asked asked) w.answer w.answered in
     record {
       sound = sym (ap (λ (x : Extraction). x.fault) is) ∙ w.sound;
       gained = subst (λ (x : Extraction). Appends before.output.written after.output.written x.part) is w.gained;
+      read = taken_read reader bytes (range_asked asked) w.answer before.shelf middle after.shelf w.answered few w.read;
     }
-range_gained reader asked middle before after unwritten code bytes held is_zero (inr (error, (ends, said))) = absurd (not_done (extraction_failure error) code before.report after.report said is_zero)
+range_gained reader asked middle before after unwritten code bytes held few is_zero (inr (error, (ends, said))) = absurd (not_done (extraction_failure error) code before.report after.report said is_zero)
+
+-- The run ended with this fault: the output gained what is extracted before it.
+record EndsByFault (reader : Reader) (asked : ExtractWords) (middle : ShelfState) (before after : Objects) (bytes : List ℕ) (fault : Fault) : Type 0 where
+  pub cause : (extracted_by reader bytes (range_asked asked)).fault ≡ Some fault
+  pub gained : Appends before.output.written after.output.written (extracted_by reader bytes (range_asked asked)).part
+  pub read : middle.given ≤ before.shelf.given + most_file + most_piece → ReadsTaken reader bytes (range_asked asked) before.shelf after.shelf
 
 -- an end that is called a fault is that fault
 fault_ended : (reader : Reader) (asked : ExtractWords) (middle : ShelfState) (before after : Objects) (unwritten : Type 0) (bytes : List ℕ) (fault : Fault) (error : ExtractError) → Holds middle.files asked.from bytes
     → extraction_failure error ≡ failures.Fault fault → ExtractEnds (asked_by reader) (range_asked asked) middle after.shelf asked.from before.output after.output unwritten error
-    → ((extracted_by reader bytes (range_asked asked)).fault ≡ Some fault) × Appends before.output.written after.output.written (extracted_by reader bytes (range_asked asked)).part
+    → EndsByFault reader asked middle before after bytes fault
 fault_ended reader asked middle before after unwritten bytes fault (errors.Fault other) held is ends =
     let same : other ≡ fault = cc in
     let w = ends.writes bytes held in
     let by = by_reader reader bytes (range_asked asked) w.answer w.answered in
-    (sym (ap (λ (x : Extraction). x.fault) by) ∙ w.fault_is ∙ ap Some same, subst (λ (x : Extraction). Appends before.output.written after.output.written x.part) by w.gained)
+    record {
+      cause = sym (ap (λ (x : Extraction). x.fault) by) ∙ w.fault_is ∙ ap Some same;
+      gained = subst (λ (x : Extraction). Appends before.output.written after.output.written x.part) by w.gained;
+      read = λ few. taken_read reader bytes (range_asked asked) w.answer before.shelf middle after.shelf w.answered few w.read;
+    }
 fault_ended reader asked middle before after unwritten bytes fault (errors.Outside outside) held is ends = absurd cc
 fault_ended reader asked middle before after unwritten bytes fault errors.Memory held is ends = absurd cc
 
-fault_named : (reader : Reader) (asked : ExtractWords) (middle : ShelfState) (before after : Objects) (unwritten : Type 0) (code : ℕ) (bytes : List ℕ) → Holds middle.files asked.from bytes → code ≡ 1
+fault_named : (reader : Reader) (asked : ExtractWords) (middle : ShelfState) (before after : Objects) (unwritten : Type 0) (code : ℕ) (bytes : List ℕ) → Holds middle.files asked.from bytes → middle.given ≤ before.shelf.given + most_file + most_piece → code ≡ 1
     → Ended (asked_by reader) asked middle before after unwritten code → NamesExtractFault reader asked bytes before after
-fault_named reader asked middle before after unwritten code bytes held one (inl (done, (written, extracts))) = absurd (omega (arith, done.status, one))
-fault_named reader asked middle before after unwritten code bytes held one (inr (error, (ends, said))) =
+fault_named reader asked middle before after unwritten code bytes held few one (inl (done, (written, extracts))) = absurd (omega (arith, done.status, one))
+fault_named reader asked middle before after unwritten code bytes held few one (inr (error, (ends, said))) =
     let named = fault_status (extraction_failure error) code before.report after.report said one in
     let found = fault_ended reader asked middle before after unwritten bytes named.fault error held named.is ends in
-    record { fault = named.fault; cause = found.0; gained = found.1; line = named.line }
+    record { fault = named.fault; cause = found.cause; gained = found.gained; line = named.line; read = found.read few }
 
 pub says_what_it_extracts : (trees : Trees) (asked : ExtractWords) (before after : Objects) (unchanged : Unchanged) (code : ℕ) → ExtractRuns trees asked before after unchanged code
     → SaysWhatItExtracts trees asked before after code
 says_what_it_extracts trees asked before after unchanged code runs given keys bytes reads =
     over_reader _ trees asked before after unchanged code given keys bytes runs reads
-    (λ middle files faults ended. (
-      λ is_zero. range_gained (extract_reader asked given keys) asked middle before after unchanged.output code bytes (held_then before middle asked.from bytes files reads.held) is_zero ended,
-      λ one. fault_named (extract_reader asked given keys) asked middle before after unchanged.output code bytes (held_then before middle asked.from bytes files reads.held) one ended,
+    (λ middle files faults few ended. (
+      λ is_zero. range_gained (extract_reader asked given keys) asked middle before after unchanged.output code bytes (held_then before middle asked.from bytes files reads.held) few is_zero ended,
+      λ one. fault_named (extract_reader asked given keys) asked middle before after unchanged.output code bytes (held_then before middle asked.from bytes files reads.held) few one ended,
     ))
 
 -- ---- only want of memory keeps a range without a fault from being extracted
@@ -232,13 +249,13 @@ no_other_error : (reader : Reader) (asked : ExtractWords) (middle : ShelfState) 
     → middle.faults ≡ before.shelf.faults → (extracted_by reader bytes (range_asked asked)).fault ≡ None → NothingFailsOf before after
     → ExtractEnds (asked_by reader) (range_asked asked) middle after.shelf asked.from before.output after.output unwritten error → error ≡ errors.Memory
 no_other_error reader asked middle before after unwritten code bytes (errors.Fault fault) held same sound nothing ends =
-    let found = fault_ended reader asked middle before after unwritten bytes fault (errors.Fault fault) held refl ends in absurd (let no : None ≡ Some fault = sym sound ∙ found.0 in cc)
+    let found = fault_ended reader asked middle before after unwritten bytes fault (errors.Fault fault) held refl ends in absurd (let no : None ≡ Some fault = sym sound ∙ found.cause in cc)
 no_other_error reader asked middle before after unwritten code bytes (errors.Outside outsides.SourceFault) held same sound nothing ends = absurd ends
 no_other_error reader asked middle before after unwritten code bytes (errors.Outside outsides.SinkFault) held same sound nothing ends = absurd (omega (arith, nothing.writing, ends.rose))
 no_other_error reader asked middle before after unwritten code bytes (errors.Outside outsides.ShelfFault) held same sound nothing ends =
     absurd (no_read_fails middle after.shelf asked.from bytes held (omega (arith, nothing.reading, same)) ends.0)
 no_other_error reader asked middle before after unwritten code bytes (errors.Outside outsides.EntropyFault) held same sound nothing ends = absurd ends
-no_other_error reader asked middle before after unwritten code bytes (errors.Outside outsides.KeyringFault) held same sound nothing ends = absurd (never_fails reader bytes (ends.failed bytes held))
+no_other_error reader asked middle before after unwritten code bytes (errors.Outside outsides.KeyringFault) held same sound nothing ends = absurd ends.failed
 no_other_error reader asked middle before after unwritten code bytes (errors.Outside outsides.InputTooLong) held same sound nothing ends = absurd ends
 no_other_error reader asked middle before after unwritten code bytes errors.Memory held same sound nothing ends = refl
 
@@ -253,7 +270,7 @@ pub extracts_sound_ranges : (trees : Trees) (asked : ExtractWords) (before after
     → ExtractsSoundRanges trees asked before after code
 extracts_sound_ranges trees asked before after unchanged code runs given keys bytes reads sound nothing =
     over_reader _ trees asked before after unchanged code given keys bytes runs reads
-    (λ middle files faults ended. sound_extracted (extract_reader asked given keys) asked middle before after unchanged.output code bytes (held_then before middle asked.from bytes files reads.held) faults sound nothing ended)
+    (λ middle files faults few ended. sound_extracted (extract_reader asked given keys) asked middle before after unchanged.output code bytes (held_then before middle asked.from bytes files reads.held) faults sound nothing ended)
 
 -- ---- of a whole message
 

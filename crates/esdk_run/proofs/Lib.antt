@@ -33,5 +33,6 @@ pub mod DoneJobs
 mod Ages
 mod Keeping
 mod Promising
+pub mod Unplugged
 pub mod Resealing
 pub mod ResealTold

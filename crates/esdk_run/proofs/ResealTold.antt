@@ -1,18 +1,19 @@
 -- What `reseal` says over the tree that it gives back.
-use Rattle.std.proofs.Common.{◌≡◌, ◌⊎◌, ◌∙◌, ◌^◌, ◌<◌, ◌≤◌, ℕ, List, [], length, take, drop, false, None, Some, Ok, inl, inr, refl, sym, ap, subst, arith}
+use Rattle.std.proofs.Common.{◌≡◌, ◌⊎◌, ◌∙◌, ◌^◌, ◌<◌, ◌≤◌, ℕ, List, [], length, take, drop, true, false, None, Some, Ok, inl, inr, refl, sym, ap, subst, arith}
 use Rattle.std.specs.Prelude.{IfSome, ⊤}
 use Rattle.std.specs.declared.option.Option.{Option}
 use Rattle.esdk_args.specs.declared.request.ResealWords.{ResealWords}
 use Rattle.esdk_fields.specs.Counts.{Stayed}
 use Rattle.esdk_fields.specs.declared.faults.Fault.{Fault}
 use Rattle.esdk_fields.specs.declared.refusals.Outside.TheVariants as outsides
-use Rattle.esdk_fields.specs.declared.refusals.Refusal.{Refusal}
 use Rattle.esdk_base.specs.Shelf.{Files}
 use Rattle.esdk_base.specs.Streams.{ShelfState}
 use Rattle.context_codec.specs.Context.{KeyValue}
 use Rattle.cmm_default.specs.DefaultCmm.{default_now}
+use Rattle.keyring_trait.specs.declared.manager_errors.ManagerError.{ManagerError}
+use Rattle.keyring_trait.specs.declared.manager_errors.ManagerError.TheVariants as managers
 use Rattle.keyring_trait.specs.Keyring.{KeyringMeaning}
-use Rattle.keyring_trait.specs.Manager.{ManagerMeaning}
+use Rattle.keyring_trait.specs.Manager.{ManagerMeaning, request_refusal}
 use Rattle.keyring_trait.specs.Materials.{EncMaterialsValue}
 use Rattle.keyring_trait.specs.Requests.{EncRequestValue}
 use Rattle.keyring_trait.specs.Wrapping.{WrapKeyValue, active, ivs_of, made}
@@ -35,8 +36,8 @@ use Rattle.esdk_run.specs.Failures.{resealing_failure}
 use Rattle.esdk_run.specs.FileReading.{FileFails}
 use Rattle.esdk_run.specs.Objects.{Objects, Unchanged, same_streams}
 use Rattle.esdk_run.specs.Pairs.{context_in, required_in}
-use Rattle.esdk_run.specs.Reseal.{HasFirst, HasNoSecond, HasSecond, ResealFails, ResealingFails, TreeSeals, limits_of, reseal_asked, untouched}
-use Rattle.esdk_run.specs.ResealTold.{CanBeResealed, GivesBackFirst, IfNoneFailedFirst, NamesResealFault, NothingElseFails, ReadsBoth, ResealsWholeMessages, RotatesWhatIsWritten, SaysWhatItReseals, ShowsResealed, ShowsRotated, reseal_reader, reseal_writer, without_plugs}
+use Rattle.esdk_run.specs.Reseal.{HasFirst, HasNoSecond, HasSecond, ResealFails, ResealingFails, TreeSeals, TreeSealsNone, limits_of, reseal_asked, untouched}
+use Rattle.esdk_run.specs.ResealTold.{CanBeResealed, GivesBackFirst, IfNoneFailedFirst, NamesResealFault, NothingElseFails, OfItsKeys, ReadsBoth, ResealsWholeMessages, RotatesWhatIsWritten, SaysWhatItReseals, ShowsResealed, ShowsRotated, reseal_reader, reseal_writer, without_plugs}
 use Rattle.esdk_run.specs.Run.{ResealRuns, TellsOrLacksMemory}
 use Rattle.esdk_run.specs.Told.{GivesTree, HoldsTree, IsDoneOrMemory, IsLeft, NothingFails}
 use Rattle.esdk_run.specs.Trees.{IsLawful, TreeGoes, Trees}
@@ -67,7 +68,7 @@ record HadBoth (trees : Trees) (asked : ResealWords) (before after : Objects) (s
   later : KeyringMeaning
   sealing : HasSecond trees asked between after.shelf second
   goes : TreeGoes second later
-  ended : Ending (reseal_asked asked given tree left second later) before after same code
+  ended : Ending (reseal_asked asked given tree left second) before after same code
 
 -- The first file was read as a tree, and the second gave none.
 record HadFirst (trees : Trees) (asked : ResealWords) (before after : Objects) (same : Type 0) (code : ℕ) : Type 0 where
@@ -179,11 +180,18 @@ materials_told others second size request random m lawful told given =
     wrapped ∙ ap (λ (n : ℕ). made others request.context key (ivs_of n ivs)) (keys_wrap second others lawful told) in
     λ i. record { context = given.whole i; required = given.required i; key = given.key i; entries = entries i; served = given.served i }
 
-keys_give : (others : List WrapKeyValue) (second later : KeyringMeaning) (size : ℕ) → IsLawful second → second.keys ≡ Some others → GivesMore (tree_giving second later) (keys_giving others second later size)
+none_told : (second later : KeyringMeaning) (request : EncRequestValue) (error : ManagerError) → TreeSealsNone second request error
+    → NoneFor (request_refusal (default_now second).meaning request.context) second.faults later.faults error
+none_told second later request (managers.Fault fault) cause = absurd cause
+none_told second later request (managers.Refusal refusal) cause = seal_refusal request.context second ∙ cause
+none_told second later request managers.KeyringFault cause = absurd cause
+none_told second later request managers.Memory cause = tt
+
+keys_give : (others : List WrapKeyValue) (second later : KeyringMeaning) (size : ℕ) → IsLawful second → second.keys ≡ Some others → GivesMore (tree_giving second) (keys_giving others second later size)
 keys_give others second later size lawful told = record {
   wraps = keys_wrap second others lawful told;
   gives = λ request random m given. (seal_refusal request.context second ∙ given.unrefused, materials_told others second size request random m lawful told given);
-  gives_none = λ request error cause. subst (λ (r : Option Refusal). NoneFor r second.faults later.faults error) (sym (seal_refusal request.context second)) cause;
+  gives_none = λ request error cause. none_told second later request error cause;
 }
 
 -- ---- over both trees' keys
@@ -194,12 +202,12 @@ told_run asked given keys others second later = resealing_told (reseal_reader as
 
 module _ (asked : ResealWords) (before after : Objects) (same : Type 0) (code : ℕ) (given : List KeyValue) (tree left second later : KeyringMeaning) (keys others : List WrapKeyValue)
     (told : tree.keys ≡ Some keys) (stayed : Stayed tree.faults left.faults) (lawful : IsLawful second) (second_told : second.keys ≡ Some others) where
-  told_ended : Ending (reseal_asked asked given tree left second later) before after same code → Ending (told_run asked given keys others second later) before after same code
+  told_ended : Ending (reseal_asked asked given tree left second) before after same code → Ending (told_run asked given keys others second later) before after same code
   told_ended (inl (context, (done, shown))) = inl (
     context,
     (
       input_more (record { finds = TreeFinds (required_in asked.pairs) tree left; finds_none = TreeFindsNone (required_in asked.pairs) tree left }) (answering_by (reseal_reader asked given keys)) (limits_of asked) given
-          (tree_giving second later) (keys_giving others second later asked.frame) asked.frame (keys_allow (limits_of asked) given (required_in asked.pairs) tree left keys told stayed)
+          (tree_giving second) (keys_giving others second later asked.frame) asked.frame (keys_allow (limits_of asked) given (required_in asked.pairs) tree left keys told stayed)
           (keys_give others second later asked.frame lawful second_told) before.input after.input before.output after.output before.entropy after.entropy context done,
       shown,
     ),
@@ -208,14 +216,17 @@ module _ (asked : ResealWords) (before after : Objects) (same : Type 0) (code : 
     error,
     (
       stops_more (record { finds = TreeFinds (required_in asked.pairs) tree left; finds_none = TreeFindsNone (required_in asked.pairs) tree left }) (answering_by (reseal_reader asked given keys)) (limits_of asked) given
-          (tree_giving second later) (keys_giving others second later asked.frame) asked.frame (keys_allow (limits_of asked) given (required_in asked.pairs) tree left keys told stayed)
+          (tree_giving second) (keys_giving others second later asked.frame) asked.frame (keys_allow (limits_of asked) given (required_in asked.pairs) tree left keys told stayed)
           (keys_give others second later asked.frame lawful second_told) before.input after.input before.output after.output before.entropy after.entropy same ⊤ error ends,
       said,
     ),
   )
 
 -- The resealing over both trees' keys ended so; `second` is what the shelf tells.
-record EndedTold (asked : ResealWords) (before after : Objects) (same : Type 0) (code : ℕ) (given : List KeyValue) (keys others : List WrapKeyValue) (second : KeyringMeaning) : Type 0 where
+record EndedTold (asked : ResealWords) (before after : Objects) (same : Type 0) (code : ℕ) (given : List KeyValue) (keys : List WrapKeyValue) (second : KeyringMeaning) : Type 0 where
+  others : List WrapKeyValue
+  told : second.keys ≡ Some others
+  steady : second.steady ≡ true
   later : KeyringMeaning
   goes : TreeGoes second later
   ended : Ending (told_run asked given keys others second later) before after same code
@@ -230,14 +241,14 @@ record EndedEarly (trees : Trees) (asked : ResealWords) (before after : Objects)
   said : Reports failure code before.report after.report
 
 -- what is so of each such end is so of the run
-module _ (So : Type 0) (trees : Trees) (asked : ResealWords) (before after : Objects) (unchanged : Unchanged) (code : ℕ) (given : List KeyValue) (keys others : List WrapKeyValue)
-    (both : ReadsBoth trees asked before given keys others) (so : EndedTold asked before after (same_streams unchanged) code given keys others both.second → So) (early : EndedEarly trees asked before after code → So) where
+module _ (So : Type 0) (trees : Trees) (asked : ResealWords) (before after : Objects) (unchanged : Unchanged) (code : ℕ) (given : List KeyValue) (keys : List WrapKeyValue)
+    (both : ReadsBoth trees asked before given keys) (so : EndedTold asked before after (same_streams unchanged) code given keys both.second → So) (early : EndedEarly trees asked before after code → So) where
   over_had : Had trees asked before after unchanged code → IfNoneFailedFirst trees asked before.shelf So
   over_had (inl b) =
       let has = b.first.has in
       let read : b.second ≡ both.second =
       tree_is_held (without_plugs trees) b.between after.shelf asked.to_keyring b.second both.second (subst (λ (f : Option Files). HoldsTree (without_plugs trees) f asked.to_keyring both.second) (sym b.first.files) both.holds) b.sealing.file in
-      let second_told : b.second.keys ≡ Some others = ap (λ (t : KeyringMeaning). t.keys) read ∙ both.second_told in
+      let others : List WrapKeyValue = b.sealing.keys in
       let pairs : b.given ≡ given = one_context asked.pairs b.given given has.given.made both.pairs in (
         b.between,
         record {
@@ -246,8 +257,11 @@ module _ (So : Type 0) (trees : Trees) (asked : ResealWords) (before after : Obj
           is = record { tree = b.tree; file = has.file; goes = has.goes };
           so = λ stayed.
               (let e = told_ended asked before after (same_streams unchanged) code b.given b.tree b.left b.second b.later keys others
-              (told_then trees b.tree b.left both.left keys has.goes has.kept both.kept both.told) stayed b.sealing.lawful second_told b.ended in
-              so (subst (λ (t : KeyringMeaning). EndedTold asked before after (same_streams unchanged) code given keys others t) read (record {
+              (told_then trees b.tree b.left both.left keys has.goes has.kept both.kept both.told) stayed b.sealing.lawful b.sealing.told b.ended in
+              so (subst (λ (t : KeyringMeaning). EndedTold asked before after (same_streams unchanged) code given keys t) read (record {
+                others = others;
+                told = b.sealing.told;
+                steady = b.sealing.steady;
                 later = b.later;
                 goes = b.goes;
                 ended = subst (λ (g : List KeyValue). Ending (told_run asked g keys others b.second b.later) before after (same_streams unchanged) code) pairs e;
@@ -291,8 +305,11 @@ early_fault trees asked before after code e one =
     no_fault : (fault : Fault) → FileFails trees.plain e.between after.shelf asked.to_keyring (failures.Fault fault) → ⊥
     no_fault fault fails = fails
 
-module _ (asked : ResealWords) (before after : Objects) (same : Type 0) (code : ℕ) (given : List KeyValue) (keys others : List WrapKeyValue) (second : KeyringMeaning)
-    (e : EndedTold asked before after same code given keys others second) where
+module _ (asked : ResealWords) (before after : Objects) (same : Type 0) (code : ℕ) (given : List KeyValue) (keys : List WrapKeyValue) (second : KeyringMeaning)
+    (e : EndedTold asked before after same code given keys second) where
+  abbrev others : List WrapKeyValue
+  others = e.others
+
   abbrev reader : Reader
   reader = reseal_reader asked given keys
 
@@ -302,12 +319,15 @@ module _ (asked : ResealWords) (before after : Objects) (same : Type 0) (code : 
   abbrev new : ManagerMeaning
   new = (default_now e.later).meaning
 
+  of_keys : {So : List WrapKeyValue → Type 0} → So others → OfItsKeys second So
+  of_keys so = record { keys = others; told = e.told; so = so }
+
   whole_said : (bytes : List ℕ) → before.input.left ≡ Some bytes → code ≡ 0 → Ending (told_run asked given keys others second e.later) before after same code
-      → ShowsResealed reader (reseal_writer asked others) others bytes before after code
+      → OfItsKeys second (λ (ws : List WrapKeyValue). ShowsResealed reader (reseal_writer asked ws) ws bytes before after code)
   whole_said bytes told zero (inl (context, (done, shown))) =
       let all : IsResealed reader others old asked.frame bytes before.output after.output before.entropy after.entropy context =
       whole_resealed reader others old new asked.frame bytes before.input after.input before.output after.output before.entropy after.entropy context told done in
-      record {
+      of_keys (record {
         context = context;
         only = all.only;
         key = all.key;
@@ -317,18 +337,18 @@ module _ (asked : ResealWords) (before after : Objects) (same : Type 0) (code : 
         drew = all.drew;
         gained = all.gained;
         shown = zero_shows context code before.report after.report shown zero;
-      }
+      })
   whole_said bytes told zero (inr (error, (ends, said))) = absurd (not_done (resealing_failure error) code before.report after.report said zero)
 
   fault_said : (bytes : List ℕ) → before.input.left ≡ Some bytes → code ≡ 1 → Ending (told_run asked given keys others second e.later) before after same code
-      → NamesResealFault reader (reseal_writer asked others) others asked.frame bytes before after
+      → OfItsKeys second (λ (ws : List WrapKeyValue). NamesResealFault reader (reseal_writer asked ws) ws asked.frame bytes before after)
   fault_said bytes told one (inl (context, (done, shown))) = absurd (one_shows_none context code before.report after.report shown one)
   fault_said bytes told one (inr (error, (ends, said))) =
       let named = fault_status (resealing_failure error) code before.report after.report said one in
       let f = named_fault named.fault (told_run asked given keys others second e.later) before after same error named.is ends in
       let all : HasFaultAndFront reader others old asked.frame bytes before.output after.output before.entropy after.entropy named.fault =
       fault_front reader others old new asked.frame bytes before.input after.input before.output after.output before.entropy after.entropy named.fault f.drawn told f.is f.drew in
-      record {
+      of_keys (record {
         fault = named.fault;
         cause = all.cause;
         drawn = all.drawn;
@@ -336,7 +356,7 @@ module _ (asked : ResealWords) (before after : Objects) (same : Type 0) (code : 
         gained = all.gained;
         unfinished = all.unfinished;
         line = named.line;
-      }
+      })
 
   -- only want of memory keeps a whole message from being resealed
   whole_done : (bytes : List ℕ) → CanBeResealed reader second asked.frame before.input bytes → NothingFails before after → NothingElseFails before after
@@ -346,17 +366,17 @@ module _ (asked : ResealWords) (before after : Objects) (same : Type 0) (code : 
       let memory : error ≡ errors.Memory =
       memory_alone reader others old new asked.frame bytes before.input after.input before.output after.output before.entropy after.entropy
       (record { whole = can.whole; only = can.only; key = can.key; input_whole = can.input_whole; unlocked = can.unlocked; unrefused = seal_refusal can.whole second ∙ can.unrefused; room = can.room })
-      (e.goes.still can.steady) (record { source = nothing.reading; sink = nothing.writing; drawing = beside.drawing }) same ⊤ error ends in
+      (e.goes.still e.steady) (record { source = nothing.reading; sink = nothing.writing; drawing = beside.drawing }) same ⊤ error ends in
       inr (memory_status (resealing_failure error) code before.report after.report (ap resealing_failure memory) said)
 
   written_rotated : (writers : List WrapKeyValue) (m : Written) → IsWrittenFor reader writers m → 1 ≤ asked.frame → asked.frame < 2 ^ 32 → before.input.left ≡ Some (written_message m) → code ≡ 0
-      → Ending (told_run asked given keys others second e.later) before after same code → ShowsRotated m others asked.frame before after code
+      → Ending (told_run asked given keys others second e.later) before after same code → OfItsKeys second (λ (ws : List WrapKeyValue). ShowsRotated m ws asked.frame before after code)
   written_rotated writers m for wide narrow told zero (inl (context, (done, shown))) =
       let all = rotated reader writers others m old new asked.frame before.input after.input before.output after.output before.entropy after.entropy context for wide narrow told done in
-      record {
+      of_keys (record {
         rotated = all.1;
         shown = subst (λ (c : List KeyValue). ShowsContext c code before.report after.report) all.0 (zero_shows context code before.report after.report shown zero);
-      }
+      })
   written_rotated writers m for wide narrow told zero (inr (error, (ends, said))) = absurd (not_done (resealing_failure error) code before.report after.report said zero)
 
 -- a held file gives a tree, unless the shelf fails or memory runs out
@@ -381,25 +401,25 @@ early_memory trees asked before after code second holds beside e = by e.failure 
 
 module _ (trees : Trees) (asked : ResealWords) (before after : Objects) (unchanged : Unchanged) (code : ℕ) (runs : ResealRuns trees asked before after unchanged code) where
   pub says_what_it_reseals : SaysWhatItReseals trees asked before after code
-  says_what_it_reseals given keys others bytes both told =
-      over_both _ trees asked before after unchanged code given keys others both
+  says_what_it_reseals given keys bytes both told =
+      over_both _ trees asked before after unchanged code given keys both
       (λ e. (
-        λ zero. whole_said asked before after (same_streams unchanged) code given keys others both.second e bytes told zero e.ended,
-        λ one. fault_said asked before after (same_streams unchanged) code given keys others both.second e bytes told one e.ended,
+        λ zero. whole_said asked before after (same_streams unchanged) code given keys both.second e bytes told zero e.ended,
+        λ one. fault_said asked before after (same_streams unchanged) code given keys both.second e bytes told one e.ended,
       ))
       (λ e. (λ zero. absurd (early_zero trees asked before after code e zero), λ one. absurd (early_fault trees asked before after code e one)))
       runs
 
   pub reseals_whole_messages : ResealsWholeMessages trees asked before after code
-  reseals_whole_messages given keys others bytes both can nothing beside =
-      over_both _ trees asked before after unchanged code given keys others both
-      (λ e. whole_done asked before after (same_streams unchanged) code given keys others both.second e bytes can nothing beside e.ended)
+  reseals_whole_messages given keys bytes both can nothing beside =
+      over_both _ trees asked before after unchanged code given keys both
+      (λ e. whole_done asked before after (same_streams unchanged) code given keys both.second e bytes can nothing beside e.ended)
       (λ e. early_memory trees asked before after code both.second both.holds beside e)
       runs
 
   pub rotates_what_is_written : RotatesWhatIsWritten trees asked before after code
-  rotates_what_is_written given keys others writers m both for wide narrow told =
-      over_both _ trees asked before after unchanged code given keys others both
-      (λ e. λ zero. written_rotated asked before after (same_streams unchanged) code given keys others both.second e writers m for wide narrow told zero e.ended)
+  rotates_what_is_written given keys writers m both for wide narrow told =
+      over_both _ trees asked before after unchanged code given keys both
+      (λ e. λ zero. written_rotated asked before after (same_streams unchanged) code given keys both.second e writers m for wide narrow told zero e.ended)
       (λ e. λ zero. absurd (early_zero trees asked before after code e zero))
       runs

@@ -1,9 +1,10 @@
 -- How a resealing ends over the trees of two keyring files.
-use Rattle.std.proofs.Common.{◌≡◌, ◌∙◌, ℕ, List, Ok, Err, inl, inr, refl, sym, subst, take, drop}
+use Rattle.std.proofs.Common.{◌≡◌, ◌∙◌, ℕ, List, Ok, Err, inl, inr, refl, sym, subst, take, drop, arith}
 use Rattle.std.specs.Prelude.{IfErr, IfOk, ⊤}
 use Rattle.std.specs.declared.result.Result.{Result}
 use Rattle.esdk_args.specs.declared.request.ResealWords.{ResealWords}
 use Rattle.esdk_base.specs.Streams.{EntropyState, ShelfState, SinkState, SourceState}
+use Rattle.esdk_fields.specs.Counts.{Stayed}
 use Rattle.esdk_fields.specs.declared.refusals.Outside.TheVariants as outsides
 use Rattle.context_codec.specs.Context.{KeyValue}
 use Rattle.keyring_trait.specs.declared.manager_errors.ManagerError.{ManagerError}
@@ -18,7 +19,6 @@ use Rattle.keyring_trait.specs.Wrapping.{ivs_of, made}
 use Rattle.cmm_default.specs.DefaultCmm.{default_now, default_tells}
 use Rattle.esdk_decrypt.specs.Decrypt.{answering_of}
 use Rattle.esdk_decrypt.proofs.Told.{Allows}
-use Rattle.esdk_encrypt.specs.Told.{NoneFor}
 use Rattle.reseal_core.specs.declared.errors.InputError.{InputError}
 use Rattle.reseal_core.specs.declared.errors.InputError.TheVariants as errors
 use Rattle.reseal_core.specs.Reseal.{ResealEnds, Resealing, ResealsInput, resealing_from}
@@ -30,7 +30,7 @@ use Rattle.esdk_run.specs.Failures.{resealing_failure}
 use Rattle.esdk_run.specs.FileReading.{FileFails}
 use Rattle.esdk_run.specs.Objects.{Objects, Unchanged, same_streams}
 use Rattle.esdk_run.specs.Prepared.{IsNotPrepared}
-use Rattle.esdk_run.specs.Reseal.{HasFirst, HasSecond, ResealFails, ResealingFails, TreeSeals, limits_of, refusal_sealing, reseal_asked, untouched}
+use Rattle.esdk_run.specs.Reseal.{HasFirst, HasSecond, ResealFails, ResealingFails, TreeSeals, TreeSealsNone, limits_of, refusal_sealing, reseal_asked, untouched}
 use Rattle.esdk_run.specs.Run.{ResealRuns, TellsOrLacksMemory}
 use Rattle.esdk_run.specs.Trees.{IsUntouched, TreeGoes, Trees}
 use Rattle.esdk_run.proofs.Chain.{same_keys, where_some}
@@ -58,12 +58,13 @@ seals tree request random m given =
       served = direct;
     }
 
-seals_none : (tree later : KeyringMeaning) (request : EncRequestValue) (error : ManagerError) → GivesNone (default_now tree) (default_now later) request error
-    → NoneFor (refusal_sealing request.context tree) tree.faults later.faults error
-seals_none tree later request (managers.Fault fault) cause = cause
-seals_none tree later request (managers.Refusal refusal) cause = sym (seal_refusal request.context tree) ∙ cause.1 tt
-seals_none tree later request managers.KeyringFault cause = (sym (seal_refusal request.context tree) ∙ cause.1 tt, cause.0)
-seals_none tree later request managers.Memory cause = tt
+-- a tree that didn't fail gives nothing only where it refuses
+seals_none : (tree later : KeyringMeaning) (request : EncRequestValue) (error : ManagerError) → Stayed tree.faults later.faults → GivesNone (default_now tree) (default_now later) request error
+    → TreeSealsNone tree request error
+seals_none tree later request (managers.Fault fault) stayed cause = cause
+seals_none tree later request (managers.Refusal refusal) stayed cause = sym (seal_refusal request.context tree) ∙ cause.1 tt
+seals_none tree later request managers.KeyringFault stayed cause = omega (arith, stayed, cause.0)
+seals_none tree later request managers.Memory stayed cause = tt
 
 -- what the manager over the second tree may give
 abbrev giving : ManagerNow → ManagerNow → Giving
@@ -73,18 +74,14 @@ giving old new = record {
   gives_none = GivesNone old new;
 }
 
-abbrev pub tree_giving : KeyringMeaning → KeyringMeaning → Giving
-tree_giving tree later = record {
-  wraps = tree.wraps;
-  gives = TreeSeals tree;
-  gives_none = λ request. NoneFor (refusal_sealing request.context tree) tree.faults later.faults;
-}
+abbrev pub tree_giving : KeyringMeaning → Giving
+tree_giving tree = record { wraps = tree.wraps; gives = TreeSeals tree; gives_none = TreeSealsNone tree }
 
-tree_gives : (tree later : KeyringMeaning) → GivesMore (giving (default_now tree) (default_now later)) (tree_giving tree later)
-tree_gives tree later = record {
+tree_gives : (tree later : KeyringMeaning) → Stayed tree.faults later.faults → GivesMore (giving (default_now tree) (default_now later)) (tree_giving tree)
+tree_gives tree later stayed = record {
   wraps = refl;
   gives = λ request random m given. seals tree request random m given.0;
-  gives_none = λ request error cause. seals_none tree later request error cause;
+  gives_none = λ request error cause. seals_none tree later request error stayed cause;
 }
 
 -- what is left of it
@@ -115,29 +112,29 @@ ends_unasked run input taken output put entropy spent same unasked (errors.Fault
 ends_unasked run input taken output put entropy spent same unasked (errors.Refusal refusal) ends = ends
 ends_unasked run input taken output put entropy spent same unasked errors.Memory ends = ends
 
--- the course of a resealing over managers that held these trees
-module _ (asked : ResealWords) (given : List KeyValue) (tree left second later : KeyringMeaning) (opened opening : ManagerNow)
-    (allows : Allows (answering_of opened opening 0) (reseal_asked asked given tree left second later).opening.manager)
+-- the course of a resealing over managers that held these trees, of which the second didn't fail
+module _ (asked : ResealWords) (given : List KeyValue) (tree left second later : KeyringMeaning) (stayed : Stayed second.faults later.faults) (opened opening : ManagerNow)
+    (allows : Allows (answering_of opened opening 0) (reseal_asked asked given tree left second).opening.manager)
     (input taken : SourceState) (output put : SinkState) (entropy spent : EntropyState) where
   abbrev from : Resealing
   from = resealing_from opened opening (default_now second) (default_now later) 0 (limits_of asked) given asked.frame
 
   abbrev to : Resealing
-  to = reseal_asked asked given tree left second later
+  to = reseal_asked asked given tree left second
 
   pub tree_reseals : (r : Result (List KeyValue) InputError) → IfOk r (ResealsInput from input taken output put entropy spent) → IfOk r (ResealsInput to input taken output put entropy spent)
   tree_reseals (Err error) done = tt
   tree_reseals (Ok context) done =
-      input_more (answering_of opened opening 0) to.opening.manager (limits_of asked) given (giving (default_now second) (default_now later)) (tree_giving second later) asked.frame
-      allows (tree_gives second later) input taken output put entropy spent context done
+      input_more (answering_of opened opening 0) to.opening.manager (limits_of asked) given (giving (default_now second) (default_now later)) (tree_giving second) asked.frame
+      allows (tree_gives second later stayed) input taken output put entropy spent context done
 
   pub tree_ends : (same unasked : Type 0) (r : Result (List KeyValue) InputError) → IfErr r (ResealEnds from input taken output put entropy spent same unasked)
       → IfErr r (ResealEnds to input taken output put entropy spent same ⊤)
   tree_ends same unasked (Ok context) ends = tt
   tree_ends same unasked (Err error) ends =
       ends_unasked to input taken output put entropy spent same unasked error
-      (stops_more (answering_of opened opening 0) to.opening.manager (limits_of asked) given (giving (default_now second) (default_now later)) (tree_giving second later) asked.frame
-      allows (tree_gives second later) input taken output put entropy spent same unasked error ends)
+      (stops_more (answering_of opened opening 0) to.opening.manager (limits_of asked) given (giving (default_now second) (default_now later)) (tree_giving second) asked.frame
+      allows (tree_gives second later stayed) input taken output put entropy spent same unasked error ends)
 
 -- ---- the command
 
@@ -153,8 +150,8 @@ resealing_fails trees asked before after unchanged errors.Memory fails = inr (in
 pub resealing_ran : (trees : Trees) (asked : ResealWords) (before after : Objects) (unchanged : Unchanged) (code : ℕ)
     (given : List KeyValue) (tree left : KeyringMeaning) (between : ShelfState) (second later : KeyringMeaning) (r : Result (List KeyValue) InputError)
     → HasFirst trees asked before.shelf given tree left between → HasSecond trees asked between after.shelf second → TreeGoes second later
-    → IfOk r (ResealsInput (reseal_asked asked given tree left second later) before.input after.input before.output after.output before.entropy after.entropy)
-    → IfErr r (ResealEnds (reseal_asked asked given tree left second later) before.input after.input before.output after.output before.entropy after.entropy (same_streams unchanged) ⊤)
+    → IfOk r (ResealsInput (reseal_asked asked given tree left second) before.input after.input before.output after.output before.entropy after.entropy)
+    → IfErr r (ResealEnds (reseal_asked asked given tree left second) before.input after.input before.output after.output before.entropy after.entropy (same_streams unchanged) ⊤)
     → IfOk r (λ context. TellsOrLacksMemory context code before.report after.report)
     → IfErr r (λ error. Reports (resealing_failure error) code before.report after.report)
     → ResealRuns trees asked before after unchanged code

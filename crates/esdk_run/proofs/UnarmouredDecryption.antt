@@ -19,7 +19,7 @@ use Rattle.esdk_decrypt.specs.Decrypt.{Asked, Decrypts, DecryptEnds, HasFault, a
 use Rattle.esdk_run.specs.Failures.{decryption_failure}
 use Rattle.esdk_run.specs.UnarmouredDecrypt.{DecryptsAs, DecryptEndsAs, ReleasesSound, is_open}
 use Rattle.esdk_run.proofs.FormatFaults.{NamesFormat, cut_is_sound, never_armour, never_armour_before, never_cut, verdict_format}
-use Rattle.esdk_run.proofs.Unarmouring.{IsOfBytes, ReadsOver, judged_sound, text_decides, text_ends, text_reads, text_whole}
+use Rattle.esdk_run.proofs.Unarmouring.{IsOfBytes, ReadsOver, judged_sound, text_decides, text_ends, whole_reads}
 
 -- ---- bytes without a fault
 
@@ -89,15 +89,15 @@ ends_known : (old new : ManagerNow) (now : ℕ) (settings : Settings) (given : L
 ends_known old new now settings given seen read output put unwritten (errors.Fault (BadArmour number)) has = never_m27 old new now settings given seen read output put number has
 ends_known old new now settings given seen read output put unwritten (errors.Fault Truncated) has =
     let all = cut_sound old new now settings given seen read output put has in (refl, record { bytes = all.bytes; came = all.releases.came; end = all.because })
-ends_known old new now settings given seen read output put unwritten (errors.Fault fault) has = tt
+ends_known old new now settings given seen read output put unwritten (errors.Fault fault) has = refl
 ends_known old new now settings given seen read output put unwritten (errors.Outside SourceFault) fails =
     (fails.rose, record { bytes = fails.bytes; answer = fails.answer; releases = fails.releases; sound = fails.sound; because = tt })
 ends_known old new now settings given seen read output put unwritten (errors.Outside InputTooLong) long = (
   record { bytes = long.bytes; came = long.releases.came; most = long.most },
   record { bytes = long.bytes; answer = long.answer; releases = long.releases; sound = long.sound; because = tt },
 )
-ends_known old new now settings given seen read output put unwritten (errors.Outside outside) fails = tt
-ends_known old new now settings given seen read output put unwritten errors.Memory lacks = tt
+ends_known old new now settings given seen read output put unwritten (errors.Outside outside) fails = refl
+ends_known old new now settings given seen read output put unwritten errors.Memory lacks = refl
 
 -- ---- the text that gives them
 
@@ -107,10 +107,7 @@ module _ (old new : ManagerNow) (now : ℕ) (settings : Settings) (given : List 
 
   pub decrypted_text : (result : Result (List KeyValue) DecryptError) → ReadsOver input taken seen read (is_open result) (Ok tt) → IfOk result (Decrypts asked seen read output put)
       → IfOk result (DecryptsAs true asked input taken output put)
-  decrypted_text (Ok context) over done = (
-    text_whole over refl (record { bytes = done.bytes; came = done.releases.came; end = done.end }),
-    text_reads over _ done,
-  )
+  decrypted_text (Ok context) over done = whole_reads over _ refl (record { bytes = done.bytes; came = done.releases.came; end = done.end }) done
   decrypted_text (Err error) over done = tt
 
   pub text_undone : (result : Result (List KeyValue) DecryptError) → ReadsOver input taken seen read (is_open result) (Ok tt)

@@ -20,7 +20,7 @@ use Rattle.esdk_run.specs.Unarmoured.{given_by, outlook_of}
 use Rattle.esdk_run.specs.UnarmouredList.{ListEndsAs, ListsAs, WantsHeader, wants_header}
 use Rattle.esdk_run.proofs.FormatFaults.{header_names, is_format}
 use Rattle.esdk_run.proofs.Statuses.{IsFault, fault_status, not_done}
-use Rattle.esdk_run.proofs.Unarmouring.{IsOfBytes, ReadsOver, judged_sound, of_told, on_told, text_decides, text_ends, text_reads}
+use Rattle.esdk_run.proofs.Unarmouring.{IsOfBytes, ReadsOver, judged_sound, of_told, on_told, still_reads, text_decides, text_ends}
 
 -- ---- bytes that end within a header
 
@@ -60,7 +60,7 @@ ends_known uncommitted seen read output put unwritten (failures.Outside InputToo
   record { bytes = ended.0.bytes; came = ended.0.came; most = ended.0.most },
   (record { bytes = ended.0.bytes; came = ended.0.came; wanting = ended.0.wanting }, ended.1),
 )
-ends_known uncommitted seen read output put unwritten failure ended = tt
+ends_known uncommitted seen read output put unwritten failure ended = refl
 
 -- it ended within a header
 is_cut : (uncommitted : Bool) (seen read : SourceState) (output put : SinkState) (unwritten : Type 0) (result : Result (Unit {0}) Failure) → wants_header result ≡ true
@@ -77,7 +77,7 @@ is_cut uncommitted seen read output put unwritten (Err failure) undecided cause 
 module _ (uncommitted : Bool) (input taken seen read : SourceState) where
   pub listed_text : (old new : Option (List ℕ)) (result : Result (Unit {0}) Failure) → ReadsOver input taken seen read (wants_header result) (Ok tt)
       → OnOk result (Lists uncommitted seen read old new) → OnOk result (ListsAs true uncommitted input taken old new)
-  listed_text old new (Ok done) over lists = text_reads over _ lists
+  listed_text old new (Ok done) over lists = still_reads over _ refl lists
   listed_text old new (Err failure) over lists = tt
 
   module _ (output put : SinkState) (unwritten : Type 0) where

@@ -1,5 +1,5 @@
 -- What `decrypt` says of an input that tells an armour text.
-use Rattle.std.proofs.Common.{◌≡◌, ◌∙◌, ℕ, ◌^◌, ◌<◌, true, List, ◌++◌, length, Option, Some, None, refl, sym, ap, subst, arith, inl, inr}
+use Rattle.std.proofs.Common.{◌≡◌, ◌∙◌, ℕ, ◌^◌, ◌<◌, true, List, ◌++◌, length, Option, Some, None, refl, sym, ap, subst, arith}
 use Rattle.std.specs.Prelude.{⊤}
 use Rattle.std.proofs.lemmas.List.{append-nil}
 use Rattle.std.specs.Io.KnownBytes.{Appends, Consumes, IsAtEnd}
@@ -37,14 +37,14 @@ use Rattle.esdk_run.specs.UnarmouredTold.{IsWholeText, input_fault}
 use Rattle.esdk_run.proofs.Unarmouring.{of_told}
 
 -- what a reader has of a text that is told
-pub text_seen : (input taken : SourceState) (So : SourceState → SourceState → Type 0) (text : List ℕ) (x : ReadsText input taken So) → input.left ≡ Some text
+pub text_seen : {Reach : List ℕ → ℕ → Type 0} (input taken : SourceState) (So : SourceState → SourceState → Type 0) (text : List ℕ) (x : ReadsText Reach input taken So) → input.left ≡ Some text
     → x.seen.left ≡ Some (text_outlook text).bytes
 text_seen input taken So text x told = x.gives ∙ ap (λ (l : Option (List ℕ)). given_by l) told
 
 -- ---- only want of memory keeps a whole message in a whole text from being decrypted
 
-inner_memory : (reader : Reader) (before after : Objects) (unwritten : Type 0) (text : List ℕ) (error : DecryptError) → IsWholeText reader before.input text → NothingFails before after
-    → ReadsText before.input after.input (λ seen read. DecryptEnds (asked_by reader) seen read before.output after.output unwritten error) → error ≡ errors.Memory
+inner_memory : {Reach : List ℕ → ℕ → Type 0} (reader : Reader) (before after : Objects) (unwritten : Type 0) (text : List ℕ) (error : DecryptError) → IsWholeText reader before.input text → NothingFails before after
+    → ReadsText Reach before.input after.input (λ seen read. DecryptEnds (asked_by reader) seen read before.output after.output unwritten error) → error ≡ errors.Memory
 inner_memory reader before after unwritten text error whole nothing x =
     memory_alone reader x.seen x.read before.output after.output unwritten (text_outlook text).bytes error
     (record { told = text_seen before.input after.input _ text x whole.told; few = outlook_few text; whole = whole.whole }) (x.stayed nothing.reading) nothing.writing x.so
@@ -56,11 +56,9 @@ text_memory reader before after unwritten text (errors.Fault (BadArmour number))
     let both : Whole ≡ Bad number = sym whole.end ∙ bad in absurd (cc both)
 text_memory reader before after unwritten text (errors.Fault Truncated) whole nothing ends = inner_memory reader before after unwritten text (errors.Fault Truncated) whole nothing ends.1
 text_memory reader before after unwritten text (errors.Outside SourceFault) whole nothing ends = absurd (omega (arith, nothing.reading, ends.0))
-text_memory reader before after unwritten text (errors.Outside InputTooLong) whole nothing (inl long, x) =
-    let bad : (text_outlook text).end ≡ TooLong = of_told before.input.left (λ t. (text_outlook t).end ≡ TooLong) text whole.told long.told in
+text_memory reader before after unwritten text (errors.Outside InputTooLong) whole nothing ends =
+    let bad : (text_outlook text).end ≡ TooLong = of_told before.input.left (λ t. (text_outlook t).end ≡ TooLong) text whole.told ends.0.told in
     let both : Whole ≡ TooLong = sym whole.end ∙ bad in absurd (cc both)
-text_memory reader before after unwritten text (errors.Outside InputTooLong) whole nothing (inr untold, x) =
-    let both : Some text ≡ None = sym whole.told ∙ untold.0 in absurd (cc both)
 text_memory reader before after unwritten text (errors.Fault fault) whole nothing x = inner_memory reader before after unwritten text (errors.Fault fault) whole nothing x
 text_memory reader before after unwritten text (errors.Outside outside) whole nothing x = inner_memory reader before after unwritten text (errors.Outside outside) whole nothing x
 text_memory reader before after unwritten text errors.Memory whole nothing x = refl
@@ -100,8 +98,8 @@ fault_is reader seen read before after unwritten fault (errors.Outside outside) 
 fault_is reader seen read before after unwritten fault errors.Memory is ends = absurd (cc is)
 
 -- what was read is the first fault of all that the text gives
-first_of : (reader : Reader) (before after : Objects) (unwritten : Type 0) (text : List ℕ) (fault : Fault) (error : DecryptError) → before.input.left ≡ Some text
-    → decryption_failure error ≡ failures.Fault fault → ReadsText before.input after.input (λ seen read. DecryptEnds (asked_by reader) seen read before.output after.output unwritten error)
+first_of : {Reach : List ℕ → ℕ → Type 0} (reader : Reader) (before after : Objects) (unwritten : Type 0) (text : List ℕ) (fault : Fault) (error : DecryptError) → before.input.left ≡ Some text
+    → decryption_failure error ≡ failures.Fault fault → ReadsText Reach before.input after.input (λ seen read. DecryptEnds (asked_by reader) seen read before.output after.output unwritten error)
     → (fault_at_end (judged_by reader (text_outlook text).bytes).verdict ≡ Some fault)
     × Appends before.output.written after.output.written (content (judged_by reader (text_outlook text).bytes))
 first_of reader before after unwritten text fault error told is x =

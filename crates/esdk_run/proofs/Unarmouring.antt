@@ -1,12 +1,13 @@
 -- An input that is read as armour text, by what its source keeps.
-use Rattle.std.proofs.Common.{◌≡◌, ◌∙◌, ℕ, ◌-◌, ◌^◌, ◌<◌, ◌≤◌, Bool, true, false, List, [], ◌++◌, length, Option, Some, None, Ok, Err, refl, sym, ap, subst, arith, inl, inr}
-use Rattle.std.specs.Prelude.{IfSome, ⊤}
+use Rattle.std.proofs.Common.{◌≡◌, ◌⊎◌, ◌∙◌, ℕ, ◌+◌, ◌-◌, ◌^◌, ◌≤◌, Bool, true, false, List, [], ◌++◌, length, Option, Some, None, Ok, Err, refl, sym, ap, subst, arith, inl, inr}
+use Rattle.std.specs.Prelude.{IfSome}
 use Rattle.std.specs.declared.result.Result.{Result}
 use Rattle.std.specs.Option.{option_map}
-use Rattle.std.proofs.lemmas.List.{length-append}
-use Rattle.whole_input.proofs.Coming.{came_none}
+use Rattle.std.proofs.lemmas.Bool.{cases_lt}
+use Rattle.std.proofs.lemmas.List.{length-append, take_all}
+use Rattle.whole_input.proofs.Coming.{came_more, came_none}
 use Rattle.std.specs.Io.KnownBytes.{Consumes, IsAtEnd}
-use Rattle.esdk_fields.specs.Counts.{Rose}
+use Rattle.esdk_fields.specs.Counts.{Rose, Stayed}
 use Rattle.esdk_fields.specs.declared.faults.Fault.TheVariants.{BadArmour, Truncated}
 use Rattle.esdk_fields.specs.declared.refusals.Outside.TheVariants.{InputTooLong, SourceFault}
 use Rattle.esdk_base.specs.Streams.{OnTold, SourceState}
@@ -17,16 +18,17 @@ use Rattle.armour_core.specs.declared.source.UnarmouredSource.{UnarmouredSource}
 use Rattle.armour_core.specs.declared.text_end.TextEnd.{TextEnd}
 use Rattle.armour_core.specs.declared.text_end.TextEnd.TheVariants.{Bad, TooLong, Whole}
 use Rattle.armour_core.specs.Outlook.{Outlook, text_outlook}
-use Rattle.armour_core.specs.ReaderLaws.{outlasts_more}
-use Rattle.armour_core.specs.ReaderOutlook.{KeepsOutlook, Outlasts, ReadsOn, coming, pending, reader_outlook, told_end}
+use Rattle.armour_core.specs.Unarmoured.{groups_read, unarmoured}
+use Rattle.armour_core.specs.ReaderLaws.{fails_more, fails_none, gives_behind, reads_none, wanted_before}
+use Rattle.armour_core.specs.ReaderOutlook.{FailsAs, IsWanted, KeepsOutlook, Outlasts, ReadsOn, coming, gives, pending, reader_outlook, told_end}
 use Rattle.armour_core.proofs.Sizes.{outlook_few}
 use Rattle.esdk_decrypt.specs.declared.errors.DecryptError.{DecryptError}
 use Rattle.esdk_decrypt.specs.declared.errors.DecryptError.TheVariants as errors
 use Rattle.esdk_report.specs.declared.failure.Failure.{Failure}
 use Rattle.esdk_report.specs.declared.failure.Failure.TheVariants as failures
 use Rattle.esdk_run.specs.Failures.{decryption_failure}
-use Rattle.esdk_run.specs.Unarmoured.{EndsText, IsLongText, ReadsText, TextEnds, given_by}
-use Rattle.esdk_run.specs.UnarmouredEnd.{SeesAs, SeesEnd, left_of}
+use Rattle.esdk_run.specs.Unarmoured.{AllRead, EndsText, IsLongText, NoMoreTaken, ReadsText, TextEnds, given_by}
+use Rattle.esdk_run.specs.UnarmouredEnd.{IsReadOut, LooksOn, SeesAs, SeesEnd, left_of}
 
 -- ---- what is told
 
@@ -52,14 +54,15 @@ pub record ReadsOver (input taken seen read : SourceState) (sound : Bool) (judge
   pub n : ℕ
   pub outlook : (text : List ℕ) → reader_outlook r text ≡ text_outlook text
   pub none : r.pieces.taken ≡ 0
+  pub unread : seen.given ≡ 0
   pub zero : f ≡ 0
-  pub first : Outlasts input mid r s f m
-  pub later : Outlasts mid taken s t m n
+  pub first : Outlasts input mid r s seen.given read.given f m
+  pub later : LooksOn mid taken s t m n sound
   pub seen_left : seen.left ≡ left_of input r
   pub seen_faults : seen.faults ≡ f
   pub read_left : read.left ≡ left_of mid s
   pub read_faults : read.faults ≡ m
-  pub sees : sound ≡ true → m < 2 ^ 64 - 1 → SeesAs mid taken s t judged
+  pub sees : sound ≡ true → m ≡ 0 → SeesAs mid taken s t judged
   pub passes : sound ≡ false → judged ≡ Ok tt
 
 -- what such a source tells and counts
@@ -67,13 +70,13 @@ abbrev pub source_of : {S : Type 0} → (S → SourceState) → UnarmouredSource
 source_of state s = record { left = left_of (state s.text.now) s.reader; given = s.given; faults = s.faults }
 
 pub reads_over : {S : Type 0} (state : S → SourceState) (input back : S) (made read now : UnarmouredSource S) (called sound : Bool) (judged : Result (Unit {0}) DecryptError)
-    → made.text.now ≡ input → ((text : List ℕ) → reader_outlook made.reader text ≡ text_outlook text) → made.reader.pieces.taken ≡ 0 → made.faults ≡ 0
-    → Outlasts (state made.text.now) (state read.text.now) made.reader read.reader made.faults read.faults
-    → Outlasts (state read.text.now) (state now.text.now) read.reader now.reader read.faults now.faults
-    → called ≡ sound → (called ≡ true → read.faults < 2 ^ 64 - 1 → SeesAs (state read.text.now) (state now.text.now) read.reader now.reader judged)
+    → made.text.now ≡ input → ((text : List ℕ) → reader_outlook made.reader text ≡ text_outlook text) → made.reader.pieces.taken ≡ 0 → made.given ≡ 0 → made.faults ≡ 0
+    → Outlasts (state made.text.now) (state read.text.now) made.reader read.reader made.given read.given made.faults read.faults
+    → LooksOn (state read.text.now) (state now.text.now) read.reader now.reader read.faults now.faults called
+    → called ≡ sound → (called ≡ true → read.faults ≡ 0 → SeesAs (state read.text.now) (state now.text.now) read.reader now.reader judged)
     → (called ≡ false → judged ≡ Ok tt) → back ≡ now.text.now
     → ReadsOver (state input) (state back) (source_of state made) (source_of state read) sound judged
-reads_over {S} state input back made read now called sound judged text outlook none zero first later is sees passes is_back =
+reads_over {S} state input back made read now called sound judged text outlook none unread zero first later is sees passes is_back =
     let all : ReadsOver (state made.text.now) (state now.text.now) (source_of state made) (source_of state read) sound judged = record {
       mid = state read.text.now;
       r = made.reader;
@@ -84,9 +87,10 @@ reads_over {S} state input back made read now called sound judged text outlook n
       n = now.faults;
       outlook = outlook;
       none = none;
+      unread = unread;
       zero = zero;
       first = first;
-      later = later;
+      later = subst (λ (b : Bool). LooksOn (state read.text.now) (state now.text.now) read.reader now.reader read.faults now.faults b) is later;
       seen_left = refl;
       seen_faults = refl;
       read_left = refl;
@@ -108,13 +112,22 @@ rest_none : (left : Option (List ℕ)) (all bytes : List ℕ) → Consumes (Some
 rest_none None all bytes none end = absurd none
 rest_none (Some rest) all bytes is end = ap (λ (b : List ℕ). Some b) end
 
-front_of : (left : Option (List ℕ)) (all bytes : List ℕ) → Consumes (Some all) left bytes → length bytes ≤ length all
-front_of None all bytes none = absurd none
-front_of (Some rest) all bytes is = let long : length all ≡ length (bytes ++ rest) = ap length is in omega (arith, long, length-append bytes rest)
-
 always_sound : (sound : Bool) (judged : Result (Unit {0}) DecryptError) (error : DecryptError) → judged ≡ Err error → (sound ≡ false → judged ≡ Ok tt) → sound ≡ true
 always_sound true judged error is passes = refl
 always_sound false judged error is passes = let none : judged ≡ Ok tt = passes refl in absurd (cc none)
+
+-- text of which no more than 2^62 bytes are taken
+count_is : (text : List ℕ) → length text ≤ 2 ^ 62 → length (text_outlook text).bytes ≡ length (unarmoured text).bytes
+unfolding text_outlook
+count_is text few = ap (λ (t : List ℕ). length (unarmoured t).bytes) (take_all most_input text few)
+
+none_given : length (unarmoured []).bytes ≡ 0
+unfolding unarmoured groups_read
+none_given = refl
+
+-- what is so whatever is told
+always : (left : Option (List ℕ)) (P : Type 0) → P → OnTold left (λ bytes. P)
+always left P holds = on_told left (λ bytes. P) (λ bytes is. holds)
 
 -- ---- what is so of the text
 
@@ -130,13 +143,17 @@ pub record MostCame (seen read : SourceState) : Type 0 where
   pub came : Came seen read bytes
   pub most : MostTaken seen read bytes
 
--- What has to be so of the bytes for a command to end by this failure that read them: M27 isn't theirs, and M10 is behind all of them, which are sound.
+-- What has to be so of the bytes for a command to end by this failure that read them: M27 isn't theirs, M10 is behind all of them, which are sound, and where it isn't X1 or X6 they aren't.
 abbrev pub IsOfBytes : Failure → (seen read : SourceState) → (sound : Bool) → (Sound : Type 0) → Type 0
 IsOfBytes (failures.Fault (BadArmour number)) seen read sound Sound = ⊥
 IsOfBytes (failures.Fault Truncated) seen read sound Sound = (sound ≡ true) × AllCame seen read
 IsOfBytes (failures.Outside SourceFault) seen read sound Sound = Rose seen.faults read.faults × Sound
 IsOfBytes (failures.Outside InputTooLong) seen read sound Sound = MostCame seen read × Sound
-IsOfBytes failure seen read sound Sound = ⊤
+IsOfBytes failure seen read sound Sound = sound ≡ false
+
+-- all of the text that was taken
+abbrev pub whole_text : {input taken seen read : SourceState} {sound : Bool} {judged : Result (Unit {0}) DecryptError} → ReadsOver input taken seen read sound judged → List ℕ
+whole_text x = x.first.reads.text ++ x.later.awaits.reads.text
 
 module _ {input taken seen read : SourceState} {sound : Bool} {judged : Result (Unit {0}) DecryptError} (x : ReadsOver input taken seen read sound judged) where
   -- what is seen at first is what the text gives
@@ -146,37 +163,110 @@ module _ {input taken seen read : SourceState} {sound : Bool} {judged : Result (
   seen_told : (text : List ℕ) → input.left ≡ Some text → seen.left ≡ Some (text_outlook text).bytes
   seen_told text is = seen_gives ∙ ap (λ (l : Option (List ℕ)). given_by l) is
 
-  -- all of the text that was taken
-  all_taken : Outlasts input taken x.r x.t x.f x.n
-  all_taken = outlasts_more input x.mid taken x.r x.s x.t x.f x.m x.n x.first x.later
+  -- ---- how far the text was taken
 
-  pub text_reads : (So : SourceState → SourceState → Type 0) → So seen read → ReadsText input taken So
-  text_reads So so =
-      let all = all_taken in
-      record {
-        text = all.reads.text;
-        came = all.reads.came;
-        few = omega (arith, all.reads.taken, x.none, x.t.most);
-        seen = seen;
-        read = read;
-        gives = seen_gives;
-        stayed = λ still.
-            let kept : x.n ≡ x.f = all.stayed still in
-            omega (arith, kept, x.zero, x.seen_faults, x.read_faults, x.first.later, x.later.later);
-        so = so;
-      }
+  taken_whole : x.t.pieces.taken ≡ length (whole_text x)
+  taken_whole = omega (arith, x.first.reads.taken, x.later.awaits.reads.taken, x.none, length-append x.first.reads.text x.later.awaits.reads.text)
+
+  came_whole : Came input taken (whole_text x)
+  came_whole = came_more input x.mid taken x.first.reads.text x.later.awaits.reads.text x.first.reads.came x.later.awaits.reads.came
+
+  few_whole : length (whole_text x) ≤ 2 ^ 62
+  few_whole = omega (arith, taken_whole, x.t.most)
+
+  -- so many bytes a front of it gives
+  gives_count : (text : List ℕ) → length text ≤ 2 ^ 62 → gives x.r text ≡ length (unarmoured text).bytes
+  gives_count text few = ap (λ (o : Outlook). length o.bytes) (x.outlook text) ∙ count_is text few
+
+  gives_whole : gives x.r (whole_text x) ≡ x.first.handed + gives x.t []
+  gives_whole =
+      let first = x.first.reads.all x.later.awaits.reads.text (λ over. (x.later.awaits.reads.over over).0) in
+      let later = gives_behind x.mid taken x.s x.t 0 x.later.awaits.reads in
+      omega (arith, first, later)
+
+  -- so many were read
+  read_count : read.given ≡ x.first.handed
+  read_count =
+      let few = ap (λ (o : Outlook). length o.bytes) (x.outlook (whole_text x)) in
+      omega (arith, x.first.given, x.unread, gives_whole, few, outlook_few (whole_text x))
+
+  all_read : IsReadOut x.t → AllRead (whole_text x) read.given
+  all_read out = let count = gives_count (whole_text x) few_whole in omega (arith, count, gives_whole, read_count, out)
+
+  wanted_reach : IsWanted x.r (whole_text x) (x.first.handed + 0) → NoMoreTaken (whole_text x) read.given
+  wanted_reach (inl all) = let count = gives_count (whole_text x) few_whole in inl (omega (arith, count, all, read_count))
+  wanted_reach (inr last) =
+      let size = ap length last.all in
+      let count = gives_count last.before (omega (arith, size, length-append last.before last.piece, few_whole)) in
+      inr (record { before = last.before; piece = last.piece; all = last.all; few = last.few; was = omega (arith, count, last.was, read_count) })
+
+  -- where it isn't looked for the end
+  reach_still : sound ≡ false → NoMoreTaken (whole_text x) read.given
+  reach_still unsound = by_first x.first.wanted
+    where
+      none : x.later.awaits.reads.text ≡ []
+      none = x.later.still unsound
+
+      by_first : (x.first.reads.text ≡ []) ⊎ IsWanted x.r x.first.reads.text x.first.handed → NoMoreTaken (whole_text x) read.given
+      by_first (inl empty) =
+          let both : whole_text x ≡ [] = ap (λ (t : List ℕ). t ++ x.later.awaits.reads.text) empty ∙ none in
+          let count = gives_count (whole_text x) few_whole in
+          let nothing = ap (λ (t : List ℕ). length (unarmoured t).bytes) both in
+          inl (omega (arith, nothing, none_given, count, gives_whole, read_count))
+      by_first (inr wanted) = wanted_reach (wanted_before input x.mid taken x.r x.s x.t x.first.handed 0 x.first.reads x.later.awaits.reads none wanted)
+
+  -- where a read failed, all bytes were read
+  failed_out : Rose seen.faults read.faults → IsReadOut x.t
+  failed_out rose =
+      let some : 1 ≤ x.m = omega (arith, rose, x.zero, x.seen_faults, x.read_faults) in
+      ap (λ (r : ArmourReader). gives r []) (x.later.awaits.stuck some).0 ∙ x.first.spent x.zero some
+
+  -- ---- failures
+
+  all_fails : FailsAs input taken x.f x.n
+  all_fails = fails_more input x.mid taken x.f x.m x.n x.first.faults x.later.fails
+
+  still_stayed : Stayed input.faults taken.faults → Stayed seen.faults read.faults
+  still_stayed still = elim (cases_lt 0 x.n) [
+    | inl some ↦ let rose = all_fails.failed x.zero (omega (arith, some)) in absurd (omega (arith, rose, still))
+    | inr none ↦ omega (arith, none, x.zero, x.seen_faults, x.read_faults, x.later.fails.later)
+  ]
 
   -- where a read of the source failed, one of the text did
   rose_text : Rose seen.faults read.faults → Rose input.faults taken.faults
-  rose_text rose = all_taken.failed (omega (arith, rose, x.zero, x.seen_faults, x.read_faults, x.later.later))
+  rose_text rose = all_fails.failed x.zero (omega (arith, rose, x.zero, x.seen_faults, x.read_faults, x.later.fails.later))
 
   -- where no read failed, none of the text did
   none_failed : read.faults ≡ seen.faults → x.mid.faults ≡ input.faults
   none_failed same =
       let kept : x.m ≡ x.f = sym x.read_faults ∙ same ∙ x.seen_faults in
-      x.first.same kept (omega (arith, kept, x.zero))
+      x.first.faults.same kept (omega (arith, kept, x.zero))
 
-  -- and the end was judged as it is seen
+  -- ---- what was read
+
+  pub text_reads : (Reach : List ℕ → ℕ → Type 0) (So : SourceState → SourceState → Type 0) → So seen read → OnTold input.left (λ whole. Reach (whole_text x) read.given) → ReadsText Reach input taken So
+  text_reads Reach So so reach = record {
+    text = whole_text x;
+    came = came_whole;
+    few = few_whole;
+    seen = seen;
+    read = read;
+    gives = seen_gives;
+    begins = x.unread;
+    reach = reach;
+    stayed = still_stayed;
+    so = so;
+  }
+
+  pub still_reads : (So : SourceState → SourceState → Type 0) → sound ≡ false → So seen read → ReadsText NoMoreTaken input taken So
+  still_reads So unsound so = text_reads NoMoreTaken So so (always input.left _ (reach_still unsound))
+
+  out_reads : (So : SourceState → SourceState → Type 0) → IsReadOut x.t → So seen read → ReadsText AllRead input taken So
+  out_reads So out so = text_reads AllRead So so (always input.left _ (all_read out))
+
+  -- ---- how the text ends
+
+  -- the end was judged as it is seen
   sees_end : sound ≡ true → read.faults ≡ seen.faults → SeesAs x.mid taken x.s x.t judged
   sees_end is same = x.sees is (omega (arith, x.read_faults, same, x.seen_faults, x.zero))
 
@@ -194,47 +284,50 @@ module _ {input taken seen read : SourceState} {sound : Bool} {judged : Result (
 
   is_long : read.faults ≡ seen.faults → SeesEnd x.mid taken x.s TooLong → x.t.pieces.taken ≡ most_input → IsLongText input taken
   is_long same sees taken_is =
-      let all = all_taken in
       let ends = ends_text TooLong same sees in
       record {
-        text = all.reads.text;
-        came = all.reads.came;
-        most = record { faults = ends.faults; count = omega (arith, all.reads.taken, x.none, taken_is) };
+        text = whole_text x;
+        came = came_whole;
+        most = record { faults = ends.faults; count = omega (arith, taken_whole, taken_is) };
         told = ends.told;
       }
 
-  -- bytes that come to 2^62 are of a text that isn't told: one that is gives fewer
-  long_untold : (So : SourceState → SourceState → Type 0) → MostCame seen read → So seen read → (input.left ≡ None) × ReadsText input taken So
-  long_untold So long so = (by_left input.left refl, text_reads So so)
-    where
-      by_left : (left : Option (List ℕ)) → input.left ≡ left → input.left ≡ None
-      by_left None is = is
-      by_left (Some text) is =
-          let seen_is : seen.left ≡ Some (text_outlook text).bytes = seen_told text is in
-          let many : length long.bytes ≤ length (text_outlook text).bytes =
-          front_of read.left (text_outlook text).bytes long.bytes (subst (λ (l : Option (List ℕ)). Consumes l read.left long.bytes) seen_is long.came.consumed) in
-          absurd (omega (arith, many, long.most.count, outlook_few text))
+  -- no text gives so many bytes
+  never_most : MostCame seen read → ⊥
+  never_most long =
+      let few = ap (λ (o : Outlook). length o.bytes) (x.outlook (whole_text x)) in
+      omega (arith, long.came.given, long.most.count, x.unread, read_count, gives_whole, few, outlook_few (whole_text x))
 
 module _ {input taken seen read : SourceState} {sound : Bool} (x : ReadsOver input taken seen read sound (Ok tt)) where
+  -- behind all bytes that are told
+  sees_whole : sound ≡ true → AllCame seen read → (text : List ℕ) → input.left ≡ Some text → SeesEnd x.mid taken x.s Whole × IsReadOut x.t
+  sees_whole is all text told =
+      let seen_is : seen.left ≡ Some (text_outlook text).bytes = seen_told x text told in
+      let none : read.left ≡ Some [] =
+      rest_none read.left (text_outlook text).bytes all.bytes (subst (λ (l : Option (List ℕ)). Consumes l read.left all.bytes) seen_is all.came.consumed) all.end.end in
+      (sees_end x is all.end.faults).1 (sym x.read_left ∙ none)
+
   -- the text is whole behind sound bytes of which all came
-  pub text_whole : sound ≡ true → AllCame seen read → EndsText input taken Whole
+  text_whole : sound ≡ true → AllCame seen read → EndsText input taken Whole
   text_whole is all = record {
-    told = on_told input.left (λ text. (text_outlook text).end ≡ Whole) (λ text told.
-        let seen_is : seen.left ≡ Some (text_outlook text).bytes = seen_told x text told in
-        let none : read.left ≡ Some [] =
-        rest_none read.left (text_outlook text).bytes all.bytes (subst (λ (l : Option (List ℕ)). Consumes l read.left all.bytes) seen_is all.came.consumed) all.end.end in
-        ((sees_end x is all.end.faults).1 (sym x.read_left ∙ none)).told (text_outlook text).end (told_mid x text told));
+    told = on_told input.left (λ text. (text_outlook text).end ≡ Whole) (λ text told. (sees_whole is all text told).0.told (text_outlook text).end (told_mid x text told));
     faults = (sees_end x is all.end.faults).0 ∙ none_failed x all.end.faults;
   }
+
+  pub whole_reads : (So : SourceState → SourceState → Type 0) → sound ≡ true → AllCame seen read → So seen read → EndsText input taken Whole × ReadsText AllRead input taken So
+  whole_reads So is all so = (
+    text_whole is all,
+    text_reads x AllRead So so (on_told input.left _ (λ text told. all_read x (sees_whole is all text told).1)),
+  )
 
   -- a command ends by what it read
   pub text_ends : (So All Sound : SourceState → SourceState → Type 0) (failure : Failure) → So seen read → IsOfBytes failure seen read sound (Sound seen read)
       → TextEnds failure input taken So All Sound
   text_ends So All Sound (failures.Fault (BadArmour number)) so known = absurd known
-  text_ends So All Sound (failures.Fault Truncated) so known = (text_whole known.0 known.1, text_reads x So so)
-  text_ends So All Sound (failures.Outside SourceFault) so known = (rose_text x known.0, text_reads x Sound known.1)
-  text_ends So All Sound (failures.Outside InputTooLong) so known = (inr (long_untold x So known.0 so), text_reads x Sound known.1)
-  text_ends So All Sound failure so known = text_reads x So so
+  text_ends So All Sound (failures.Fault Truncated) so known = whole_reads So known.0 known.1 so
+  text_ends So All Sound (failures.Outside SourceFault) so known = (rose_text x known.0, out_reads x Sound (failed_out x known.0) known.1)
+  text_ends So All Sound (failures.Outside InputTooLong) so known = absurd (never_most x known.0)
+  text_ends So All Sound failure so known = still_reads x So known so
 
 -- only behind sound bytes the text's end is an error
 pub judged_sound : {input taken seen read : SourceState} {sound : Bool} (error : DecryptError) → ReadsOver input taken seen read sound (Err error) → sound ≡ true
@@ -245,18 +338,18 @@ pub text_decides : {input taken seen read : SourceState} {sound : Bool} (So All 
     → ReadsOver input taken seen read sound (Err error) → read.faults ≡ seen.faults → All seen read → Sound seen read
     → TextEnds (decryption_failure error) input taken So All Sound
 text_decides So All Sound (errors.Fault (BadArmour number)) x same all front =
-    (ends_text x (Bad number) same (sees_end x (judged_sound _ x) same), text_reads x All all)
+    let sees = sees_end x (judged_sound _ x) same in (ends_text x (Bad number) same sees.0, out_reads x All sees.1 all)
 text_decides So All Sound (errors.Outside SourceFault) x same all front =
-    (let rose = sees_end x (judged_sound _ x) same in let kept = none_failed x same in omega (arith, rose, kept), text_reads x Sound front)
+    let sees = sees_end x (judged_sound _ x) same in let kept = none_failed x same in (omega (arith, sees.0, kept), out_reads x Sound sees.1 front)
 text_decides So All Sound (errors.Outside InputTooLong) x same all front =
-    let sees = sees_end x (judged_sound _ x) same in (inl (is_long x same sees.0 sees.1), text_reads x Sound front)
+    let sees = sees_end x (judged_sound _ x) same in (is_long x same sees.0 sees.1, out_reads x Sound sees.2 front)
 text_decides So All Sound (errors.Fault fault) x same all front = absurd (sees_end x (judged_sound _ x) same)
 text_decides So All Sound (errors.Outside outside) x same all front = absurd (sees_end x (judged_sound _ x) same)
 text_decides So All Sound errors.Memory x same all front = absurd (sees_end x (judged_sound _ x) same)
 
 -- ---- memory ran out for the source
 
-pub unread_text : (input : SourceState) (So : SourceState → SourceState → Type 0) → ((seen : SourceState) → So seen seen) → ReadsText input input So
+pub unread_text : (input : SourceState) (So : SourceState → SourceState → Type 0) → ((seen : SourceState) → So seen seen) → ReadsText NoMoreTaken input input So
 unread_text input So so =
     let seen : SourceState = record { left = given_by input.left; given = 0; faults = 0 } in
     record {
@@ -266,14 +359,25 @@ unread_text input So so =
       seen = seen;
       read = seen;
       gives = refl;
+      begins = refl;
+      reach = always input.left _ (inl none_given);
       stayed = λ _. omega arith;
       so = so seen;
     }
 
 -- ---- the judge
 
+-- nothing is taken
+pub looks_none : (input : SourceState) (r : ArmourReader) (faults : ℕ) (sound : Bool) → LooksOn input input r r faults faults sound
+unfolding reads_none
+looks_none input r faults sound = record { awaits = record { reads = reads_none input r; last = inl refl; stuck = λ some. (refl, refl) }; fails = fails_none input faults; still = λ unsound. refl }
+
+-- what is so of an end that was seen
+pub of_end : (ending : Option TextEnd) (end : TextEnd) (P : Type 0) → ending ≡ Some end → IfSome ending (λ e. P) → P
+of_end ending end P is holds = subst (λ (o : Option TextEnd). IfSome o (λ e. P)) is holds
+
 -- the end that was seen is the one that is told
-pub end_seen : (before now : SourceState) (old new : ArmourReader) (ending : Option TextEnd) (end : TextEnd) → ReadsOn before now old new
+pub end_seen : (before now : SourceState) (old new : ArmourReader) (ending : Option TextEnd) (end : TextEnd) → ReadsOn before now old new 0
     → ((told : TextEnd) → told_end now new ≡ Some told → IfSome ending (λ e. e ≡ told)) → ending ≡ Some end → now.faults ≡ before.faults
     → SeesEnd before now old end
 end_seen before now old new ending end reads seen is same = record {

@@ -61,7 +61,8 @@ pub record HasTreeFor (trees : Trees) (asked : ExtractWords) (before after : Obj
   pub files : middle.files ≡ before.shelf.files
 
 -- No more of the message's file was read than the header, up to a piece behind it, and the slots
--- that hold the range.
+-- that the range names; where the manager answered, `Extracts` and `ExtractEnds` say: and the slots
+-- that are taken.
 abbrev pub ReadsOfFile : ExtractWords → ShelfState → ShelfState → Type 0
 ReadsOfFile asked middle after = OnFile middle asked.from
     (λ bytes. after.given ≤ middle.given + most_read no_limits (range_asked asked) bytes)
@@ -72,7 +73,7 @@ pub record ExtractsRange (trees : Trees) (asked : ExtractWords) (before after : 
   pub tree_for : HasTreeFor trees asked before after
   pub written : ℕ
   pub done : Extracts (extract_asked asked tree_for.given tree_for.tree tree_for.left) (range_asked asked)
-      tree_for.middle asked.from before.output after.output written
+      tree_for.middle after.shelf asked.from before.output after.output written
   pub faults : after.shelf.faults ≡ tree_for.middle.faults
   pub reads : ReadsOfFile asked tree_for.middle after.shelf
 

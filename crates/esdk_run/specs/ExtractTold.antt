@@ -17,7 +17,7 @@ use Rattle.message_format.specs.Judgement.{content}
 use Rattle.message_format.specs.Reading.{unlocking}
 use Rattle.esdk_decrypt.specs.Told.{Reader, judged_by}
 use Rattle.extract_core.specs.Extracted.{ByteRange, Extraction, extracted, in_range}
-use Rattle.extract_core.specs.Extract.{IsHeaderOf, most_read}
+use Rattle.extract_core.specs.Extract.{IsHeaderOf, most_read, most_taken}
 use Rattle.extract_core.specs.Laws.{BeginsWithin, EndsAsItBegins}
 use Rattle.whole_input.specs.File.{most_file}
 use Rattle.whole_input.specs.Pieces.{most_piece}
@@ -32,6 +32,13 @@ use Rattle.esdk_run.specs.Trees.{Trees}
 -- what this reader extracts of a message
 abbrev pub extracted_by : Reader → List ℕ → ByteRange → Extraction
 extracted_by reader bytes range = extracted bytes reader.settings
+    (unlocking bytes reader.settings reader.given reader.required reader.keys) range
+
+-- No more was read than the keyring file and, of this message, what this reader reads: the header,
+-- up to a piece behind it, and the slots that are taken.
+abbrev pub ReadsTaken : Reader → List ℕ → ByteRange → ShelfState → ShelfState → Type 0
+ReadsTaken reader bytes range old new = new.given ≤ old.given + most_file + most_piece
+    + most_taken bytes reader.settings
     (unlocking bytes reader.settings reader.given reader.required reader.keys) range
 
 -- ---- the tree that is given back
@@ -61,14 +68,17 @@ abbrev pub IfNoneFailedBefore : Trees → ExtractWords → ShelfState → Type 0
 IfNoneFailedBefore trees asked old So =
     (middle : ShelfState) × IfNoneFailed trees asked.keyring old middle So
 
--- The output gained what is extracted, which no fault ends.
+-- The output gained what is extracted, which no fault ends, and no slot was read behind those that
+-- are taken.
 pub record GainsRange (reader : Reader) (asked : ExtractWords) (bytes : List ℕ)
     (before after : Objects) : Type 0 where
   pub sound : (extracted_by reader bytes (range_asked asked)).fault ≡ None
   pub gained : Appends before.output.written after.output.written
       (extracted_by reader bytes (range_asked asked)).part
+  pub read : ReadsTaken reader bytes (range_asked asked) before.shelf after.shelf
 
--- The output gained what is extracted before this fault, and the report the fault's line.
+-- The output gained what is extracted before this fault, and the report the fault's line; no slot
+-- was read behind the one that has it.
 pub record NamesExtractFault (reader : Reader) (asked : ExtractWords) (bytes : List ℕ)
     (before after : Objects) : Type 0 where
   pub fault : Fault
@@ -76,8 +86,10 @@ pub record NamesExtractFault (reader : Reader) (asked : ExtractWords) (bytes : L
   pub gained : Appends before.output.written after.output.written
       (extracted_by reader bytes (range_asked asked)).part
   pub line : Gains (printed_line (fault_line fault)) before.report after.report
+  pub read : ReadsTaken reader bytes (range_asked asked) before.shelf after.shelf
 
--- `extract` writes what is extracted of the file, and names the fault that ends it.
+-- `extract` writes what is extracted of the file, and names the fault that ends it; of the file it
+-- reads no slot behind those that are taken.
 abbrev pub SaysWhatItExtracts : Trees → ExtractWords → Objects → Objects → ℕ → Type 0
 SaysWhatItExtracts trees asked before after code =
     (given : List KeyValue) (keys : List WrapKeyValue) (bytes : List ℕ)
@@ -137,7 +149,8 @@ ExtractsOfContent trees asked before after code =
 -- ---- how much is read
 
 -- Of a file that the shelf tells no more is read than the header, up to a piece behind it, and the
--- slots that hold the range, beside the keyring file; unless memory runs out.
+-- slots that the range names, beside the keyring file; unless memory runs out. That it is no more
+-- than the slots that are taken, `SaysWhatItExtracts` says.
 abbrev pub ReadsNoMore : ExtractWords → Objects → Objects → ℕ → Type 0
 ReadsNoMore asked before after code = (bytes : List ℕ) → Holds before.shelf.files asked.from bytes
     → code ≢ 5

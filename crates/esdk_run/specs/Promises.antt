@@ -121,7 +121,7 @@ pub record Promises (trees : Trees) (words : Words) (before after : Objects)
   pub extract_tree : On requests.Extract words
       (λ asked. ComesBackBefore trees asked before.shelf after.shelf code)
   -- `extract`: of a file that the shelf tells the range is written, and the fault that ends it is
-  -- named.
+  -- named; no slot behind those that are taken is read.
   pub extraction : On requests.Extract words
       (λ asked. SaysWhatItExtracts trees asked before after code)
   -- `extract`: a range without a fault is done, unless memory runs out or an object fails.

@@ -1,18 +1,20 @@
 -- What the command `reseal` comes to.
-use Rattle.std.specs.Prelude.{◌≡◌, ◌⊎◌, ℕ, List, [], ◌∷◌, length, take, drop, ⊤, Option, option_map, None, IfSome}
+use Rattle.std.specs.Prelude.{◌≡◌, ◌⊎◌, ℕ, List, [], ◌∷◌, length, take, drop, ⊤, true}
+use Rattle.std.specs.Prelude.{Option, option_map, None, Some, IfSome}
 use Rattle.esdk_args.specs.declared.request.ResealWords.{ResealWords}
 use Rattle.esdk_base.specs.Streams.{ShelfState}
 use Rattle.esdk_fields.specs.declared.refusals.Outside.TheVariants as outsides
 use Rattle.esdk_fields.specs.declared.refusals.Refusal.{Refusal}
 use Rattle.context_codec.specs.Context.{KeyValue}
 use Rattle.header_codec.specs.declared.settings.Settings.{Settings}
+use Rattle.keyring_trait.specs.declared.manager_errors.ManagerError.{ManagerError}
+use Rattle.keyring_trait.specs.declared.manager_errors.ManagerError.TheVariants as managers
 use Rattle.keyring_trait.specs.declared.served.Served.TheVariants.{Direct}
 use Rattle.keyring_trait.specs.Keyring.{KeyringMeaning}
 use Rattle.keyring_trait.specs.Manager.{refusal_named, reserved_used}
 use Rattle.keyring_trait.specs.Materials.{EncMaterialsValue}
 use Rattle.keyring_trait.specs.Requests.{EncRequestValue}
-use Rattle.keyring_trait.specs.Wrapping.{first_some, ivs_of, made}
-use Rattle.esdk_encrypt.specs.Told.{NoneFor}
+use Rattle.keyring_trait.specs.Wrapping.{WrapKeyValue, first_some, ivs_of, made}
 use Rattle.reseal_core.specs.declared.errors.InputError.{InputError}
 use Rattle.reseal_core.specs.declared.errors.InputError.TheVariants as errors
 use Rattle.reseal_core.specs.Reseal.{ResealEnds, Resealing, ResealsInput}
@@ -52,11 +54,18 @@ pub record TreeSeals (tree : KeyringMeaning) (request : EncRequestValue) (random
       (ivs_of tree.wraps (drop 32 random)))
   pub served : materials.served ≡ Direct
 
+-- Why nothing is given: the tree refuses the request. It doesn't fail. Want of memory is free.
+abbrev pub TreeSealsNone : KeyringMeaning → EncRequestValue → ManagerError → Type 0
+TreeSealsNone tree request (managers.Refusal refusal) =
+    refusal_sealing request.context tree ≡ Some refusal
+TreeSealsNone tree request managers.Memory = ⊤
+TreeSealsNone tree request error = ⊥
+
 -- What is asked for, with these pairs given: of a first tree that means this before and that after
--- the run, and of such a second one.
+-- the run, and of this second one.
 abbrev pub reseal_asked : ResealWords → List KeyValue → KeyringMeaning → KeyringMeaning
-    → KeyringMeaning → KeyringMeaning → Resealing
-reseal_asked asked given tree left second later = record {
+    → KeyringMeaning → Resealing
+reseal_asked asked given tree left second = record {
   opening = record {
     manager = record {
       finds = TreeFinds (required_in asked.pairs) tree left;
@@ -68,8 +77,7 @@ reseal_asked asked given tree left second later = record {
   };
   wraps = second.wraps;
   gives = TreeSeals second;
-  gives_none = λ request. NoneFor (refusal_sealing request.context second) second.faults
-      later.faults;
+  gives_none = TreeSealsNone second;
   size = asked.frame;
 }
 
@@ -82,11 +90,14 @@ pub record HasFirst (trees : Trees) (asked : ResealWords) (old : ShelfState) (gi
   pub has : HasTree trees asked.pairs asked.keyring old between given tree left
   pub files : between.files ≡ old.files
 
--- The second file is read as a tree, in which no plug stands.
+-- The second file is read as a tree, in which no plug stands: it never fails, and tells its keys.
 pub record HasSecond (trees : Trees) (asked : ResealWords) (between new : ShelfState)
     (second : KeyringMeaning) : Type 0 where
   pub file : TreeIs trees.plain between new asked.to_keyring second
   pub lawful : IsLawful second
+  pub steady : second.steady ≡ true
+  pub keys : List WrapKeyValue
+  pub told : second.keys ≡ Some keys
 
 -- The second file gives no tree for this reason. The first tree is given back as it was.
 pub record HasNoSecond (trees : Trees) (asked : ResealWords) (old new : ShelfState)
@@ -112,7 +123,7 @@ pub record HasBoth (trees : Trees) (asked : ResealWords) (before after : Objects
   pub later : KeyringMeaning
   pub sealing : HasSecond trees asked between after.shelf second
   pub goes : TreeGoes second later
-  pub so : law (reseal_asked asked given tree left second later)
+  pub so : law (reseal_asked asked given tree left second)
 
 -- the whole input is a whole message to the first tree, with this whole context, and the output
 -- gained the new message of its content

@@ -1,6 +1,6 @@
 -- What `reseal` says over the tree that it gives back, where the shelf tells the second keyring
 -- file.
-use Rattle.std.specs.Prelude.{◌≡◌, ℕ, ◌^◌, ◌<◌, ◌≤◌, ◌⊎◌, List, [], length, true}
+use Rattle.std.specs.Prelude.{◌≡◌, ℕ, ◌^◌, ◌<◌, ◌≤◌, ◌⊎◌, List, [], length}
 use Rattle.std.specs.Prelude.{None, Some, Ok}
 use Rattle.std.specs.Io.KnownBytes.{Appends}
 use Rattle.esdk_args.specs.declared.request.ResealWords.{ResealWords}
@@ -69,16 +69,21 @@ abbrev pub without_plugs : Trees → Trees
 without_plugs trees = record trees { read = trees.plain }
 
 -- The words give these pairs, a tree is given back that tells these keys, and the shelf tells that
--- the second file holds a tree that tells those others.
+-- the second file holds a tree.
 pub record ReadsBoth (trees : Trees) (asked : ResealWords) (before : Objects)
-    (given : List KeyValue) (keys others : List WrapKeyValue) : Type 0 where
+    (given : List KeyValue) (keys : List WrapKeyValue) : Type 0 where
   pub left : KeyringMeaning
   pub pairs : context_in asked.pairs ≡ Ok given
   pub kept : trees.kept ≡ Some left
   pub told : left.keys ≡ Some keys
   pub second : KeyringMeaning
   pub holds : HoldsTree (without_plugs trees) before.shelf.files asked.to_keyring second
-  pub second_told : second.keys ≡ Some others
+
+-- The tree tells its keys, and this is so of them.
+pub record OfItsKeys (tree : KeyringMeaning) (So : List WrapKeyValue → Type 0) : Type 0 where
+  pub keys : List WrapKeyValue
+  pub told : tree.keys ≡ Some keys
+  pub so : So keys
 
 -- This is so where no keyring of the first tree failed in the run, and its count isn't at its end.
 abbrev pub IfNoneFailedFirst : Trees → ResealWords → ShelfState → Type 0 → Type 0
@@ -126,18 +131,20 @@ pub record NamesResealFault (reader : Reader) (writer : List KeyValue → List K
 -- frame.
 abbrev pub SaysWhatItReseals : Trees → ResealWords → Objects → Objects → ℕ → Type 0
 SaysWhatItReseals trees asked before after code =
-    (given : List KeyValue) (keys others : List WrapKeyValue) (bytes : List ℕ)
-    → ReadsBoth trees asked before given keys others → before.input.left ≡ Some bytes
+    (given : List KeyValue) (keys : List WrapKeyValue) (bytes : List ℕ)
+    (both : ReadsBoth trees asked before given keys) → before.input.left ≡ Some bytes
     → IfNoneFailedFirst trees asked before.shelf
-    ((code ≡ 0 → ShowsResealed (reseal_reader asked given keys) (reseal_writer asked others) others
-    bytes before after code)
-    × (code ≡ 1 → NamesResealFault (reseal_reader asked given keys) (reseal_writer asked others)
-    others asked.frame bytes before after))
+    ((code ≡ 0 → OfItsKeys both.second
+    (λ others. ShowsResealed (reseal_reader asked given keys) (reseal_writer asked others) others
+    bytes before after code))
+    × (code ≡ 1 → OfItsKeys both.second
+    (λ others. NamesResealFault (reseal_reader asked given keys) (reseal_writer asked others) others
+    asked.frame bytes before after)))
 
 -- ---- what is resealed
 
 -- The input tells these bytes, which are a whole message to the reader. The second tree refuses
--- nothing to its whole context and never fails, and a new message has room for its content.
+-- nothing to its whole context, and a new message has room for its content.
 pub record CanBeResealed (reader : Reader) (second : KeyringMeaning) (size : ℕ)
     (input : SourceState) (bytes : List ℕ) : Type 0 where
   pub whole : List KeyValue
@@ -146,7 +153,6 @@ pub record CanBeResealed (reader : Reader) (second : KeyringMeaning) (size : ℕ
   pub input_whole : IsWholeInput reader input bytes
   pub unlocked : unlocked_to reader bytes ≡ Unlocks whole only key
   pub unrefused : refusal_sealing whole second ≡ None
-  pub steady : second.steady ≡ true
   pub room : HasRoom size (content (judged_by reader bytes))
 
 -- Nor does a count of faults of the shelf or the entropy rise, and none is at its end.
@@ -157,8 +163,8 @@ pub record NothingElseFails (before after : Objects) : Type 0 where
 -- An input that is a whole message is resealed, unless memory runs out or an object fails.
 abbrev pub ResealsWholeMessages : Trees → ResealWords → Objects → Objects → ℕ → Type 0
 ResealsWholeMessages trees asked before after code =
-    (given : List KeyValue) (keys others : List WrapKeyValue) (bytes : List ℕ)
-    (both : ReadsBoth trees asked before given keys others)
+    (given : List KeyValue) (keys : List WrapKeyValue) (bytes : List ℕ)
+    (both : ReadsBoth trees asked before given keys)
     → CanBeResealed (reseal_reader asked given keys) both.second asked.frame before.input bytes
     → NothingFails before after → NothingElseFails before after
     → IfNoneFailedFirst trees asked before.shelf (IsDoneOrMemory code)
@@ -178,9 +184,10 @@ pub record ShowsRotated (m : Written) (others : List WrapKeyValue) (size : ℕ)
 -- Four bytes hold the new frame length.
 abbrev pub RotatesWhatIsWritten : Trees → ResealWords → Objects → Objects → ℕ → Type 0
 RotatesWhatIsWritten trees asked before after code =
-    (given : List KeyValue) (keys others writers : List WrapKeyValue) (m : Written)
-    → ReadsBoth trees asked before given keys others
+    (given : List KeyValue) (keys writers : List WrapKeyValue) (m : Written)
+    (both : ReadsBoth trees asked before given keys)
     → IsWrittenFor (reseal_reader asked given keys) writers m
     → 1 ≤ asked.frame → asked.frame < 2 ^ 32 → before.input.left ≡ Some (written_message m)
     → IfNoneFailedFirst trees asked before.shelf
-    (code ≡ 0 → ShowsRotated m others asked.frame before after code)
+    (code ≡ 0 → OfItsKeys both.second
+    (λ others. ShowsRotated m others asked.frame before after code))

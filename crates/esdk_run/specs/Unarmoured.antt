@@ -1,15 +1,17 @@
 -- An input that is read as armour text, where the words ask for that: what it gives, and how a
 -- command ends that reads it so.
-use Rattle.std.specs.Prelude.{◌≡◌, ◌⊎◌, ℕ, ◌≤◌, ◌^◌, Bool, true, false, List, length, Option, None}
+use Rattle.std.specs.Prelude.{◌≡◌, ◌⊎◌, ℕ, ◌<◌, ◌≤◌, ◌^◌, Bool, true, false, List, length, Option}
 use Rattle.std.specs.Option.{option_map}
 use Rattle.esdk_fields.specs.Counts.{Rose, Stayed}
 use Rattle.esdk_fields.specs.declared.faults.Fault.TheVariants.{BadArmour, Truncated}
 use Rattle.esdk_fields.specs.declared.refusals.Outside.TheVariants.{InputTooLong, SourceFault}
 use Rattle.esdk_base.specs.Streams.{OnTold, SourceState}
+use Rattle.whole_input.specs.Pieces.{APieceBehind}
 use Rattle.whole_input.specs.Taken.{Came, MostTaken}
 use Rattle.armour_core.specs.Outlook.{Outlook, text_outlook}
 use Rattle.armour_core.specs.declared.text_end.TextEnd.{TextEnd}
 use Rattle.armour_core.specs.declared.text_end.TextEnd.TheVariants.{Bad, TooLong, Whole}
+use Rattle.armour_core.specs.Unarmoured.{unarmoured}
 use Rattle.esdk_report.specs.declared.failure.Failure.{Failure}
 use Rattle.esdk_report.specs.declared.failure.Failure.TheVariants as failures
 
@@ -25,10 +27,20 @@ outlook_of false bytes = record { bytes = bytes; end = Whole }
 abbrev pub given_by : Option (List ℕ) → Option (List ℕ)
 given_by left = option_map (λ text. (text_outlook text).bytes) left
 
+-- all bytes that the text gives were read, so many
+abbrev pub AllRead : (text : List ℕ) → (read : ℕ) → Type 0
+AllRead text read = length (unarmoured text).bytes ≡ read
+
+-- they were, or the last piece of the text was taken for a byte that was read
+abbrev pub NoMoreTaken : (text : List ℕ) → (read : ℕ) → Type 0
+NoMoreTaken text read = AllRead text read
+    ⊎ APieceBehind (λ front. length (unarmoured front).bytes < read) text
+
 -- At most 2^62 bytes of the input's text were taken, and of what the text gives this is so. That
 -- was seen as it stands behind the whole text at first, and was read on; where no read of the text
--- failed, none of this did.
-pub record ReadsText (input taken : SourceState)
+-- failed, none of this did. Where the text is told, `Reach` says how far of it was taken for so many
+-- bytes that were read.
+pub record ReadsText (Reach : List ℕ → ℕ → Type 0) (input taken : SourceState)
     (So : SourceState → SourceState → Type 0) : Type 0 where
   pub text : List ℕ
   pub came : Came input taken text
@@ -36,13 +48,15 @@ pub record ReadsText (input taken : SourceState)
   pub seen : SourceState
   pub read : SourceState
   pub gives : seen.left ≡ given_by input.left
+  pub begins : seen.given ≡ 0
+  pub reach : OnTold input.left (λ whole. Reach text read.given)
   pub stayed : Stayed input.faults taken.faults → Stayed seen.faults read.faults
   pub so : So seen read
 
 -- of an input that is read as armour, or as it is
 abbrev pub ReadsInput : (armour : Bool) → SourceState → SourceState
     → (SourceState → SourceState → Type 0) → Type 0
-ReadsInput true input taken So = ReadsText input taken So
+ReadsInput true input taken So = ReadsText NoMoreTaken input taken So
 ReadsInput false input taken So = So input taken
 
 -- ---- how the text ended
@@ -59,28 +73,28 @@ pub record IsLongText (input taken : SourceState) : Type 0 where
   pub most : MostTaken input taken text
   pub told : OnTold input.left (λ text. (text_outlook text).end ≡ TooLong)
 
--- what is so of a whole input; one that is read as armour also ended with whole and good groups
+-- what is so of a whole input; one that is read as armour also ended with whole and good groups, and
+-- all bytes that it gives were read
 abbrev pub ReadsAll : (armour : Bool) → SourceState → SourceState
     → (SourceState → SourceState → Type 0) → Type 0
-ReadsAll true input taken So = EndsText input taken Whole × ReadsText input taken So
+ReadsAll true input taken So = EndsText input taken Whole × ReadsText AllRead input taken So
 ReadsAll false input taken So = So input taken
 
 -- Why a command ends that reads a text. This is so of what the text gives: `So`, where it ends the
 -- command by itself; `All`, where all of it came and has no fault; `Sound`, where what came of it
 -- has none. M27 comes behind all of it, and M10 and X6 by the text's end; X1 comes where a read of
--- the text failed. (Of an input that doesn't tell, X6 also comes where what it gives is so long.)
+-- the text failed, and behind all bytes that the text taken gives.
 abbrev pub TextEnds : Failure → SourceState → SourceState
     → (So All Sound : SourceState → SourceState → Type 0) → Type 0
 TextEnds (failures.Fault (BadArmour number)) input taken So All Sound =
-    EndsText input taken (Bad number) × ReadsText input taken All
+    EndsText input taken (Bad number) × ReadsText AllRead input taken All
 TextEnds (failures.Fault Truncated) input taken So All Sound =
-    EndsText input taken Whole × ReadsText input taken So
+    EndsText input taken Whole × ReadsText AllRead input taken So
 TextEnds (failures.Outside SourceFault) input taken So All Sound =
-    Rose input.faults taken.faults × ReadsText input taken Sound
+    Rose input.faults taken.faults × ReadsText AllRead input taken Sound
 TextEnds (failures.Outside InputTooLong) input taken So All Sound =
-    (IsLongText input taken ⊎ ((input.left ≡ None) × ReadsText input taken So))
-    × ReadsText input taken Sound
-TextEnds failure input taken So All Sound = ReadsText input taken So
+    IsLongText input taken × ReadsText AllRead input taken Sound
+TextEnds failure input taken So All Sound = ReadsText NoMoreTaken input taken So
 
 -- why a command ends that reads an input as armour, or as it is
 abbrev pub InputEnds : (armour : Bool) → Failure → SourceState → SourceState

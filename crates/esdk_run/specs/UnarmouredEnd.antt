@@ -10,7 +10,7 @@ use Rattle.whole_input.specs.Pieces.{most_input}
 use Rattle.armour_core.specs.declared.reader.ArmourReader.{ArmourReader}
 use Rattle.armour_core.specs.declared.text_end.TextEnd.{TextEnd}
 use Rattle.armour_core.specs.declared.text_end.TextEnd.TheVariants.{Bad, TooLong, Whole}
-use Rattle.armour_core.specs.ReaderOutlook.{reader_outlook, told_end}
+use Rattle.armour_core.specs.ReaderOutlook.{Awaits, FailsAs, gives, reader_outlook, told_end}
 use Rattle.esdk_decrypt.specs.declared.errors.DecryptError.{DecryptError}
 use Rattle.esdk_decrypt.specs.declared.errors.DecryptError.TheVariants as errors
 
@@ -28,15 +28,27 @@ pub record SeesEnd (before now : SourceState) (old : ArmourReader) (end : TextEn
   pub told : (told : TextEnd) → told_end before old ≡ Some told → told ≡ end
   pub faults : now.faults ≡ before.faults
 
+-- all bytes that the text taken gives were read
+abbrev pub IsReadOut : ArmourReader → Type 0
+IsReadOut r = gives r [] ≡ 0
+
 -- What is seen of a text's end: behind all bytes that it gives, that it is whole; that a group is
 -- bad; that 2^62 bytes of it were taken; or that a read fails.
 abbrev pub SeesAs : SourceState → SourceState → ArmourReader → ArmourReader
     → Result (Unit {0}) DecryptError → Type 0
-SeesAs before now old new (Ok done) =
-    (now.faults ≡ before.faults) × (left_of before old ≡ Some [] → SeesEnd before now old Whole)
+SeesAs before now old new (Ok done) = (now.faults ≡ before.faults)
+    × (left_of before old ≡ Some [] → SeesEnd before now old Whole × IsReadOut new)
 SeesAs before now old new (Err (errors.Fault (BadArmour number))) =
-    SeesEnd before now old (Bad number)
+    SeesEnd before now old (Bad number) × IsReadOut new
 SeesAs before now old new (Err (errors.Outside InputTooLong)) =
-    SeesEnd before now old TooLong × (new.pieces.taken ≡ most_input)
-SeesAs before now old new (Err (errors.Outside SourceFault)) = Rose before.faults now.faults
+    SeesEnd before now old TooLong × (new.pieces.taken ≡ most_input) × IsReadOut new
+SeesAs before now old new (Err (errors.Outside SourceFault)) =
+    Rose before.faults now.faults × IsReadOut new
 SeesAs before now old new (Err error) = ⊥
+
+-- The text was taken to its end, where its bytes are `sound`, and else no further.
+pub record LooksOn (before now : SourceState) (old new : ArmourReader) (old_faults new_faults : ℕ)
+    (sound : Bool) : Type 0 where
+  pub awaits : Awaits before now old new old_faults
+  pub fails : FailsAs before now old_faults new_faults
+  pub still : sound ≡ false → awaits.reads.text ≡ []

@@ -13,9 +13,9 @@ use esdk_fields::Outside;
 use keyring_trait::{EncRequest, Manager};
 use std::alloc::Global;
 
-/// Encrypts the whole input, and writes the message as it is or, with `armour`, as armour text: each
-/// line once it is full, and the last one behind the whole message. Where the message isn't written
-/// whole, its last line isn't either, so that no such text ends as a whole one does.
+/// Encrypts the whole input, and writes the message as it is or, with `armour`, as armour text:
+/// each line once it is full, and the last one behind the whole message. Where the message isn't
+/// written whole, its last line isn't either.
 ///
 /// Errors, and what stands after each, are those of `encrypt` of `esdk_encrypt`.
 pub(crate) fn write_message<M: Manager, S: Source, O: Sink, W: Entropy>(
@@ -30,14 +30,14 @@ pub(crate) fn write_message<M: Manager, S: Source, O: Sink, W: Entropy>(
 ) -> Result<(), EncryptError>
     requires some { 1 ≤ options.frame_length }
     ensures done { OnOk result (Encrypts
-        (encryption_of (said_last (M.state manager.old) (M.state manager.new)) request.now options.now
-        options.frame_length options.max_keys)
+        (encryption_of (said_last (M.state manager.old) (M.state manager.new))
+        request.now options.now options.frame_length options.max_keys)
         (S.state input.old) (S.state input.new)
         (output_gains armour (O.state output.old) (O.state output.new))
         (W.state entropy.old) (W.state entropy.new)) }
     ensures ends { IfErr result (λ error. EncryptEnds
-        (encryption_of (said_last (M.state manager.old) (M.state manager.new)) request.now options.now
-        options.frame_length options.max_keys)
+        (encryption_of (said_last (M.state manager.old) (M.state manager.new))
+        request.now options.now options.frame_length options.max_keys)
         (S.state input.old) (S.state input.new)
         (output_gains armour (O.state output.old) (O.state output.new))
         (W.state entropy.old) (W.state entropy.new)
@@ -49,10 +49,7 @@ pub(crate) fn write_message<M: Manager, S: Source, O: Sink, W: Entropy>(
         return encrypt(alloc, manager, request, options, input, output, entropy);
     }
     let mut text = ArmouredOutput::new(output);
-    match encrypt(alloc, manager, request, options, input, &mut text, entropy) {
-        Ok(()) => {}
-        Err(error) => return Err(error),
-    }
+    encrypt(alloc, manager, request, options, input, &mut text, entropy)?;
     match text.finish() {
         Ok(()) => Ok(()),
         Err(_) => Err(EncryptError::Outside(Outside::SinkFault)),

@@ -85,7 +85,8 @@ pub fn run_decrypt<P: Keyring, S: Source, O: Sink, R: Sink, F: Shelf>(
 /// Decrypts the input, or the bytes that it gives as armour text, with these pairs given.
 ///
 /// A text is judged to its end where its bytes have no fault: M27 and X6 of that come in place of
-/// success and of M10, and so does X1.
+/// success and of M10, and so does X1. Behind a fault, and behind a failed write, no more of the
+/// text is taken than the piece that the last of these bytes called for.
 fn decrypt_input<M: Manager, S: Source, O: Sink>(
     alloc: Global,
     manager: &mut M,
@@ -117,10 +118,8 @@ fn decrypt_input<M: Manager, S: Source, O: Sink>(
     let ended = decrypt(alloc, manager, 0, settings, given, &mut text, output);
     let judged = judge_end(&mut text, is_open(&ended));
     text.into_text();
-    match judged {
-        Ok(()) => ended,
-        Err(error) => Err(error),
-    }
+    judged?;
+    ended
 }
 
 /// Whether no fault stands in bytes whose decryption ended so: they are a whole message, or it is
@@ -157,7 +156,8 @@ fn report_end<R: Sink>(
 /// Puts the line of the whole context on the report, and answers the status.
 pub(crate) fn tell_context<R: Sink>(alloc: Global, context: &Context, report: &mut R) -> Status
     ensures status { is_status result.code ≡ true }
-    ensures told { TellsOrLacksMemory context.now result.code (R.state report.old) (R.state report.new) }
+    ensures told { TellsOrLacksMemory context.now result.code
+        (R.state report.old) (R.state report.new) }
 {
     match line_of_context(alloc, context) {
         Ok(line) => report_context(&line, report),

@@ -46,7 +46,8 @@ pub fn run_list<S: Source, O: Sink, R: Sink>(
 /// Lists the input, or the bytes that it gives as armour text.
 ///
 /// A text is judged to its end where its bytes end within a header: M27, X6 and X1 of that come in
-/// place of M10. Behind a whole header nothing is judged.
+/// place of M10. Behind a whole header nothing is judged, and behind it and behind a fault no more
+/// of the text is taken than the piece that the header called for.
 fn list_input<S: Source, O: Sink>(
     alloc: Global,
     armour: bool,

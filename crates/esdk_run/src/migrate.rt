@@ -40,7 +40,7 @@ pub fn run_migrate<O: Sink, R: Sink, F: Shelf>(
     }
 }
 
-/// Writes that text, at once (`SinkFault`).
+/// Writes the keyring file's text in version 2, all at once; `SinkFault` where the write failed.
 fn migrate_file<O: Sink, F: Shelf>(
     alloc: Global,
     asked: &MigrateWords,
@@ -53,10 +53,7 @@ fn migrate_file<O: Sink, F: Shelf>(
         (O.state output.old) (O.state output.new) (output.new ≡ output.old)) }
     ensures stays { (F.state shelf.new).files ≡ (F.state shelf.old).files }
 {
-    let text = match file_text(alloc, asked, shelf) {
-        Ok(text) => text,
-        Err(failure) => return Err(failure),
-    };
+    let text = file_text(alloc, asked, shelf)?;
     match output.put(text.bytes()) {
         Ok(()) => Ok(()),
         Err(_) => Err(Failure::Outside(Outside::SinkFault)),

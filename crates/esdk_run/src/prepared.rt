@@ -57,11 +57,9 @@ pub fn prepare<P: Keyring, F: Shelf>(
         Ok(required) => required,
         Err(_) => return Err(Failure::Memory),
     };
-    match read_keyring(alloc, shelf, keyring.as_str(), plugs) {
-        Ok(tree) => Ok(Prepared {
-            context,
-            manager: RequiredCmm::new(DefaultCmm::new(tree), required),
-        }),
-        Err(failure) => Err(failure),
-    }
+    let tree = read_keyring(alloc, shelf, keyring.as_str(), plugs)?;
+    Ok(Prepared {
+        context,
+        manager: RequiredCmm::new(DefaultCmm::new(tree), required),
+    })
 }

@@ -1,5 +1,5 @@
 //! The command `reseal`.
-ghost use Rattle.std.specs.Prelude.{◌≡◌, ◌+◌, ◌<◌, ◌≤◌, ◌^◌, true, length, IfErr, IfOk};
+ghost use Rattle.std.specs.Prelude.{◌≡◌, ◌+◌, ◌<◌, ◌≤◌, ◌^◌, true, length, IfErr, IfOk, None};
 ghost use Rattle.esdk_report.specs.Report.{Reports};
 ghost use Rattle.esdk_run.specs.Failures.{resealing_failure};
 ghost use Rattle.esdk_run.specs.Objects.{as_before, objects};
@@ -22,10 +22,11 @@ use keyring_trait::{Keyring, Manager};
 use reseal_core::{InputError, ResealOptions, reseal};
 use std::alloc::Global;
 
-/// Opens the input with the tree that the first keyring file is read as, with the pairs of the words
-/// given and their required keys demanded, and writes a new message of its content, sealed with the
-/// tree that the second file is read as, in which no plug may stand. Then it writes the whole
-/// context on the report. The first tree is given back as it is left, also after an error.
+/// Opens the input with the tree that the first keyring file is read as, with the pairs of the
+/// words given and their required keys demanded, and writes a new message of its content, sealed
+/// with the tree that the second file is read as, in which no plug may stand; so the second tree
+/// never fails. Then it writes the whole context on the report. The first tree is given back as it
+/// is left, also after an error.
 ///
 /// The pairs are read first, then the first file, and then the second; then the random bytes are
 /// drawn; then the input is read, and what comes of each piece is written before more is read.
@@ -72,20 +73,11 @@ pub fn run_reseal<P: Keyring, S: Source, O: Sink, R: Sink, F: Shelf, W: Entropy>
         }
     };
     let mut sealing = DefaultCmm::new(second);
-    let options = ResealOptions {
-        settings: Settings {
-            max_keys: None,
-            max_unit: asked.max_unit,
-            uncommitted: asked.uncommitted,
-        },
-        frame_length: asked.frame,
-        now: 0,
-    };
     let ended = reseal(
         alloc,
         &mut manager,
         &mut sealing,
-        options,
+        options_of(asked),
         &context,
         input,
         output,
@@ -94,6 +86,30 @@ pub fn run_reseal<P: Keyring, S: Source, O: Sink, R: Sink, F: Shelf, W: Entropy>
     Ended {
         status: report_end(alloc, ended, report),
         tree: Some(manager.into_inner().into_ring()),
+    }
+}
+
+/// How the words ask for an input to be resealed. No words limit the number of entries, and the
+/// moment that both managers are told is 0.
+fn options_of(asked: &ResealWords) -> ResealOptions
+    ensures { result ≡ record {
+      settings = record {
+        max_keys = None;
+        max_unit = asked.now.max_unit;
+        uncommitted = asked.now.uncommitted;
+      };
+      frame_length = asked.now.frame;
+      now = 0;
+    } }
+{
+    ResealOptions {
+        settings: Settings {
+            max_keys: None,
+            max_unit: asked.max_unit,
+            uncommitted: asked.uncommitted,
+        },
+        frame_length: asked.frame,
+        now: 0,
     }
 }
 

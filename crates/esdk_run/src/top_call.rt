@@ -26,10 +26,10 @@ use keyring_trait::Keyring;
 use std::alloc::Global;
 
 /// Carries out the command that the words name, and answers the exit status, with the tree of
-/// keyrings that a keyring file was read as, as the run left it: it is given back exactly where one
-/// was read, and of two it is the first. At status 5 alone it may be missing though one was read;
-/// then `encrypt`, `decrypt` and `reseal` leave input, output and entropy as they were, and `batch`
-/// and `audit` leave the output.
+/// keyrings that a keyring file was read as, as the run left it: it is given back only where one
+/// was read, and of two it is the first. Where one was read, it may be missing at status 5 alone;
+/// then `encrypt`, `decrypt` and `reseal` leave input, output and entropy as they were, and
+/// `batch`, `audit` and `extract` the output.
 ///
 /// `list` reads a header and its tag from the input and writes the header's listing on the output.
 /// `encrypt` writes the message of its whole input under the tree of a keyring file, over the

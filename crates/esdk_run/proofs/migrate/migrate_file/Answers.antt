@@ -1,4 +1,4 @@
 use Rattle.esdk_run.proofs.migrate.migrate_file.Goals as goal
 
-pub returns-in-Ok-put-clause-fails : goal.returns-in-Ok-put-clause-fails
-returns-in-Ok-put-clause-fails g c = tt
+pub returns-in-Ok-clause-fails : goal.returns-in-Ok-clause-fails
+returns-in-Ok-clause-fails g c = tt

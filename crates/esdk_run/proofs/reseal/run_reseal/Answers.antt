@@ -6,6 +6,7 @@ use Rattle.esdk_run.specs.Trees.{Trees, trees_of}
 use Rattle.esdk_run.proofs.Chain.{chain_allows, chain_goes}
 use Rattle.esdk_run.proofs.Preparing.{has_tree}
 use Rattle.esdk_run.proofs.Resealing.{no_second, reseal_not_begun, resealing_ran, second_goes, second_has, tree_ends, tree_reseals}
+use Rattle.esdk_run.proofs.Unplugged.{second_read}
 use Rattle.esdk_run.proofs.reseal.run_reseal.Goals as goal
 
 pub returns-clause-runs : goal.returns-clause-runs
@@ -23,18 +24,22 @@ returns-clause-runs g c =
     let trees : Trees = trees_of g.P.Keyring.meaning c.args.plugs.items (Some c.into_ring-2.result) in
     let between : ShelfState = g.F.Shelf.state c.prepare.new.shelf in
     let allows = chain_allows 0 meaning manager c.reseal-ended.new.opening (required_in c.args.asked.now.pairs) c.into_ring-2.result has.keys back in
+    let sealing =
+    second_has meaning trees c.args.asked.now between (g.F.Shelf.state c.read_keyring.new.shelf) c.in-Ok-read_keyring.second c.new-sealing.result c.new-sealing.ensures
+    (second_read g.P.Keyring.meaning c.args.plugs.items (Some c.into_ring-2.result) c.args.asked.now between (g.F.Shelf.state c.read_keyring.new.shelf) (meaning c.in-Ok-read_keyring.second)
+    (rw c.new-none.ensures.items at (rw c.as_str.ensures.text at c.in-Ok-read_keyring.ensures.tree)) c.in-Ok-read_keyring.ensures.lawful) in
+    let goes = second_goes (meaning c.new-sealing.result) (meaning c.reseal-ended.new.sealing) c.reseal-ended.ensures.sealing in
+    let stayed = goes.still sealing.steady in
     resealing_ran trees c.args.asked.now _ _ _ _ c.in-Ok.prepared.context (meaning manager.0) (meaning c.into_ring-2.result) between
     (meaning c.new-sealing.result) (meaning c.reseal-ended.new.sealing) c.reseal-ended.result
     (record {
       has = has_tree g.P.Keyring.meaning _ _ _ _ _ _ manager c.reseal-ended.new.opening c.into_ring-2.result has back c.reseal-ended.ensures.opening;
       files = c.in-Ok.ensures.stays;
     })
-    (second_has meaning trees c.args.asked.now between (g.F.Shelf.state c.read_keyring.new.shelf) c.in-Ok-read_keyring.second c.new-sealing.result c.new-sealing.ensures
-    (record { file = rw c.new-none.ensures.items at (rw c.as_str.ensures.text at c.in-Ok-read_keyring.ensures.tree); lawful = c.in-Ok-read_keyring.ensures.lawful }))
-    (second_goes (meaning c.new-sealing.result) (meaning c.reseal-ended.new.sealing) c.reseal-ended.ensures.sealing)
-    (tree_reseals c.args.asked.now c.in-Ok.prepared.context (meaning manager.0) (meaning c.into_ring-2.result) (meaning c.new-sealing.result) (meaning c.reseal-ended.new.sealing) _ _ allows input taken output put entropy spent c.reseal-ended.result c.reseal-ended.ensures.done)
-    (tree_ends c.args.asked.now c.in-Ok.prepared.context (meaning manager.0) (meaning c.into_ring-2.result) (meaning c.new-sealing.result) (meaning c.reseal-ended.new.sealing) _ _ allows input taken output put entropy spent
-    ((c.reseal-ended.new.input ≡ c.args.input.now) × (c.reseal-ended.new.output ≡ c.args.output.now)) _ c.reseal-ended.result c.reseal-ended.ensures.ends)
+    sealing goes
+    (tree_reseals c.args.asked.now c.in-Ok.prepared.context (meaning manager.0) (meaning c.into_ring-2.result) (meaning c.new-sealing.result) (meaning c.reseal-ended.new.sealing) stayed _ _ allows input taken output put entropy spent c.reseal-ended.result (rw c.options_of.ensures at c.reseal-ended.ensures.done))
+    (tree_ends c.args.asked.now c.in-Ok.prepared.context (meaning manager.0) (meaning c.into_ring-2.result) (meaning c.new-sealing.result) (meaning c.reseal-ended.new.sealing) stayed _ _ allows input taken output put entropy spent
+    ((c.reseal-ended.new.input ≡ c.args.input.now) × (c.reseal-ended.new.output ≡ c.args.output.now)) _ c.reseal-ended.result (rw c.options_of.ensures at c.reseal-ended.ensures.ends))
     c.report_end.ensures.told c.report_end.ensures.said
 
 pub returns-in-Err-read_keyring-clause-runs : goal.returns-in-Err-read_keyring-clause-runs
