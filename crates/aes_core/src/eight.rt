@@ -11,6 +11,7 @@ use plane_core::eight::{loaded, stored};
 use plane_core::planes::Planes;
 use plane_core::{circuit, rounds};
 use std::simd::prelude::*;
+
 /// The round keys of a key schedule as planes.
 pub fn plane_keys(schedule: &[[u8; 16]; 15]) -> [Planes<u8x16>; 15]
     ensures { HasKeys lane_bit 8 result schedule.now }

@@ -124,8 +124,8 @@ impl Key256 {
 
     /// The eight counter blocks from that of the count `count` on, each enciphered under the key
     /// (NIST SP 800-38D, section 6.5). `page` is any page of the initialization vector under the
-    /// key: that of the last group saves most of rounds 1 and 2 where this group is of the same page,
-    /// and gives way to this group's where it isn't.
+    /// key: that of the last group saves most of rounds 1 and 2 where this group is of the same
+    /// page, and gives way to this group's where it isn't.
     pub fn counters8(&self, iv: &[u8; 12], count: u32, page: &mut CounterPage) -> [[u8; 16]; 8]
         requires { IsPage self.now iv.now page.old }
         ensures blocks { result

@@ -1,9 +1,9 @@
 //! Round 2 of the counter blocks of a page.
 //!
-//! After round 1 the blocks of a page differ in column 0 alone. So SubBytes has to be done again for
-//! that column only, and the four groups of a quad have theirs side by side in planes: it is done
-//! for 32 blocks at once. ShiftRows then moves the column's bytes to four columns, where MixColumns
-//! adds each to all rows.
+//! After round 1 the blocks of a page differ in column 0 alone. So SubBytes has to be done again
+//! for that column only, and the four groups of a quad have theirs side by side in planes: it is
+//! done for 32 blocks at once. ShiftRows then moves the column's bytes to four columns, where
+//! MixColumns adds each to all rows.
 
 ghost use Rattle.std.specs.Prelude.{◌≡◌, ℕ, ◌+◌, ◌%◌, ◌^◌, ◌<◌, List, map};
 ghost use Rattle.cipher_spec.specs.Aes.{at};

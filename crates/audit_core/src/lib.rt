@@ -4,8 +4,8 @@
 //! `specs/Openers.antt` says which leaves open a message and which messages a leaf is needed for,
 //! `specs/Lines.antt` has the lines, to the byte, and `specs/Asking.antt` says what is known of
 //! leaves that don't tell their keys. `specs/MessageFiles.antt` says how messages are taken from
-//! files. `specs/Laws.antt` says what follows: who stands in a line
-//! unlocks the message by itself, and a leaf that is needed for none can be deleted.
+//! files. `specs/Laws.antt` says what follows: who stands in a line unlocks the message by itself,
+//! and what the tree without a leaf that is needed for none still opens.
 #![tactic(auto)]
 
 mod asking;

@@ -1,7 +1,6 @@
 //! The lines of an audit.
 
 ghost use Rattle.std.specs.Prelude.{◌≡◌, ◌++◌, ◌<◌, ◌^◌, length, IfOk, OnOk};
-ghost use Rattle.esdk_report.specs.Lines.{number_word};
 ghost use Rattle.audit_core.specs.Openers.{needed_for};
 ghost use Rattle.audit_core.specs.Lines.{audit_lines, end_words, leaf_line, leaf_lines};
 ghost use Rattle.audit_core.specs.Lines.{message_line, message_lines, needed_words, number_words};
@@ -9,7 +8,7 @@ ghost use Rattle.audit_core.specs.Lines.{words_or_none};
 
 use crate::audited::Audited;
 use esdk_fields::Blob;
-use esdk_report::fault_text;
+use esdk_report::{fault_text, push_number};
 use std::alloc::{AllocError, Global};
 
 /// The lines of an audit of a tree with so many leaves, of which this was found of each message:
@@ -49,7 +48,7 @@ fn push_message(
     ensures { OnOk result (text.new ≡ text.old ++ message_line number message.now) }
 {
     text.push_all(b"message")?;
-    push_number(alloc, number, text)?;
+    push_number(alloc, text, u128::from(number))?;
     push_end(alloc, message, text)?;
     text.push_all(b"\n")
 }
@@ -98,7 +97,7 @@ fn push_leaf(
     ensures { OnOk result (text.new ≡ text.old ++ leaf_line leaf messages.now) }
 {
     text.push_all(b"leaf")?;
-    push_number(alloc, leaf, text)?;
+    push_number(alloc, text, u128::from(leaf))?;
     push_needed(alloc, leaf, messages, text)?;
     text.push_all(b"\n")
 }
@@ -147,16 +146,7 @@ fn push_each(alloc: Global, numbers: &[u32], text: &mut Blob) -> Result<(), Allo
     ensures { OnOk result (text.new ≡ text.old ++ number_words numbers.now) }
 {
     for number in numbers {
-        push_number(alloc, *number, text)?;
+        push_number(alloc, text, u128::from(*number))?;
     }
     Ok(())
-}
-
-/// Appends a space, and the number in decimal.
-#[tactic(auto, unfolding(esdk_report::specs::Lines::number_word))]
-fn push_number(alloc: Global, number: u32, text: &mut Blob) -> Result<(), AllocError>
-    ensures { OnOk result (text.new ≡ text.old ++ number_word number) }
-{
-    let word = format!(in alloc; " {number}")?;
-    text.push_all(word.as_bytes())
 }

@@ -48,10 +48,8 @@ pub fn audit_messages<P: Keyring, F: Shelf>(
     let _wraps = node.wraps();
     let mut found = Vec::new(alloc);
     for message in messages {
-        match audit_message(alloc, node, shelf, message) {
-            Ok(audited) => found.push(audited)?,
-            Err(failure) => return Err(failure),
-        }
+        let audited = audit_message(alloc, node, shelf, message)?;
+        found.push(audited)?;
     }
     Ok(found)
 }

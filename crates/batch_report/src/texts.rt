@@ -1,13 +1,12 @@
 //! The text of a report.
 
 ghost use Rattle.std.specs.Prelude.{◌≡◌, ◌+◌, ◌++◌, IfOk, OnOk};
-ghost use Rattle.esdk_report.specs.Lines.{number_word};
 ghost use Rattle.batch_report.specs.BatchReport.{kind_word, end_word, served_word, job_line, report_of};
 
 use crate::job_lines::{JobEnd, JobLine};
 use crate::report::BatchReport;
 use esdk_fields::Blob;
-use esdk_report::{fault_text, outside_text, refusal_text};
+use esdk_report::{fault_text, outside_text, push_number, refusal_text};
 use keyring_trait::{Kind, Served};
 use std::alloc::{AllocError, Global};
 
@@ -30,20 +29,11 @@ fn push_line(alloc: Global, number: u64, line: &JobLine, text: &mut Blob) -> Res
     ensures { OnOk result (text.new ≡ text.old ++ job_line number line.now) }
 {
     text.push_all(b"job")?;
-    push_number(alloc, number, text)?;
+    push_number(alloc, text, u128::from(number))?;
     text.push_all(kind_word(line.kind))?;
     push_end(alloc, &line.end, text)?;
     push_served(alloc, line.served, text)?;
     text.push_all(b"\n")
-}
-
-/// Appends a space, and the number in decimal.
-#[tactic(auto, unfolding(esdk_report::specs::Lines::number_word))]
-fn push_number(alloc: Global, number: u64, text: &mut Blob) -> Result<(), AllocError>
-    ensures { OnOk result (text.new ≡ text.old ++ number_word number) }
-{
-    let word = format!(in alloc; " {number}")?;
-    text.push_all(word.as_bytes())
 }
 
 /// A space, and what a job does; a space behind it.
@@ -77,11 +67,11 @@ fn push_served(alloc: Global, served: Option<Served>, text: &mut Blob) -> Result
         Some(Served::Direct) => text.push_all(b" direct"),
         Some(Served::New(number)) => {
             text.push_all(b" new")?;
-            push_number(alloc, number, text)
+            push_number(alloc, text, u128::from(number))
         }
         Some(Served::Hit(number)) => {
             text.push_all(b" hit")?;
-            push_number(alloc, number, text)
+            push_number(alloc, text, u128::from(number))
         }
     }
 }

@@ -25,6 +25,7 @@ use Rattle.message_format.proofs.Following.{faults_stay, header_stays, judged_go
 use Rattle.message_format.proofs.Judging.{judged_wanting}
 use Rattle.stream_open.specs.Asking.{request_of}
 use Rattle.whole_input.specs.Taken.{Came}
+use Rattle.whole_input.proofs.Fronts.{front_beyond}
 use Rattle.esdk_decrypt.specs.Decrypt.{Answering, AnswersReading, AnswersRequest, AnswersTo, FailsReading, FailsTo, ManagerFails, fault_at_end, fault_of}
 use Rattle.reseal_core.specs.declared.errors.InputError.{InputError}
 use Rattle.reseal_core.specs.declared.errors.InputError.TheVariants as errors
@@ -147,12 +148,12 @@ module _ (asked : Resealing) (random taken more : List ℕ) (output put : SinkSt
       let all : taken ++ more ≡ f.bytes = front_is f.bytes f.came ∙ ap (λ (b : List ℕ). f.bytes ++ b) f.end.end ∙ append-nil f.bytes in (
         f.whole,
         subst (λ (b : List ℕ). IsWholeAnd asked random b (λ text message. AppendsFront output.written put.written message) f.whole) (sym all)
-            (record { only = f.only; key = f.key; answered = f.answered; whole = f.verdict; materials = f.materials; has = f.has; is = f.front }),
+            (record { only = f.only; key = f.key; answered = f.answered; whole = f.verdict; materials = f.materials; has = f.has; is = front_beyond output put _ _ f.front }),
       )
 
   sink_so : Rose output.faults put.faults × (inputs.FrontFails asked random (told (taken ++ more)) (left taken more) output put ⊎ inputs.FinalFails asked random (told (taken ++ more)) (left taken more) output put)
       → EndsSo asked random (taken ++ more) output put reseals.SinkFault
-  sink_so (rose, inl f) = (rose, inl (opens_so f.first f.whole f.only f.key _ f.opens (record { materials = f.materials; has = f.has; is = f.front })))
+  sink_so (rose, inl f) = (rose, inl (opens_so f.first f.whole f.only f.key _ f.opens (record { materials = f.materials; has = f.has; is = front_beyond output put _ _ f.last.was })))
   sink_so (rose, inr f) = (rose, inr (final_so f))
 
   keyring_so : ((ManagerFails asked.opening (told (taken ++ more)) (left taken more) × SinkTakes output put []) ⊎ inputs.SealingFails asked (told (taken ++ more)) (left taken more) output put)

@@ -35,7 +35,8 @@ use Rattle.reseal_core.specs.Reseal.{Resealing, WritesFront, resealing_from}
 use Rattle.reseal_core.specs.Session.{ResealingValue, gone_on, new_session}
 use Rattle.reseal_core.specs.Stands.{Finishes, Stands, Steps}
 use Rattle.reseal_core.specs.Underway.{AreMade, ConcludesSo, IsMade, Reached}
-use Rattle.reseal_core.proofs.Reaching.{answer, answer_kept_is, answers, gains_all, has_gained, has_room, same, writes_reached, written}
+use Rattle.reseal_core.proofs.Reaching.{answer, answer_kept_is, answers, has_gained, has_room, same, writes_reached, written}
+use Rattle.reseal_core.proofs.Stepping.{gains_all}
 use Rattle.reseal_core.proofs.RandomBytes.{one_random}
 use Rattle.reseal_core.proofs.Sessions.{concludes_err}
 use Rattle.reseal_core.proofs.StepEnds.{step_ends, unstopped}

@@ -26,8 +26,5 @@ pub(crate) fn openers_of<P: Keyring>(
     ensures openers { IfOk result (λ openers. NamesOpeners (node_leaves P.meaning tree.old)
         (node_leaves P.meaning tree.new) header.now given.now openers.items) }
 {
-    match audit_one(alloc, tree, header, given) {
-        Ok(openers) => Ok(openers),
-        Err(error) => Err(CallError::Audit(error)),
-    }
+    Ok(audit_one(alloc, tree, header, given)?)
 }

@@ -65,6 +65,18 @@ impl From<ResealError> for CallError {
     }
 }
 
+impl From<ExtractError> for CallError {
+    fn from(error: ExtractError) -> CallError {
+        CallError::Extract(error)
+    }
+}
+
+impl From<AuditError> for CallError {
+    fn from(error: AuditError) -> CallError {
+        CallError::Audit(error)
+    }
+}
+
 impl From<RawError> for CallError {
     fn from(error: RawError) -> CallError {
         CallError::Key(error)

@@ -17,7 +17,8 @@ use std::alloc::Global;
 /// for a manager with a cache.
 ///
 /// At Ok the output gained these bytes, as far as there are any, and this is how many. The frames
-/// before the range and behind it aren't read: a fault of theirs isn't noticed.
+/// before the range and behind it aren't read: a fault of theirs isn't noticed. And where the shelf
+/// tells the file, no more of it was read than the header and the frames that were taken.
 pub(crate) fn extract_range<M: Manager, F: Shelf, O: Sink>(
     alloc: Global,
     manager: &mut M,
@@ -34,13 +35,10 @@ pub(crate) fn extract_range<M: Manager, F: Shelf, O: Sink>(
     requires count { count ≤ 2 ^ 62 }
     ensures range { IfOk result (Extracts
         (asked_from (M.state manager.old) (M.state manager.new) now settings given.now)
-        (range_of at count) (F.state shelf.old) name.now
+        (range_of at count) (F.state shelf.old) (F.state shelf.new) name.now
         (O.state output.old) (O.state output.new)) }
 {
-    match extract(
+    Ok(extract(
         alloc, manager, now, shelf, name, output, settings, given, at, count,
-    ) {
-        Ok(written) => Ok(written),
-        Err(error) => Err(CallError::Extract(error)),
-    }
+    )?)
 }

@@ -124,7 +124,7 @@ impl<M: Manager> Desk<M> {
         self.lent = Lent::Nothing;
         self.last_id += 1;
         let id = self.last_id;
-        match begin_sealing(
+        let session = begin_sealing(
             alloc,
             &mut self.manager,
             &mut self.journal,
@@ -132,10 +132,8 @@ impl<M: Manager> Desk<M> {
             id,
             now,
             random,
-        ) {
-            Ok(session) => insert(&mut self.sessions, id, session),
-            Err(error) => Err(error),
-        }
+        )?;
+        insert(&mut self.sessions, id, session)
     }
 
     /// Opens a session that opens a message, and answers its number, which is the next. It keeps
@@ -159,10 +157,8 @@ impl<M: Manager> Desk<M> {
         self.lent = Lent::Nothing;
         self.last_id += 1;
         let opener = Opener::new(alloc, settings, given);
-        match boxed(alloc, Session::Opening(opener)) {
-            Ok(session) => insert(&mut self.sessions, self.last_id, session),
-            Err(error) => Err(error),
-        }
+        let session = boxed(alloc, Session::Opening(opener))?;
+        insert(&mut self.sessions, self.last_id, session)
     }
 
     /// The header of a message that is sealed, and its tag, with which the message begins; nothing,
@@ -220,7 +216,7 @@ impl<M: Manager> Desk<M> {
             → asked_by (v.live id) piece.now ≡ None → manager_of self.new ≡ manager_of self.old }
     {
         self.lent = Lent::Nothing;
-        match step_at(
+        let used = step_at(
             alloc,
             &mut self.sessions,
             &mut self.manager,
@@ -228,13 +224,9 @@ impl<M: Manager> Desk<M> {
             id,
             now,
             piece,
-        ) {
-            Ok(used) => {
-                self.lent = Lent::Live(id);
-                Ok(used)
-            }
-            Err(error) => Err(error),
-        }
+        )?;
+        self.lent = Lent::Live(id);
+        Ok(used)
     }
 
     /// Feeds a whole piece to this session, as its sealer or opener takes it, and hands each frame
@@ -303,13 +295,11 @@ impl<M: Manager> Desk<M> {
     {
         self.lent = Lent::Nothing;
         match self.sessions.remove(&id) {
-            Some(session) => match after_end(session) {
-                Ok(session) => {
-                    self.lent = Lent::Ended(session);
-                    Ok(())
-                }
-                Err(error) => Err(error),
-            },
+            Some(session) => {
+                let session = after_end(session)?;
+                self.lent = Lent::Ended(session);
+                Ok(())
+            }
             None => Err(DeskError::NotLive),
         }
     }
@@ -463,8 +453,6 @@ fn after_end(session: Box<Session>) -> Result<Box<Session>, DeskError>
         → IfErr result (λ error. finish_answer s ≡ Err error) }
 {
     let mut session = session;
-    match session.finish() {
-        Ok(()) => Ok(session),
-        Err(error) => Err(error),
-    }
+    session.finish()?;
+    Ok(session)
 }

@@ -15,8 +15,9 @@ pub fn other_words_are_not_read()
 {}
 
 /// Words that `clap` takes behind a command give a value to each option that it requires:
-/// `--keyring` of `encrypt`, `decrypt`, `extract` and `migrate`, `--jobs` of `batch` and `audit`,
-/// `--seed` and `--size` of `gen`, `--from`, `--at` and `--count` of `extract`.
+/// `--keyring` of `encrypt`, `decrypt`, `extract`, `migrate` and `reseal`, `--to-keyring` of
+/// `reseal`, `--jobs` of `batch` and `audit`, `--seed` and `--size` of `gen`, `--from`, `--at` and
+/// `--count` of `extract`.
 pub fn required_options_are_given()
     ensures { GivesRequired }
 {}

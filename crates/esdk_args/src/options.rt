@@ -24,8 +24,8 @@ pub enum OptionName {
     /// `--max-keys` of `encrypt` and `decrypt`: the greatest number of encrypted data keys, 1 to
     /// 65,535.
     MaxKeys,
-    /// `--max-unit` of `decrypt` and `reseal`: the greatest length in bytes of a frame or a single block, 1 to
-    /// 68,719,476,704.
+    /// `--max-unit` of `decrypt` and `reseal`: the greatest length in bytes of a frame or a single
+    /// block, 1 to 68,719,476,704.
     MaxUnit,
     /// `--retire` of `migrate`: the number of a node of the keyring file, 1 to 1,048,576.
     Retire,
@@ -51,8 +51,8 @@ pub(crate) enum ValueOption {
 /// A flag.
 #[derive(Clone, Copy)]
 pub(crate) enum FlagOption {
-    /// `--allow-uncommitted` of `list`, `decrypt` and `reseal`: messages without a commitment may be
-    /// read.
+    /// `--allow-uncommitted` of `list`, `decrypt` and `reseal`: messages without a commitment may
+    /// be read.
     AllowUncommitted,
     /// `--armour` of `list`, `encrypt` and `decrypt`: messages are read and written as text, base64
     /// in lines.

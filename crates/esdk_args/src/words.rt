@@ -49,10 +49,8 @@ pub fn read_words(alloc: Global, words: &[Text]) -> Result<Request, WordsFault>
 fn read_behind(alloc: Global, name: CommandName, words: &[&str]) -> Result<Request, WordsFault>
     ensures { AnswersWords result (read_behind (Some name) (map (λ w. w.now) words.now)) }
 {
-    match parse(alloc, name, words) {
-        Ok(matches) => request(alloc, name, &matches),
-        Err(fault) => Err(fault),
-    }
+    let matches = parse(alloc, name, words)?;
+    request(alloc, name, &matches)
 }
 
 /// The request of the command, by what `clap` found: refused by its first argument with a fault.

@@ -35,14 +35,12 @@ use batch_report::JobEnd;
 use context_codec::{Context, KeySet, PairError};
 use desk_core::{Desk, DeskError, SealRequest};
 use esdk_base::{Entropy, Failed, Shelf};
+use esdk_encrypt::MOST_DRAWN;
 use esdk_fields::Outside;
 use header_codec::Settings;
 use job_file::{Job, Work};
 use keyring_trait::{EncRequest, Kind, Manager, Served};
 use std::alloc::{AllocError, Global};
-
-/// The most bytes that are drawn for a message: 64, and 12 for each of 64 wraps.
-const MOST_DRAWN: usize = 832;
 
 /// Opens the session of a job, and makes the file that it writes.
 ///

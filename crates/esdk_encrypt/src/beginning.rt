@@ -26,7 +26,8 @@ pub(crate) fn begin(
     requires some { 1 ≤ options.frame_length }
     ensures stands { IfOk result (λ sealer. Stands sealer
         (session_of materials.now options.frame_length message_id.now [])) }
-    ensures taken { OnOk result (start_refusal materials.now options.max_keys message_id.now ≡ None) }
+    ensures taken { OnOk result
+        (start_refusal materials.now options.max_keys message_id.now ≡ None) }
     ensures cause { IfErr result (BeginsNoMessage (start_refusal materials.now options.max_keys
         message_id.now)) }
     ensures each { All IsEntry materials.now.entries }

@@ -9,8 +9,8 @@ use esdk_base::{Entropy, Failed};
 use esdk_fields::array_of;
 use std::marker::Model;
 
-/// The most bytes that are drawn: 64 and 12 for each of 64 wraps.
-const MOST_DRAWN: usize = 832;
+/// The most bytes that are drawn for a message: 64, and 12 for each of 64 wraps.
+pub const MOST_DRAWN: usize = 832;
 
 /// The bytes that a message is made with, at least 64. A contract sees the list of the bytes.
 #[derive(Drop)]
@@ -55,7 +55,8 @@ impl Draws {
     }
 }
 
-/// Draws them by one fill: 32 of message id, 32 of data key, and 12 of IV for each wrap.
+/// Draws the bytes that a message is made with by one fill: 32 of message id, 32 of data key, and
+/// 12 of IV for each wrap. `Failed` where the fill failed; nothing is drawn then.
 pub fn draw<W: Entropy>(entropy: &mut W, wraps: u32) -> Result<Draws, Failed>
     requires { wraps ≤ 64 }
     ensures drew { IfOk result (λ drawn. Drew wraps (W.state entropy.old)

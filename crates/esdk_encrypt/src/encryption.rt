@@ -66,14 +66,14 @@ pub fn encrypt<M: Manager, S: Source, O: Receiver, W: Entropy>(
     // Over any manager. The materials are the last that the manager which is left gave, at the
     // moment of the options.
     ensures done { OnOk result (Encrypts
-        (encryption_of (said_last (M.state manager.old) (M.state manager.new)) request.now options.now
-        options.frame_length options.max_keys)
+        (encryption_of (said_last (M.state manager.old) (M.state manager.new)) request.now
+        options.now options.frame_length options.max_keys)
         (S.state input.old) (S.state input.new)
         (gaining O.takes O.fails output.old output.new)
         (W.state entropy.old) (W.state entropy.new)) }
     ensures ends { IfErr result (λ error. EncryptEnds
-        (encryption_of (said_last (M.state manager.old) (M.state manager.new)) request.now options.now
-        options.frame_length options.max_keys)
+        (encryption_of (said_last (M.state manager.old) (M.state manager.new)) request.now
+        options.now options.frame_length options.max_keys)
         (S.state input.old) (S.state input.new)
         (gaining O.takes O.fails output.old output.new)
         (W.state entropy.old) (W.state entropy.new)

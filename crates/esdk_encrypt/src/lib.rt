@@ -22,7 +22,7 @@ mod errors;
 mod laws;
 mod options;
 
-pub use draws::{Draws, draw};
+pub use draws::{Draws, MOST_DRAWN, draw};
 pub use encryption::encrypt;
 pub use errors::EncryptError;
 pub use laws::{

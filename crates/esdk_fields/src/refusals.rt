@@ -31,8 +31,8 @@ pub enum Refusal {
     OverDeclared(u64),
 }
 
-/// Why a keyring file or a job file is refused. Its number is the one on the printed line. A place
-/// is a node's or a job's number from 1, and 0 for the file itself.
+/// Why a keyring file, a job file or an audit file is refused. Its number is the one on the printed
+/// line. A place is a node's, a job's or a message's number from 1, and 0 for the file itself.
 #[derive(Drop)]
 pub enum FileRefusal {
     /// K1: the bytes are no JSON.

@@ -16,6 +16,12 @@ use whole_input::End;
 ///
 /// What stands behind the authentication isn't judged, and no piece is read behind the one in which
 /// it ends. Nothing is written before the header is whole.
+///
+/// - `Fault`: the header or its authentication has this fault; M10 `Truncated`, where the input
+///   ends before they do.
+/// - `Outside`: a read failed (`SourceFault`), 2^62 bytes are the beginning of a header
+///   (`InputTooLong`), or the output failed (`SinkFault`).
+/// - `Memory`: memory ran out.
 pub fn list<S: Source, O: Sink>(
     alloc: Global,
     input: &mut S,

@@ -19,7 +19,7 @@ pub enum Failure {
     BadPair(u32),
     /// The input has this fault.
     Fault(Fault),
-    /// The keyring file is refused.
+    /// A keyring file, a job file or an audit file is refused.
     File(FileRefusal),
     /// The input, the output, the shelf, the entropy or a keyring failed, or the input is too long.
     Outside(Outside),

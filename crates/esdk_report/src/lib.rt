@@ -13,6 +13,6 @@ mod status;
 
 pub use context_line::context_text;
 pub use failure::Failure;
-pub use lines::{fault_text, file_text, outside_text, printed, refusal_text};
+pub use lines::{fault_text, file_text, outside_text, printed, push_number, refusal_text};
 pub use report::{line_of_context, report_context, report_failure};
 pub use status::Status;

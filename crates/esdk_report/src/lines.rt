@@ -29,8 +29,8 @@ pub fn refusal_text(alloc: Global, refusal: &Refusal) -> Result<Blob, AllocError
     Ok(line)
 }
 
-/// The line that names why a keyring file or a job file was refused. Fails only where memory runs
-/// out.
+/// The line that names why a keyring file, a job file or an audit file was refused. Fails only
+/// where memory runs out.
 #[tactic(auto, unfolding(crate::specs::Lines::file_line))]
 pub fn file_text(alloc: Global, refusal: &FileRefusal) -> Result<Blob, AllocError>
     ensures { IfOk result (λ line. line ≡ file_line refusal.now) }
@@ -149,8 +149,9 @@ fn push_kind(line: &mut Blob, kind: ContextFault) -> Result<(), AllocError>
     line.push_all(kind.name().as_bytes())
 }
 
+/// Puts a space and the number in decimal behind the line. Fails only where memory runs out.
 #[tactic(auto, unfolding(crate::specs::Lines::number_word))]
-fn push_number(alloc: Global, line: &mut Blob, n: u128) -> Result<(), AllocError>
+pub fn push_number(alloc: Global, line: &mut Blob, n: u128) -> Result<(), AllocError>
     ensures { OnOk result (line.new ≡ line.old ++ number_word n) }
 {
     let word = format!(in alloc; " {n}")?;

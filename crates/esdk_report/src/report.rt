@@ -76,7 +76,7 @@ fn report_fault<R: Sink>(alloc: Global, fault: &Fault, report: &mut R) -> Status
     Status::FAULT
 }
 
-/// Puts the line of a keyring file's refusal.
+/// Puts the line of a refused keyring file, job file or audit file.
 fn report_file<R: Sink>(alloc: Global, refusal: &FileRefusal, report: &mut R) -> Status
     ensures { Reports (failures.File refusal.now) result.code (R.state report.old)
         (R.state report.new) }
@@ -125,7 +125,7 @@ fn line_of_fault(alloc: Global, fault: &Fault) -> Result<Blob, AllocError>
     printed(alloc, &fault_text(alloc, fault)?)
 }
 
-/// The whole line of a keyring file's refusal.
+/// The whole line of a refused keyring file, job file or audit file.
 fn line_of_file(alloc: Global, refusal: &FileRefusal) -> Result<Blob, AllocError>
     ensures { IfOk result (λ line. line ≡ printed_line (file_line refusal.now)) }
 {

@@ -14,7 +14,7 @@ impl Status {
     pub const FAULT: Status = Status { code: 1 };
     /// The words aren't taken by a command, or a number or a pair among them is refused.
     pub const WORDS: Status = Status { code: 2 };
-    /// The keyring file is refused.
+    /// A keyring file, a job file or an audit file is refused.
     pub const FILE: Status = Status { code: 3 };
     /// An object outside failed, or the input is too long.
     pub const OUTSIDE: Status = Status { code: 4 };
@@ -22,7 +22,6 @@ impl Status {
     pub const MEMORY: Status = Status { code: 5 };
     /// What was asked for is refused.
     pub const REFUSAL: Status = Status { code: 6 };
-    /// The batch was run, and some job of it isn't done; or the audit, and some message of it has no
-    /// opener.
+    /// A job wasn't done, or a message of an audit has no opener.
     pub const JOBS: Status = Status { code: 7 };
 }

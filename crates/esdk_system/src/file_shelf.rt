@@ -15,9 +15,9 @@ use std::{fs, io};
 /// content.
 ///
 /// Only regular files are read and written. A read from a file's front opens the file that has the
-/// name then, and the reads behind it go on with that file, whatever becomes of the name: at most 64
-/// files are open at a time, and one that was closed for others is read no further. A name that was
-/// given to another file meanwhile has no new readers until those of the first have ended.
+/// name then, and the reads behind it go on with that file, whatever becomes of the name: at most
+/// 64 files are open at a time, and one that was closed for others is read no further. A name that
+/// was given to another file meanwhile has no new readers until those of the first have ended.
 ///
 /// What is written under a name is a new file in the same folder, `.esdk-PID-N.part`, that only its
 /// owner may open. Until `finish` renames it, what stands under the name stays, and is what is read

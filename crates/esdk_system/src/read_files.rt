@@ -41,9 +41,9 @@ impl ReadFiles {
         }
     }
 
-    /// Reads from the offset of the file on, once. A read from the front is that of a new reader: it
-    /// opens the file that has the name then, which is known from there on. Every other goes on with
-    /// that file: where it isn't open any more, the read fails.
+    /// Reads from the offset of the file on, once. A read from the front is that of a new reader:
+    /// it opens the file that has the name then, which is known from there on. Every other goes on
+    /// with that file: where it isn't open any more, the read fails.
     pub(crate) fn read(
         &mut self,
         known: &mut KnownFiles,
@@ -69,9 +69,9 @@ impl ReadFiles {
         read
     }
 
-    /// Opens the regular file that has the name now, and makes it known. Where it is open under this
-    /// name, it has one reader more. Where another file is, which lost the name while it is read,
-    /// there is no telling its readers from new ones, and the name is refused.
+    /// Opens the regular file that has the name now, and makes it known. Where it is open under
+    /// this name, it has one reader more. Where another file is, which lost the name while it is
+    /// read, there is no telling its readers from new ones, and the name is refused.
     fn open(&mut self, known: &mut KnownFiles, name: &str) -> io::Result<Named<OpenFile>> {
         let (file, identity) = open_regular(self.rt, name)?;
         known.remember(identity)?;

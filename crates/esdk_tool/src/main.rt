@@ -1,5 +1,7 @@
 //! `esdk` encrypts files into messages of the AWS Encryption SDK's message format 2.0, decrypts
-//! them, lists what stands in their headers, and runs batches of such jobs.
+//! them or extracts a range of them, reseals them under other keys, lists what stands in their
+//! headers, and encrypts and decrypts many of them in one batch. It audits which keys open which
+//! messages, migrates a keyring file to version 2, and generates a message of a seed.
 //!
 //! The program is one call, `esdk_run::run`, over its words, its input, its two outputs, a shelf of
 //! files, an entropy, a clock and the keyrings that a keyring file may name; `main` makes the real
@@ -78,9 +80,9 @@ fn run_words<R: Sink>(rt: HostRuntime, report: &mut R) -> Result<Status, Failure
     Ok(ended.status)
 }
 
-/// A shelf over the files of the folder, that puts nothing in the place of the file `esdk.key`, which
-/// the plug reads over a shelf of its own, nor of the files that standard output and standard error
-/// are.
+/// A shelf over the files of the folder, that puts nothing in the place of the file `esdk.key`,
+/// which the plug reads over a shelf of its own, nor of the files that standard output and standard
+/// error are.
 fn shelf_of(rt: HostRuntime) -> Result<FileShelf, AllocError> {
     let mut shelf = FileShelf::new(rt);
     shelf.will_read(KEY_FILE)?;

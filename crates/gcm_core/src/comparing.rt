@@ -3,8 +3,8 @@
 ghost use Rattle.std.specs.Prelude.{◌≡◌, length};
 ghost use Rattle.std.specs.Str.{bytes_eq};
 
-/// Whether the bytes are equal. Every byte is looked at, whichever differ, so that the time tells
-/// nothing of where they do.
+/// Whether the bytes are equal. Every byte is looked at, whichever differ; nothing is claimed of
+/// the time.
 pub fn same(first: &[u8], second: &[u8]) -> bool
     requires { length first.now ≡ length second.now }
     ensures { result ≡ bytes_eq first.now second.now }

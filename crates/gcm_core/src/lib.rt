@@ -14,7 +14,7 @@
 //! Nothing here copies the text, and nothing but `GcmKey::new` takes memory. The associated data is
 //! given as two slices, which count as one text, so that a caller need not join them. One key must
 //! never seal two texts under the same initialization vector. `same` compares two secrets, such as
-//! tags, in a time that tells nothing of where they differ.
+//! tags, by all their bytes.
 #![tactic(auto)]
 
 mod absorbing;

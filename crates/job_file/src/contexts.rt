@@ -74,7 +74,8 @@ pub(crate) fn required_at(
     value: &Value,
 ) -> Result<Option<KeySet>, AllocError>
     ensures value { IfOk result (λ keys. keys ≡ required_at context.now (view value.now)) }
-    ensures held { IfOk result (λ keys. IfSome keys (λ ks. list_all (holds context.now) ks ≡ true)) }
+    ensures held { IfOk result
+        (λ keys. IfSome keys (λ ks. list_all (holds context.now) ks ≡ true)) }
 {
     match value.get("required") {
         Some(keys) => match keys.as_array() {
@@ -88,7 +89,8 @@ pub(crate) fn required_at(
 /// The set of these keys.
 fn keys_in(alloc: Global, context: &Context, values: &[Value]) -> Result<Option<KeySet>, AllocError>
     ensures value { IfOk result (λ keys. keys ≡ keys_in context.now [] (items_view values.now)) }
-    ensures held { IfOk result (λ keys. IfSome keys (λ ks. list_all (holds context.now) ks ≡ true)) }
+    ensures held { IfOk result
+        (λ keys. IfSome keys (λ ks. list_all (holds context.now) ks ≡ true)) }
 {
     let mut keys = KeySet::new(alloc);
     for value in values {

@@ -6,6 +6,7 @@ ghost use Rattle.esdk_base.specs.Shelf.{HasCauseOrMissing, Holds, is_missing};
 ghost use Rattle.keydir_keyring.specs.Reading.{Gave, IsFilled, IsFront, ReadsKey};
 
 use esdk_base::{Failed, Shelf};
+use esdk_fields::array_of;
 
 /// How many bytes the file of a key has.
 const KEY_LENGTH: usize = 32;
@@ -34,9 +35,7 @@ fn key_of(bytes: &[u8]) -> [u8; 32]
     requires { 32 ≤ length bytes.now }
     ensures { result ≡ take 32 bytes.now }
 {
-    let mut key = [0; 32];
-    key.copy_from_slice(&bytes[..32]);
-    key
+    array_of(&bytes[..32])
 }
 
 /// Fills the room with the front of the file, as far as the file goes, and answers how many bytes
@@ -52,9 +51,7 @@ fn read_front<S: Shelf>(shelf: &mut S, file: &str, room: &mut [u8]) -> Result<us
 {
     let mut count = 0;
     while count < room.len() {
-        let Ok(more) = read_more(shelf, file, count, room) else {
-            return Err(Failed);
-        };
+        let more = read_more(shelf, file, count, room)?;
         if more == 0 {
             return Ok(count);
         }

@@ -5,6 +5,7 @@ ghost use Rattle.keyring_file.specs.Base64Key.{base64_key};
 
 use base64::DecodeAllocError;
 use base64::engine::general_purpose::STANDARD;
+use esdk_fields::array_of;
 use std::alloc::{AllocError, Global};
 
 /// The key that the text is the strict base64 of. None exactly where the text isn't that of 32
@@ -27,7 +28,5 @@ fn of_32(bytes: &[u8]) -> Option<[u8; 32]>
     if bytes.len() != 32 {
         return None;
     }
-    let mut key = [0; 32];
-    key.copy_from_slice(bytes);
-    Some(key)
+    Some(array_of(bytes))
 }

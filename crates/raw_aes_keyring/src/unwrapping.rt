@@ -10,6 +10,7 @@ use crate::raw_aes::RawAes;
 use crate::wrapping::whole_text;
 use context_codec::Context;
 use edk_codec::{DataKeyEntry, info_parts};
+use esdk_fields::array_of;
 use gcm_core::GcmOpener;
 use keyring_trait::{DataKey, WrapKey};
 use std::alloc::{AllocError, Global};
@@ -110,10 +111,8 @@ fn opened_key(opener: &mut GcmOpener<'_>, iv: &[u8; 12], cipher: &[u8]) -> Optio
     ensures same { opener.new ≡ opener.old }
 {
     let (sealed, tag) = cipher.split_at(32);
-    let mut bytes = [0; 32];
-    bytes.copy_from_slice(sealed);
-    let mut right = [0; 16];
-    right.copy_from_slice(tag);
+    let mut bytes: [u8; 32] = array_of(sealed);
+    let right: [u8; 16] = array_of(tag);
     if opener.open_in_place(iv, &mut bytes, &right) {
         Some(DataKey::new(bytes))
     } else {

@@ -95,7 +95,7 @@ module _ {R E : Type 0} (takes : R → R → List ℕ → Type 0) (fails : R →
     gives_last : (v : SealingValue) (old now : R) (r : Result (Unit {0}) (FeedError SealError E))
         → v.stopped ≡ false → GivesOut takes fails (finished v).out old now r
         → Finishes takes fails v old now r
-    gives_last v old now (Ok done) on gives = (on, gives)
+    gives_last v old now (Ok done) on gives = (on, gives.0)
     gives_last v old now (Err (feeds.Receiver error)) on gives = (on, gives.0, gives.1)
     gives_last v old now (Err (feeds.Machine error)) on gives = absurd gives
 
@@ -146,7 +146,7 @@ module _ {R E : Type 0} (takes : R → R → List ℕ → Type 0) (fails : R →
             given = feeding.given ++ still.now.out;
             still = still;
             taken = more output mid now feeding.given still.now.out feeding.taken
-                (gives still.now still.stands);
+                (gives still.now still.stands).0;
           }
 
       -- or the receiver failed at it

@@ -1,7 +1,7 @@
 -- A sealer whose frames a receiver takes: a piece that is fed to its end, and the message's end.
 -- `takes old new bytes`: the receiver took all of these bytes; `fails old new bytes error`: it
 -- failed with this error while it was given them.
-use Rattle.std.specs.Prelude.{◌≡◌, ℕ, ◌≤◌, List, length, true, false, None, Some, Result, Ok, Err}
+use Rattle.std.specs.Prelude.{◌≡◌, ℕ, ◌≤◌, List, [], length, true, false, None, Some, Result, Ok, Err}
 use Rattle.esdk_fields.specs.declared.refusals.Refusal.{Refusal}
 use Rattle.esdk_base.specs.declared.receiver.FeedError.{FeedError}
 use Rattle.esdk_base.specs.declared.receiver.FeedError.TheVariants as feeds
@@ -16,7 +16,7 @@ use Rattle.stream_seal.specs.Stands.{FeedsStill, Stands, StillSeals}
 -- are none, it isn't asked.
 abbrev pub GivesOut : {R E T : Type 0} → (R → R → List ℕ → Type 0) → (R → R → List ℕ → E → Type 0)
     → List ℕ → R → R → Result T (FeedError SealError E) → Type 0
-GivesOut takes fails bytes old new (Ok done) = takes old new bytes
+GivesOut takes fails bytes old new (Ok done) = takes old new bytes × (bytes ≡ [] → new ≡ old)
 GivesOut takes fails bytes old new (Err (feeds.Receiver error)) =
     (1 ≤ length bytes) × fails old new bytes error
 GivesOut takes fails bytes old new (Err (feeds.Machine error)) = ⊥

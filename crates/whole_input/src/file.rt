@@ -3,15 +3,12 @@ ghost use Rattle.std.specs.Prelude.{◌≡◌, ◌<◌, ◌≤◌, [], IfOk, IfE
 ghost use Rattle.whole_input.specs.File.{Adds, FileCause, IsFile};
 ghost use Rattle.whole_input.specs.Pieces.{most_piece};
 
-use crate::buffer::buffer_of;
+use crate::buffer::{PIECE, buffer_of};
 use esdk_base::Shelf;
 use esdk_fields::Blob;
 use std::alloc::{AllocError, AllocFailed, Global};
 use std::error::Error;
 use std::fmt;
-
-/// How many bytes are read at once at the most.
-const PIECE: usize = 65536;
 
 /// How many bytes a file has at the most that is taken whole.
 const MOST_FILE: usize = 1_048_576;
@@ -58,7 +55,10 @@ impl From<AllocError> for FileError {
 
 /// Takes all bytes of the file that has this name on the shelf, at most 1,048,576. It is read in
 /// pieces of at most 65,536 bytes, and no further than to the piece that makes it too long. The
-/// shelf stays as it is.
+/// shelf keeps its files.
+///
+/// `Shelf` where a read failed or no such file is there, `TooLong` where the file gave more bytes,
+/// `Memory` where memory ran out.
 pub fn take_file<F: Shelf>(alloc: Global, shelf: &mut F, name: &str) -> Result<Blob, FileError>
     ensures file { IfOk result (λ bytes. IsFile (F.state shelf.old)
         (F.state shelf.new) name.now bytes) }

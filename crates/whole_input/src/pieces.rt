@@ -2,13 +2,10 @@
 ghost use Rattle.std.specs.Prelude.{◌≡◌, ◌≤◌, [], length, IfOk, OnErr};
 ghost use Rattle.whole_input.specs.Pieces.{NextPiece, ReadsInto};
 
-use crate::buffer::buffer_of;
+use crate::buffer::{PIECE, buffer_of};
 use esdk_base::Source;
 use std::alloc::{AllocError, Global};
 use std::marker::Model;
-
-/// How many bytes are read at once at the most.
-const PIECE: usize = 65536;
 
 /// How many bytes of one input are taken at the most.
 const MOST_INPUT: usize = 1 << 62;

@@ -1,4 +1,5 @@
 use Rattle.std.proofs.Common.{◌∙◌, ℕ, List, sym, ap, subst, map}
+use Rattle.std.proofs.lemmas.Result.{err_from_is_err_and}
 use Rattle.std.specs.Prelude.{Some, Result, Ok, Err}
 use Rattle.clap.specs.Faults.{fault_of}
 use Rattle.clap.specs.Simple.{matches_of}
@@ -26,8 +27,10 @@ parsed : (name : CommandName) (words : List (List ℕ)) (m : ArgMatches) (r : Re
 parsed name words m r p answers =
     subst (AnswersWords r) (ap (λ rows. request_of name (values_in rows)) p.1 ∙ sym (ap (λ kinds. unless_refused kinds (request_of name (values_in (matches_of (app_of_command name) words)))) p.0)) answers
 
-pub returns-in-Ok : goal.returns-in-Ok
-returns-in-Ok c = parsed c.args.name (map (λ w. w.now) c.args.words.now) c.in-Ok.matches c.request.result c.in-Ok.ensures c.request.ensures
+pub returns : goal.returns
+returns c = parsed c.args.name (map (λ w. w.now) c.args.words.now) c.in_ok-matches.matches c.request.result c.in_ok-matches.ensures c.request.ensures
 
-pub returns-in-Err : goal.returns-in-Err
-returns-in-Err c = parse_fails c.args.name (map (λ w. w.now) c.args.words.now) c.in-Err.fault c.in-Err.ensures
+pub returns-in_err-matches : goal.returns-in_err-matches
+returns-in_err-matches c =
+    let p = err_from_is_err_and c.from_residual.result c.from_residual.ensures.1 in
+    rw (p.1, p.2) (parse_fails c.args.name (map (λ w. w.now) c.args.words.now) c.in_err-matches.field-0.0 c.in_err-matches.ensures)

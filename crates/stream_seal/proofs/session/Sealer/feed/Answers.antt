@@ -52,7 +52,7 @@ loop-left-preserved g c = record {
       (let before = c.loop-left.invariant.still v stands on in
       let took = c.loop-left.invariant.handed v stands on in
       let after = c.step.ensures.stands before.session before.stands in
-      (_, g.met.R.Receiver.takes_more _ _ _ took.0 _ took.1 (c.in_ok-hand_out.ensures _ after)));
+      (_, g.met.R.Receiver.takes_more _ _ _ took.0 _ took.1 (c.in_ok-hand_out.ensures _ after).0));
 }
 
 pub returns-clause-feeds : goal.returns-clause-feeds
