@@ -40,7 +40,7 @@ use Rattle.reseal_core.proofs.Stepping.{gains_all}
 use Rattle.reseal_core.proofs.RandomBytes.{one_random}
 use Rattle.reseal_core.proofs.Sessions.{concludes_err}
 use Rattle.reseal_core.proofs.StepEnds.{step_ends, unstopped}
-use Rattle.callers.specs.Resealing.{EndsSo, HasFault, IsWholeAnd, OpensAnd, Reseals}
+use Rattle.callers.specs.Resealing.{ResealerFails, HasFault, IsWholeAnd, OpensAnd, Reseals}
 use Rattle.callers.proofs.Resealed.{came_so, ends_so, first_so, left, told}
 
 -- ---- a step's part of a piece, of which so many bytes were taken
@@ -118,9 +118,9 @@ module _ {A B : Type 0} (opened : A → ManagerNow) (sealed : B → ManagerNow) 
   -- a step failed, and these bytes follow behind those that it was given
   pub step_fails : (rest more all : List ℕ) (last : A) (end : B) (now_put : SinkState) (next : Resealer) (unwritten : Type 0) → 1 ≤ length rest → length rest ≤ 65536 → (asked_header w rest ≡ None → last ≡ new) → (unwritten → now_put ≡ put)
       → (error : ResealError) → Steps (opened new) (opened last) (said_last (sealed after) (sealed end)) now v rest put now_put (end ≡ after) unwritten (Err error) next → (bytes ++ rest) ++ more ≡ all
-      → EndsSo (resealing_from (opened old) (opened last) (sealed before) (sealed end) now settings given size) random all output now_put error
+      → ResealerFails (resealing_from (opened old) (opened last) (sealed before) (sealed end) now settings given size) random all output now_put error
   step_fails rest more all last end now_put next unwritten some few stays kept error s all_is =
-      subst (λ (b : List ℕ). EndsSo (resealing_from (opened old) (opened last) (sealed before) (sealed end) now settings given size) random b output now_put error) all_is
+      subst (λ (b : List ℕ). ResealerFails (resealing_from (opened old) (opened last) (sealed before) (sealed end) now settings given size) random b output now_put error) all_is
       (ends_so (resealing_from (opened old) (opened last) (sealed before) (sealed end) now settings given size) random (bytes ++ rest) more output now_put error
       (λ stop. unstopped opened sealed now settings given size random bytes old new before after output put resealer r rest last end now_put next unwritten some stays
       (subst (λ (e : ResealError). Steps (opened new) (opened last) (said_last (sealed after) (sealed end)) now v rest put now_put (end ≡ after) unwritten (Err e) next) stop s))
@@ -147,12 +147,12 @@ module _ {A B : Type 0} (opened : A → ManagerNow) (sealed : B → ManagerNow) 
   wanting_by (Faulty fault) is none sound = absurd (let no : true ≡ false = sound in cc)
 
   -- the message isn't unlocked: more bytes are wanted
-  pub wants_more : whole_context w ≡ None → EndsSo asked random bytes output put (reseals.Fault Truncated)
+  pub wants_more : whole_context w ≡ None → ResealerFails asked random bytes output put (reseals.Fault Truncated)
   wants_more none = wanting_by (judged_now w).verdict refl none r.fed.feeds.goes.sound
 
   -- ---- memory runs out
 
-  memory_by : (m : Option EncMaterialsValue) → r.materials ≡ m → EndsSo asked random bytes output put reseals.Memory
+  memory_by : (m : Option EncMaterialsValue) → r.materials ≡ m → ResealerFails asked random bytes output put reseals.Memory
   memory_by None is = inl (gains_all output put [] (subst (λ (x : Option EncMaterialsValue). Gains output put [] (front_of x size random (content (judged_now w)))) is r.gained))
   memory_by (Some m) is =
       let first = writes_reached opened sealed now settings given size random bytes old new before after output put resealer r [] new after refl (λ none. refl) (told ((bytes ++ []) ++ [])) (left (bytes ++ []) [])
@@ -160,7 +160,7 @@ module _ {A B : Type 0} (opened : A → ManagerNow) (sealed : B → ManagerNow) 
       inr (subst (λ (b : List ℕ). OpensAnd asked b (λ whole only text. WritesFront asked random whole only text output put)) (append-nil (bytes ++ []) ∙ append-nil bytes)
       (first_so asked random (bytes ++ []) [] output put first))
 
-  pub lacks_memory : EndsSo asked random bytes output put reseals.Memory
+  pub lacks_memory : ResealerFails asked random bytes output put reseals.Memory
   lacks_memory = memory_by r.materials refl
 
   -- ---- the bytes are a whole message
@@ -203,7 +203,7 @@ module _ {A B : Type 0} (opened : A → ManagerNow) (sealed : B → ManagerNow) 
           subst (λ (x : List ℕ). Appends output.written last.written x) (sym finishes.between) (Appends-trans output.written put.written last.written _ finishes.given gained.gained finishes.taken.gained),
         ))
 
-    sink_fails : ConcludesSo v put last (Err reseals.SinkFault) → EndsSo asked random bytes output last reseals.SinkFault
+    sink_fails : ConcludesSo v put last (Err reseals.SinkFault) → ResealerFails asked random bytes output last reseals.SinkFault
     sink_fails (whole, (m, e, failed)) =
         let gained = has_gained opened sealed now settings given size random bytes old new before after output put resealer r m e in (
           omega (arith, failed.failed.rose, gained.faults),
@@ -215,7 +215,7 @@ module _ {A B : Type 0} (opened : A → ManagerNow) (sealed : B → ManagerNow) 
         )
 
     -- or it wasn't
-    pub finishes_not : (error : ResealError) → (unwritten → last ≡ put) → Finishes v put last unwritten (Err error) → EndsSo asked random bytes output last error
+    pub finishes_not : (error : ResealError) → (unwritten → last ≡ put) → Finishes v put last unwritten (Err error) → ResealerFails asked random bytes output last error
     finishes_not (reseals.Fault fault) kept ends =
         let so = concludes_err v put last unwritten (reseals.Fault fault) (errors.Fault fault) r.fed.feeds.goes kept ends refl in
         subst (λ (s : SinkState). HasFault asked random bytes output s fault) (sym so.1) (fault_here fault so.0)

@@ -91,35 +91,35 @@ pub record HasFrontAnd (asked : Resealing) (random : List ℕ) (so : List ℕ �
       (take (most_text asked.size) text))
 
 -- why the resealer failed, and what was written
-abbrev pub EndsSo : Resealing → List ℕ → List ℕ → SinkState → SinkState → ResealError
+abbrev pub ResealerFails : Resealing → List ℕ → List ℕ → SinkState → SinkState → ResealError
     → Type 0
-EndsSo asked random bytes output put (reseals.Fault fault) = HasFault asked random bytes output put
+ResealerFails asked random bytes output put (reseals.Fault fault) = HasFault asked random bytes output put
     fault
-EndsSo asked random bytes output put (reseals.Refusal refusal) =
+ResealerFails asked random bytes output put (reseals.Refusal refusal) =
     (SinkTakes output put [] × OpensAnd asked bytes
     (λ whole only text. asked.gives_none (request_for whole only) (managers.Refusal refusal)
     ⊎ StartsNot asked random whole only refusal))
     ⊎ ((refusal ≡ TooManyFrames) × OpensAnd asked bytes
     (λ whole only text. (most_text asked.size < length text) × HasFrontAnd asked random
     (λ front. Appends output.written put.written front) whole only text))
-EndsSo asked random bytes output put reseals.KeyringFault = SinkTakes output put []
+ResealerFails asked random bytes output put reseals.KeyringFault = SinkTakes output put []
     × (FailsTo asked.opening.manager asked.opening.settings asked.opening.given bytes
     ⊎ OpensAnd asked bytes
     (λ whole only text. asked.gives_none (request_for whole only) managers.KeyringFault))
-EndsSo asked random bytes output put reseals.SinkFault = Rose output.faults put.faults
+ResealerFails asked random bytes output put reseals.SinkFault = Rose output.faults put.faults
     × (OpensAnd asked bytes (HasFrontAnd asked random
     (λ front. AppendsFront output.written put.written front))
     ⊎ ((context : List KeyValue) × IsWholeAnd asked random bytes
     (λ text message. AppendsFront output.written put.written message) context))
-EndsSo asked random bytes output put reseals.Stopped = ⊥
-EndsSo asked random bytes output put reseals.Memory = SinkTakes output put []
+ResealerFails asked random bytes output put reseals.Stopped = ⊥
+ResealerFails asked random bytes output put reseals.Memory = SinkTakes output put []
     ⊎ OpensAnd asked bytes (λ whole only text. WritesFront asked random whole only text output put)
 
 -- why the pieces aren't resealed, and what was written
 abbrev pub ResealsNot : Resealing → List ℕ → List ℕ → SinkState → SinkState → CallError → Type 0
-ResealsNot asked random bytes output put (calls.Reseal error) = EndsSo asked random bytes output put
+ResealsNot asked random bytes output put (calls.Reseal error) = ResealerFails asked random bytes output put
     error
-ResealsNot asked random bytes output put calls.Memory = EndsSo asked random bytes output put
+ResealsNot asked random bytes output put calls.Memory = ResealerFails asked random bytes output put
     reseals.Memory
 ResealsNot asked random bytes output put error = ⊥
 
