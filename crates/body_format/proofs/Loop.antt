@@ -64,11 +64,11 @@ pub last_end : (width : ℕ) (unit : ℕ → Reader Piece) (p : Place) (k : ℕ)
     → unit k place ≡ Read (Last content) next → judged_units width unit p ≡ record { units = units ++ content ∷ []; verdict = behind_last next.left }
 last_end width unit p k units place content next row passed e = ends width unit p k units place (Read (Last content) next) row passed e refl
 
-abbrev judged : List (List ℕ) → Verdict → JudgedBody
-judged units verdict = record { units = units; verdict = verdict }
+abbrev body_as : List (List ℕ) → Verdict → JudgedBody
+body_as units verdict = record { units = units; verdict = verdict }
 
-without : (units : List (List ℕ)) (verdict : Verdict) → judged (units ++ []) verdict ≡ judged units verdict
-without units verdict = ap (λ (l : List (List ℕ)). judged l verdict) (append-nil units)
+without : (units : List (List ℕ)) (verdict : Verdict) → body_as (units ++ []) verdict ≡ body_as units verdict
+without units verdict = ap (λ (l : List (List ℕ)). body_as l verdict) (append-nil units)
 
 pub fault_end : (width : ℕ) (unit : ℕ → Reader Piece) (p : Place) (k : ℕ) (units : List (List ℕ)) (place : Place) (fault : Fault) (at : ℕ) → IsRow width unit → Passed width unit p k place units
     → unit k place ≡ Refused fault at → judged_units width unit p ≡ record { units = units; verdict = Faulty fault }

@@ -3,7 +3,7 @@
 ghost use Rattle.std.specs.Prelude.{◌≡◌, ◌≢◌, ◌≤◌, ℕ, List, length, IfOk, IfSome, IfNone};
 ghost use Rattle.edk_codec.specs.RawInfo.{raw_info};
 
-use esdk_fields::{Blob, put_u32};
+use esdk_fields::{Blob, array_of, put_u32};
 use std::alloc::{AllocError, Global};
 
 /// The length of an authentication tag, in bits.
@@ -44,7 +44,5 @@ pub fn info_parts(info: &[u8], name: &[u8]) -> Option<[u8; 12]>
     if front != name || lengths != LENGTHS.as_slice() {
         return None;
     }
-    let mut found = [0; 12];
-    found.copy_from_slice(iv);
-    Some(found)
+    Some(array_of(iv))
 }

@@ -5,5 +5,5 @@ pub mod Repeat
 pub mod Again
 pub mod Inverse
 pub mod Taken
-pub mod LentBytes
 pub mod Sized
+pub mod Limited

@@ -7,7 +7,6 @@ pub mod Sized
 pub mod Gives
 pub mod Sequential
 pub mod Laws
-pub mod Lending
 pub mod Counts
 pub mod Names
 pub mod Limits

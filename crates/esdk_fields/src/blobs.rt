@@ -3,8 +3,6 @@
 
 ghost use Rattle.std.specs.Prelude.{◌≡◌, ◌≤◌, ◌++◌, [], length, OnOk, OnErr};
 ghost use Rattle.std.specs.Int.{w16, w32, w64};
-ghost use Rattle.std.specs.Borrow.{sem};
-ghost use Rattle.esdk_fields.specs.Lending.{LendsBytes};
 ghost use Rattle.esdk_fields.specs.Numbers.{to_big_endian};
 ghost use Rattle.esdk_fields.specs.Sized.{sized};
 
@@ -48,15 +46,6 @@ impl Blob {
         ensures { result.now ≡ self.now }
     {
         self.inner.as_slice()
-    }
-
-    /// The bytes, lent to be changed where they lie. Once that is over, the blob holds what was
-    /// left there.
-    pub fn bytes_mut(&mut self) -> &mut [u8]
-        ensures* writes_back { sem 𝓛 (LendsBytes self.entry result) }
-        ensures value { result.now ≡ self.old }
-    {
-        self.inner.as_mut_slice()
     }
 }
 

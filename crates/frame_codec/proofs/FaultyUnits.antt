@@ -14,7 +14,7 @@ use Rattle.frame_codec.specs.declared.unit_heads.Head.TheVariants as heads
 use Rattle.frame_codec.specs.UnitHead.{frame_start, block_start, unit_head, head_of}
 use Rattle.frame_codec.specs.Unit.{Piece, opened_unit, unit}
 use Rattle.frame_codec.specs.Rows.{number_at, long_number_at, HasFault, OtherNumber, OtherFinalNumber, LongFinal, LongBlock, LimitedBlock, HasWrongTag}
-use Rattle.frame_codec.proofs.Limits.{over_limit, limit_over}
+use Rattle.esdk_fields.proofs.Limited.{over_limit, limit_over}
 use Rattle.frame_codec.proofs.Fields.{place}
 use Rattle.frame_codec.proofs.Steps.{after_head}
 use Rattle.frame_codec.proofs.Ways.{number_refused, final_number_refused, final_refused, Short, Other, Numbered, Regular, Marked, FinalOther, FinalNumbered, FinalLong, Final, frame_way, block_refused, block_limited, BlockShort, BlockLong, BlockOver, Block, block_way}

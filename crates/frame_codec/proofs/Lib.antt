@@ -7,7 +7,6 @@ pub mod Ways
 pub mod Heads
 pub mod Units
 pub mod Sizes
-pub mod Limits
 pub mod Answering
 pub mod FaultyUnits
 pub mod AadLemmas

@@ -22,7 +22,7 @@ use Rattle.frame_codec.specs.Unit.{Piece, More, Last, piece_of, opened_unit, uni
 use Rattle.frame_codec.specs.Written.{sealed_unit, single_block}
 use Rattle.frame_codec.specs.Rows.{number_at, long_number_at}
 use Rattle.frame_codec.specs.Spelled.{IsSpelled, RegularFrame, FinalFrame, SingleBlock}
-use Rattle.frame_codec.proofs.Limits.{within_limit, limit_within}
+use Rattle.esdk_fields.proofs.Limited.{within_limit, limit_within}
 use Rattle.frame_codec.proofs.Fields.{place, first_number_there, read_once}
 use Rattle.frame_codec.proofs.Steps.{made_regular, made_final, made_block}
 use Rattle.frame_codec.proofs.Ways.{Short, Other, Numbered, Regular, Marked, FinalOther, FinalNumbered, FinalLong, Final, frame_way, BlockShort, BlockLong, BlockOver, Block, block_way}

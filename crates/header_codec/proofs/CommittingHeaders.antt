@@ -10,7 +10,7 @@ use Rattle.header_codec.specs.Header.{latest_end, authentication_text}
 use Rattle.esdk_fields.specs.Limits.{is_over}
 use Rattle.header_codec.specs.Table.{BeginsWith}
 use Rattle.header_codec.specs.Written.{AreHeaderParts, parts_with, committing, written_header, written_value, end_refusal, header_refusal, keys_end}
-use Rattle.header_codec.proofs.Contents.{within_limit}
+use Rattle.esdk_fields.proofs.Limited.{within_limit}
 use Rattle.header_codec.proofs.WrittenHeaders.{ends_in_time, length-written, written_is_read}
 
 -- the body ends 37 bytes behind the data keys

@@ -1,30 +1,13 @@
 -- Content types and frame lengths, as tests and as facts.
 use Rattle.std.proofs.Common.{◌≡◌, ◌≢◌, ℕ, ◌<◌, ◌≤◌, ◌^◌, Bool, true, false, not, ◌&&◌, ◌||◌, cond, eqb, Option, Some, None, refl, arith}
-use Rattle.std.specs.Prelude.{IfSome, IsSomeAnd}
-use Rattle.std.proofs.lemmas.Bool.{eqb-true, eqb-false, ltb-true, ltb-false, le-ltb, lt-ltb, ne_eqb}
+use Rattle.std.specs.Prelude.{IfSome}
+use Rattle.std.proofs.lemmas.Bool.{eqb-true, eqb-false, ne_eqb}
 use Rattle.esdk_fields.specs.declared.contents.Content.{Content}
 use Rattle.esdk_fields.specs.declared.contents.Content.TheVariants.{Single, Framed}
 use Rattle.header_codec.specs.Header.{content_type, frame_length, IsContent}
 use Rattle.esdk_fields.specs.Limits.{is_over}
+use Rattle.esdk_fields.proofs.Limited.{within_limit, limit_within}
 use Rattle.header_codec.specs.Table.{is_content_type, is_frame_length, is_unit_over, content_of}
-
--- ---- limits
-
-pub within_limit : (max : Option ℕ) (n : ℕ) → is_over max n ≡ false → IfSome max (λ most. n ≤ most)
-within_limit None n e = tt
-within_limit (Some most) n e = ltb-false most n e
-
-pub limit_within : (max : Option ℕ) (n : ℕ) → IfSome max (λ most. n ≤ most) → is_over max n ≡ false
-limit_within None n h = refl
-limit_within (Some most) n h = le-ltb most n h
-
-pub over_limit : (max : Option ℕ) (n : ℕ) → is_over max n ≡ true → IsSomeAnd max (λ most. most < n)
-over_limit None n e = absurd cc
-over_limit (Some most) n e = ltb-true most n e
-
-pub limit_over : (max : Option ℕ) (n : ℕ) → IsSomeAnd max (λ most. most < n) → is_over max n ≡ true
-limit_over None n h = absurd h
-limit_over (Some most) n h = lt-ltb most n h
 
 -- ---- content
 

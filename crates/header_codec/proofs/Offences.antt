@@ -31,7 +31,7 @@ use Rattle.header_codec.specs.Offence.{NoKeys, ManyKeys, LatePart, ContentType, 
 use Rattle.header_codec.proofs.Steps.{after_count, after_kind, after_iv_length, after_zeros, after_reserved, after_type_of_content, after_frame, after_opening, after_context, after_keys, after_content, after_commitment, after_iv, head_with}
 use Rattle.header_codec.proofs.Readings.{guard_refused, refuse_refused, read_not_refused}
 use Rattle.header_codec.proofs.Fronts.{not_false, opening_taken, context_taken}
-use Rattle.header_codec.proofs.Contents.{within_limit, over_limit}
+use Rattle.esdk_fields.proofs.Limited.{within_limit, over_limit}
 use Rattle.header_codec.proofs.Spelled.{keys_taken, reserved_taken, opening_short}
 use Rattle.header_codec.proofs.Refused.{offends_at, not_true, opening_offends, context_offends, LateParts, entries_late}
 

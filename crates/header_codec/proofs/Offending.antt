@@ -26,7 +26,7 @@ use Rattle.header_codec.specs.Table.{is_version, suite_of_version, is_forbidden,
 use Rattle.header_codec.specs.Offence.{opened_text, IsOpened}
 use Rattle.header_codec.proofs.Steps.{after_version, after_type, after_suite_id, after_suite, after_type_field, after_context_length, after_part_length, after_provider, after_info, after_count, after_opening, after_context, after_keys}
 use Rattle.header_codec.proofs.Readings.{place, Refuses, Refuses-bind, Refuses-first, Refuses-after, guard_passes, guard_refuses, judge_refuses, refuse_refuses}
-use Rattle.header_codec.proofs.Contents.{limit_over}
+use Rattle.esdk_fields.proofs.Limited.{limit_over}
 use Rattle.header_codec.proofs.ReadBack.{Reads-bytes, Reads-number8, Reads-number16, Reads-type, Reads-opening, Reads-context, Reads-part, Reads-entry}
 
 pub Refuses-guard : {A : Type 0} (b : Bool) (own : Fault) (k : Reader A) (at : ℕ) (text : List ℕ) (fault : Fault) → b ≡ false → Refuses k at text fault → Refuses (refuse_if b own >> k) at text fault

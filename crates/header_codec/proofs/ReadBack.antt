@@ -28,7 +28,8 @@ use Rattle.header_codec.specs.Table.{Head, is_version, is_content_type, is_frame
 use Rattle.header_codec.specs.Laws.{IsSpelled}
 use Rattle.header_codec.proofs.Steps.{after_version, after_type, after_suite_id, after_suite, after_type_field, after_context_length, after_part_length, after_provider, after_info, after_count, after_kind, after_iv_length, after_zeros, after_reserved, after_type_of_content, after_frame, after_opening, after_context, after_keys, after_content, after_commitment, after_size, after_iv, head_with}
 use Rattle.header_codec.proofs.Readings.{place, Reads, Reads-bind, Reads-after, guard_passes, judge_passes}
-use Rattle.header_codec.proofs.Contents.{limit_within, passes}
+use Rattle.esdk_fields.proofs.Limited.{limit_within}
+use Rattle.header_codec.proofs.Contents.{passes}
 use Rattle.header_codec.proofs.Spelled.{length-behind_keys}
 
 -- ---- fields

@@ -23,7 +23,7 @@ use Rattle.header_codec.specs.Offence.{opened_text, IsIdentified, IsOpened, IsCo
 use Rattle.header_codec.specs.Offence.{Version, MessageType, Forbidden, SuiteId, Context, NoKeys, ManyKeys, LatePart, ContentType, Reserved, IvLength, FrameLength, LongFrame}
 use Rattle.header_codec.proofs.Steps.{after_count, after_kind, after_iv_length, after_zeros, after_reserved, after_type_of_content, after_frame, after_opening, after_context, after_keys, after_content}
 use Rattle.header_codec.proofs.Readings.{place, Refuses, Refuses-bind, Refuses-first, Refuses-after, guard_passes, guard_refuses, refuse_refuses}
-use Rattle.header_codec.proofs.Contents.{limit_within, limit_over}
+use Rattle.esdk_fields.proofs.Limited.{limit_within, limit_over}
 use Rattle.header_codec.proofs.ReadBack.{Reads-number8, Reads-number16, Reads-number32, Reads-reserved, Reads-opening, Reads-keys}
 use Rattle.header_codec.proofs.Offending.{Refuses-guard, not_of_false, not_of_true, version_refused, type_refused, forbidden_refused, suite_refused, context_refused, behind_context, no_keys_refused, many_keys_refused, EndsLate, late_text, entries_late}
 

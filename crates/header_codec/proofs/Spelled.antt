@@ -31,7 +31,8 @@ use Rattle.header_codec.specs.Laws.{IsSpelled}
 use Rattle.header_codec.proofs.Steps.{after_count, after_kind, after_iv_length, after_zeros, after_reserved, after_type_of_content, after_frame, header_is_read}
 use Rattle.header_codec.proofs.Readings.{guard_read, refuse_read}
 use Rattle.header_codec.proofs.Fronts.{not_false, nothing_taken, opening_taken, context_taken, entries_taken}
-use Rattle.header_codec.proofs.Contents.{within_limit, is_made}
+use Rattle.esdk_fields.proofs.Limited.{within_limit}
+use Rattle.header_codec.proofs.Contents.{is_made}
 
 -- ---- the data keys
 

@@ -16,7 +16,6 @@ use Rattle.context_codec.specs.Parts.{stored_in}
 use Rattle.keyring_trait.specs.Unlocking.{Unlocking, Refuses, Unlocks}
 use Rattle.body_format.specs.declared.verdicts.Verdict.{Verdict}
 use Rattle.body_format.specs.declared.verdicts.Verdict.TheVariants.{Going, Whole, Faulty}
-use Rattle.body_format.specs.Rows.{JudgedBody}
 use Rattle.message_format.specs.Judgement.{Judged, locked, opened_as, lock_fault, header_of, judged_lock, judged_header, judged_reading, judged}
 use Rattle.message_format.specs.Laws.{FaultsStay, UnitsStay, UnlockingStays, RefusesTrailingBytes, FrontsGoOn}
 use Rattle.message_format.proofs.Judging.{judged_is}
@@ -52,14 +51,11 @@ going_follows more after = record {
 body_follows : (settings : Settings) (h : HeaderValue) (key more : List ℕ) (p : Place)
     → Follows more (judged_lock settings h key p None) (judged_lock settings h key (followed p more) None)
 body_follows settings h key more p = record {
-  fault = λ f e. ap opened (body_fault_stays h.content settings.max_unit (derived h.suite key h.message_id) h.message_id p more f e);
+  fault = λ f e. ap opened_as (body_fault_stays h.content settings.max_unit (derived h.suite key h.message_id) h.message_id p more f e);
   units = body_units_stay h.content settings.max_unit (derived h.suite key h.message_id) h.message_id p more;
   unlocked = λ e. refl;
-  trailing = λ e some. ap opened (body_trailing h.content settings.max_unit (derived h.suite key h.message_id) h.message_id p more e some);
+  trailing = λ e some. ap opened_as (body_trailing h.content settings.max_unit (derived h.suite key h.message_id) h.message_id p more e some);
 }
-  where
-    opened : JudgedBody → Judged
-    opened j = opened_as j
 
 lock_follows : (settings : Settings) (h : HeaderValue) (key more : List ℕ) (p : Place) (lock : Option Fault)
     → Follows more (judged_lock settings h key p lock) (judged_lock settings h key (followed p more) lock)

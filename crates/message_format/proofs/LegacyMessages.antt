@@ -23,13 +23,13 @@ use Rattle.header_codec.proofs.WrittenHeaders.{written_is_read}
 use Rattle.suite_table.specs.declared.suite.Suite.TheVariants.{Uncommitted}
 use Rattle.suite_table.specs.Suites.{suite_id}
 use Rattle.suite_table.specs.Keys.{derived}
-use Rattle.frame_codec.proofs.Limits.{limit_within}
+use Rattle.esdk_fields.proofs.Limited.{limit_within}
 use Rattle.keyring_trait.specs.Unlocking.{Unlocking, Unlocks}
 use Rattle.body_format.specs.declared.verdicts.Verdict.TheVariants.{Whole, Faulty}
 use Rattle.body_format.specs.Rows.{JudgedBody}
 use Rattle.body_format.specs.Body.{judged_body}
 use Rattle.body_format.proofs.BodyLaws.{framed_whole, block_whole}
-use Rattle.message_format.specs.Judgement.{Judged, locked, opened_as, judged_header, lock_fault, judged}
+use Rattle.message_format.specs.Judgement.{locked, opened_as, judged_header, lock_fault, judged}
 use Rattle.message_format.specs.Legacy.{Legacy, legacy_raw, legacy_tag, legacy_body, legacy_message, legacy_units, unit_length, HasRoom, IsLegacyWritable, IsLegacyAllowed}
 use Rattle.message_format.proofs.Judging.{judged_refused, judged_read, judged_opened}
 use Rattle.message_format.proofs.Lines.{lock_opens}
@@ -93,11 +93,8 @@ body_whole m (Framed size) text max_unit at is short iv limit =
 
 -- ---- the message
 
-abbrev opened : JudgedBody → Judged
-opened j = opened_as j
-
 pub legacy_is_whole : (m : Legacy) (text : List ℕ) (settings : Settings) (answered : List KeyValue) → IsLegacyWritable m text → IsLegacyAllowed settings m text
-    → judged (legacy_message m text) settings (Unlocks answered (only_of m.required m.context) m.key) ≡ opened (whole (legacy_units m.content text))
+    → judged (legacy_message m text) settings (Unlocks answered (only_of m.required m.context) m.key) ≡ opened_as (whole (legacy_units m.content text))
 legacy_is_whole m text settings answered w allowed =
     let b = legacy_message m text in
     let h = written m in
@@ -107,7 +104,7 @@ legacy_is_whole m text settings answered w allowed =
     judged_read b settings answer found.parts body found.read
     ∙ ap (λ (h : HeaderValue). judged_header settings h body answer) (header_found settings b h body found)
     ∙ judged_opened settings h body answered (only_of m.required m.context) m.key (opens m)
-    ∙ ap opened (body_whole m m.content text settings.max_unit body.at w.cut w.short w.block_iv_long allowed.max_unit)
+    ∙ ap opened_as (body_whole m m.content text settings.max_unit body.at w.cut w.short w.block_iv_long allowed.max_unit)
 
 -- ---- where it isn't allowed
 

@@ -20,11 +20,10 @@ use Rattle.suite_table.specs.declared.suite.Suite.{Suite}
 use Rattle.suite_table.specs.declared.suite.Suite.TheVariants.{Committing, Uncommitted}
 use Rattle.suite_table.specs.Keys.{commitment}
 use Rattle.keyring_trait.specs.Unlocking.{Unlocking, Refuses, Unlocks}
-use Rattle.body_format.specs.Rows.{JudgedBody}
 use Rattle.body_format.specs.Body.{judged_body}
 use Rattle.body_format.specs.Table.{tabled_frames, tabled_block}
 use Rattle.message_format.specs.Message.{header_tag}
-use Rattle.message_format.specs.Judgement.{Judged, opened_as, is_committed, lock_fault, header_of, judged_header, judged}
+use Rattle.message_format.specs.Judgement.{opened_as, is_committed, lock_fault, header_of, judged_header, judged}
 use Rattle.message_format.specs.Laws.{Commits, body_start_of, key_of, tag_due, IsLineByLine}
 use Rattle.message_format.proofs.Bodies.{frames_tabled, block_tabled}
 use Rattle.message_format.proofs.Judging.{judged_refused, judged_wanting, judged_read, judged_opened, judged_locked}
@@ -108,9 +107,6 @@ lock_opens h only key e f = rw (all_committed h.suite h.commitment key h.message
 
 -- ---- the lines
 
-abbrev opened : JudgedBody → Judged
-opened j = opened_as j
-
 answered : (bytes : List ℕ) (settings : Settings) (answer : Unlocking) (parts : Head) (body : Place) (other : Unlocking) → header settings (start bytes) ≡ Read parts body → answer ≡ other
     → judged bytes settings answer ≡ judged_header settings (header_of bytes parts) body other
 answered bytes settings answer parts body other e is = judged_read bytes settings answer parts body e ∙ ap (judged_header settings (header_of bytes parts) body) is
@@ -118,7 +114,7 @@ answered bytes settings answer parts body other e is = judged_read bytes setting
 -- the body of an unlocked message
 unlocked : (bytes : List ℕ) (settings : Settings) (answer : Unlocking) (parts : Head) (body : Place) (whole only : List KeyValue) (key : List ℕ) → header settings (start bytes) ≡ Read parts body
     → answer ≡ Unlocks whole only key → Commits parts key → parts.tag ≡ tag_due bytes parts only key
-    → judged bytes settings answer ≡ opened (judged_body parts.content settings.max_unit (key_of parts key) parts.opening.id body)
+    → judged bytes settings answer ≡ opened_as (judged_body parts.content settings.max_unit (key_of parts key) parts.opening.id body)
 unlocked bytes settings answer parts body whole only key e is commits tagged =
     answered bytes settings answer parts body (Unlocks whole only key) e is
     ∙ judged_opened settings (header_of bytes parts) body whole only key (lock_opens (header_of bytes parts) only key commits tagged)
@@ -139,13 +135,13 @@ line_by_line bytes settings answer = record {
   frames = λ parts whole only key size e is commits tagged content.
       let r = read_reading (header settings (start bytes)) parts e in
       unlocked bytes settings answer parts r.0 whole only key r.1 is commits tagged
-      ∙ ap (λ (c : Content). opened (judged_body c settings.max_unit (key_of parts key) parts.opening.id r.0)) content
-      ∙ ap opened (frames_tabled settings.max_unit size (record { key = key_of parts key; id = parts.opening.id }) r.0)
-      ∙ ap (λ (left : List ℕ). opened (tabled_frames size (record { key = key_of parts key; id = parts.opening.id }) left)) (body_left settings bytes parts r.0 r.1);
+      ∙ ap (λ (c : Content). opened_as (judged_body c settings.max_unit (key_of parts key) parts.opening.id r.0)) content
+      ∙ ap opened_as (frames_tabled settings.max_unit size (record { key = key_of parts key; id = parts.opening.id }) r.0)
+      ∙ ap (λ (left : List ℕ). opened_as (tabled_frames size (record { key = key_of parts key; id = parts.opening.id }) left)) (body_left settings bytes parts r.0 r.1);
   block = λ parts whole only key e is commits tagged content.
       let r = read_reading (header settings (start bytes)) parts e in
       unlocked bytes settings answer parts r.0 whole only key r.1 is commits tagged
-      ∙ ap (λ (c : Content). opened (judged_body c settings.max_unit (key_of parts key) parts.opening.id r.0)) content
-      ∙ ap opened (block_tabled settings.max_unit (key_of parts key) parts.opening.id r.0)
-      ∙ ap (λ (left : List ℕ). opened (tabled_block settings.max_unit (key_of parts key) parts.opening.id left)) (body_left settings bytes parts r.0 r.1);
+      ∙ ap (λ (c : Content). opened_as (judged_body c settings.max_unit (key_of parts key) parts.opening.id r.0)) content
+      ∙ ap opened_as (block_tabled settings.max_unit (key_of parts key) parts.opening.id r.0)
+      ∙ ap (λ (left : List ℕ). opened_as (tabled_block settings.max_unit (key_of parts key) parts.opening.id left)) (body_left settings bytes parts r.0 r.1);
 }

@@ -17,7 +17,7 @@ use Rattle.header_codec.specs.Header.{HeaderValue, latest_end}
 use Rattle.esdk_fields.specs.Limits.{is_over}
 use Rattle.header_codec.specs.Table.{made_of, BeginsWith}
 use Rattle.header_codec.specs.Written.{AreHeaderParts, committing, header_refusal, keys_end, written_value}
-use Rattle.header_codec.proofs.Contents.{limit_within}
+use Rattle.esdk_fields.proofs.Limited.{limit_within}
 use Rattle.header_codec.proofs.CommittingHeaders.{committing_is_read}
 use Rattle.suite_table.specs.declared.suite.Suite.{Suite}
 use Rattle.suite_table.specs.declared.suite.Suite.TheVariants.{Committing}

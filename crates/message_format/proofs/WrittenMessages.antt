@@ -19,7 +19,6 @@ use Rattle.header_codec.proofs.Order.{IsSequential-header}
 use Rattle.context_codec.specs.Parts.{only_of, stored_in}
 use Rattle.keyring_trait.specs.Unlocking.{Unlocks}
 use Rattle.body_format.specs.declared.verdicts.Verdict.TheVariants.{Going}
-use Rattle.body_format.specs.Rows.{JudgedBody}
 use Rattle.body_format.specs.Body.{beside_content}
 use Rattle.body_format.specs.Written.{IsFramed, frame_count, pieces}
 use Rattle.body_format.proofs.BodyLaws.{framed_whole}
@@ -34,9 +33,6 @@ use Rattle.message_format.proofs.WrittenHeads.{written, body_place, length-messa
 is_framed : (text : List ℕ) (c : List KeyValue) (required : List (List ℕ)) (size : ℕ) (key : List ℕ) (entries : List Entry) (id : List ℕ) → IsWritable text c required size key entries id → IsFramed size text
 is_framed text c required size key entries id w = record { some = w.some; narrow = w.narrow; few = w.short }
 
-abbrev opened : JudgedBody → Judged
-opened j = opened_as j
-
 -- ---- all of it
 
 pub message_is : (settings : Settings) (text : List ℕ) (c : List KeyValue) (required : List (List ℕ)) (size : ℕ) (key : List ℕ) (entries : List Entry) (id : List ℕ) (whole : List KeyValue)
@@ -50,7 +46,7 @@ message_is settings text c required size key entries id whole w limits =
     judged_read b settings (Unlocks whole (only_of required c) key) begins.parts body begins.read
     ∙ ap (λ (h : HeaderValue). judged_header settings h body (Unlocks whole (only_of required c) key)) (header_found settings b h body begins)
     ∙ judged_opened settings h body whole (only_of required c) key (written_opens c required size key entries id)
-    ∙ ap opened (framed_whole size (under key id) text settings.max_unit (length (header_body c required size key entries id) + 16) (is_framed text c required size key entries id w))
+    ∙ ap opened_as (framed_whole size (under key id) text settings.max_unit (length (header_body c required size key entries id) + 16) (is_framed text c required size key entries id w))
 
 -- ---- a front of it
 
@@ -96,7 +92,7 @@ late_front settings text c required size key entries id whole n w limits low hig
     judged_read (take n b) settings (Unlocks whole (only_of required c) key) begins.parts (cut n body) read
     ∙ ap (λ (h : HeaderValue). judged_header settings h (cut n body) (Unlocks whole (only_of required c) key)) (header_same settings b n begins.parts (cut n body) read ∙ header_found settings b h body begins)
     ∙ judged_opened settings h (cut n body) whole (only_of required c) key (written_opens c required size key entries id)
-    ∙ ap opened (body_front settings.max_unit size (under key id) text (length (header_body c required size key entries id) + 16) n (is_framed text c required size key entries id w) low inside)
+    ∙ ap opened_as (body_front settings.max_unit size (under key id) text (length (header_body c required size key entries id) + 16) n (is_framed text c required size key entries id w) low inside)
 
 pub front_is : (settings : Settings) (text : List ℕ) (c : List KeyValue) (required : List (List ℕ)) (size : ℕ) (key : List ℕ) (entries : List Entry) (id : List ℕ) (whole : List KeyValue) (n : ℕ)
     → IsWritable text c required size key entries id → IsWithinLimits settings size entries → n < length (message text c required size key entries id)

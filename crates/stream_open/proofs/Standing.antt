@@ -34,10 +34,7 @@ judged_unlocked u v at =
     ap (λ (o : Option _). judged v.taken v.settings (answer_kept o)) at.answer
     ∙ judged_read v.taken v.settings (Unlocks u.whole u.only at.key) at.parts at.place at.reads
     ∙ judged_opened v.settings (header_of v.taken at.parts) at.place u.whole u.only at.key at.opens
-    ∙ ap opened (body_same u.body v (header_of v.taken at.parts) at.key at.place at.body)
-  where
-    opened : Rattle.body_format.specs.Rows.JudgedBody → Judged
-    opened j = opened_as j
+    ∙ ap opened_as (body_same u.body v (header_of v.taken at.parts) at.key at.place at.body)
 
 -- ---- what is told
 

@@ -1,4 +1,4 @@
-use Rattle.frame_codec.proofs.Limits.{limit_within}
+use Rattle.esdk_fields.proofs.Limited.{limit_within}
 use Rattle.body_format.proofs.BodyLaws.{framed_whole, block_whole}
 use Rattle.body_format.proofs.WrittenBodies.{concat_all, length-framed_body}
 use Rattle.body_format.proofs.laws.written_bodies_are_whole.Goals as goal

@@ -26,5 +26,5 @@ returns-clause-found c =
     let between : c.split_at-2.result.0.now ≡ lengths = same_bytes c.ne-else-ne.result _ _ c.ne-else-ne.ensures c.if-ne-2.false ∙ c.as_slice.ensures in
     c.split_at.ensures.by_index.0
     ∙ ap (λ (front : List ℕ). front ++ c.split_at.result.1.now) name
-    ∙ ap (λ (rest : List ℕ). c.args.name.now ++ rest) (c.split_at-2.ensures.by_index.0 ∙ ap (λ (l : List ℕ). l ++ c.split_at-2.result.1.now) between ∙ ap (λ (l : List ℕ). lengths ++ l) (sym c.copy_from_slice.ensures.after))
-    ∙ sym (raw_info_parts c.args.name.now c.copy_from_slice.new.self)
+    ∙ ap (λ (rest : List ℕ). c.args.name.now ++ rest) (c.split_at-2.ensures.by_index.0 ∙ ap (λ (l : List ℕ). l ++ c.split_at-2.result.1.now) between ∙ ap (λ (l : List ℕ). lengths ++ l) (sym c.array_of.ensures))
+    ∙ sym (raw_info_parts c.args.name.now c.array_of.result)

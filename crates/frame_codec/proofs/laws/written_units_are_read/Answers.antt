@@ -1,5 +1,5 @@
 use Rattle.std.proofs.Common.{length}
-use Rattle.frame_codec.proofs.Limits.{limit_within}
+use Rattle.esdk_fields.proofs.Limited.{limit_within}
 use Rattle.frame_codec.proofs.WrittenAgain.{regular_frame_again, final_frame_again, single_block_again}
 use Rattle.frame_codec.proofs.laws.written_units_are_read.Goals as goal
 
