@@ -5,7 +5,7 @@ use Rattle.keyring_trait.specs.declared.served.Served.TheVariants.{Direct, New, 
 use Rattle.cmm_caching.specs.declared.kept.Kept.{Kept}
 use Rattle.cmm_caching.specs.Limits.{LimitsValue}
 use Rattle.cmm_caching.specs.Names.{is_seal}
-use Rattle.cmm_caching.specs.Ask.{GivenValue, HandedValue, Wish, is_over, is_direct}
+use Rattle.cmm_caching.specs.Ask.{GivenValue, HandedValue, Wish, may_exceed, is_direct}
 use Rattle.cmm_caching.specs.Store.{Store, ask_kept, kept_for, after_hit, after_look, after_new, given_again, hit_or_new, is_past}
 use Rattle.cmm_caching.specs.Asked.{Asked, store_step}
 
@@ -62,7 +62,7 @@ unlooked s new w now e after = let none : kept_for s w now ≡ None = missed s w
 
 -- there is a number left
 pub has_number : (l : LimitsValue) (w : Wish) (next : ℕ) → is_direct l w next ≡ false → next ≤ 2 ^ 63
-has_number l w next e = ltb-false (2 ^ 63) next (or_parts (is_seal w.name && is_over l w.declared) (nat_lt (2 ^ 63) next) e).1
+has_number l w next e = ltb-false (2 ^ 63) next (or_parts (is_seal w.name && may_exceed l w.declared) (nat_lt (2 ^ 63) next) e).1
 
 -- the inner manager makes as many encrypted data keys as the cache was made for
 pub same_width : (wraps : ℕ) (s : Store) → is_past wraps s ≡ false → wraps ≡ s.width

@@ -14,10 +14,11 @@ use Rattle.keyring_trait.specs.declared.served.Served.TheVariants.{Direct, New, 
 use Rattle.cmm_caching.specs.declared.kept.Kept.{Kept}
 use Rattle.cmm_caching.specs.Limits.{LimitsValue, AreLimits}
 use Rattle.cmm_caching.specs.Names.{NameValue, name_eq, is_seal}
-use Rattle.cmm_caching.specs.Ask.{GivenValue, HandedValue, Wish, is_over, is_direct, is_young, fits, moved}
+use Rattle.cmm_caching.specs.Ask.{GivenValue, HandedValue, Wish, may_exceed, is_direct, is_young, fits, moved}
 use Rattle.cmm_caching.specs.Store.{Store, Sound, kept_for, after_hit, after_new, used_again, use_count, fresh_kept}
 use Rattle.cmm_caching.specs.Asked.{Asked}
-use Rattle.cmm_caching.specs.Journal.{names, is_sealing, seals, seal_bytes, Told, Bears, AllDirect}
+use Rattle.cmm_caching.specs.Journal.{names, is_sealing, seals, seal_bytes, Told, Bears}
+use Rattle.keyring_trait.specs.Manager.{AllDirect}
 use Rattle.cmm_caching.proofs.Entries.{all_weaker, all_from, all_take, all_removed, all_found}
 use Rattle.cmm_caching.proofs.Keeping.{others, kept_parts}
 use Rattle.cmm_caching.proofs.Recorded.{IsLimited, Front, none_named, each, bears_direct, bears_front}
@@ -47,10 +48,10 @@ size_fits l Unseal n sized = absurd sized
 pub sized_seal : (l : LimitsValue) (w : Wish) (next : ℕ) → is_seal w.name ≡ true → is_direct l w next ≡ false → IsSized l Seal w.declared
 sized_seal l w next seal kept = by_length w.declared over
   where
-    over : is_over l w.declared ≡ false
-    over = let first : (is_seal w.name && is_over l w.declared) ≡ false = (or_parts (is_seal w.name && is_over l w.declared) (nat_lt (2 ^ 63) next) kept).0 in rw seal at first
+    over : may_exceed l w.declared ≡ false
+    over = let first : (is_seal w.name && may_exceed l w.declared) ≡ false = (or_parts (is_seal w.name && may_exceed l w.declared) (nat_lt (2 ^ 63) next) kept).0 in rw seal at first
 
-    by_length : (o : Option ℕ) → is_over l o ≡ false → IsSized l Seal o
+    by_length : (o : Option ℕ) → may_exceed l o ≡ false → IsSized l Seal o
     by_length None e = absurd cc
     by_length (Some n) e = ltb-false l.bytes n e
 

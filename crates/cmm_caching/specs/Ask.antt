@@ -119,14 +119,14 @@ abbrev pub serves : LimitsValue → (made count bytes : ℕ) → Option ℕ → 
 serves l made count bytes declared now = is_young l made now && fits l count bytes declared
 
 -- the length isn't declared, or is above the limit
-abbrev pub is_over : LimitsValue → Option ℕ → Bool
-is_over l None = true
-is_over l (Some n) = nat_lt l.bytes n
+abbrev pub may_exceed : LimitsValue → Option ℕ → Bool
+may_exceed l None = true
+may_exceed l (Some n) = nat_lt l.bytes n
 
 -- The request goes past the cache: it is to encrypt, and its length isn't declared or is above the
 -- limit; or 2^63 entries were made.
 abbrev pub is_direct : LimitsValue → Wish → ℕ → Bool
-is_direct l w next = (is_seal w.name && is_over l w.declared) || nat_lt (2 ^ 63) next
+is_direct l w next = (is_seal w.name && may_exceed l w.declared) || nat_lt (2 ^ 63) next
 
 -- the value, where it passes
 abbrev pub kept_if : {X : Type 0} → (X → Bool) → X → Option X

@@ -6,6 +6,7 @@ use Rattle.keyring_trait.specs.declared.journal.Kind.{Kind}
 use Rattle.keyring_trait.specs.declared.journal.Kind.TheVariants.{Seal, Unseal}
 use Rattle.keyring_trait.specs.declared.served.Served.{Served}
 use Rattle.keyring_trait.specs.declared.served.Served.TheVariants.{Direct, New, Hit}
+use Rattle.keyring_trait.specs.Manager.{AllDirect}
 use Rattle.cmm_caching.specs.declared.kept.Kept.{Kept}
 use Rattle.cmm_caching.specs.Limits.{LimitsValue}
 use Rattle.cmm_caching.specs.Store.{Store, use_bytes}
@@ -43,10 +44,6 @@ pub record Within (l : LimitsValue) (lines : List JournalLine) : Type 0 where
       → names n a.served ≡ true → names n b.served ≡ true → AreClose l.age n a b
   pub messages : (n : ℕ) → seals n lines ≤ l.messages
   pub bytes : (n : ℕ) → seal_bytes n lines ≤ l.bytes
-
--- everything was served directly
-abbrev pub AllDirect : List JournalLine → Type 0
-AllDirect lines = All (λ line. line.served ≡ Direct) lines
 
 -- The journal is within the limits; where there are none, everything was served directly.
 abbrev pub KeepsWithin : Option LimitsValue → List JournalLine → Type 0

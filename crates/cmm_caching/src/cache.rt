@@ -5,7 +5,7 @@ ghost use Rattle.std.specs.Map.{lookup};
 ghost use Rattle.lru.specs.LruCache.{lru_cache};
 ghost use Rattle.cmm_caching.specs.Limits.{AreLimits};
 ghost use Rattle.cmm_caching.specs.Names.{name_eq};
-ghost use Rattle.cmm_caching.specs.Ask.{empty, is_over, moved, put_first};
+ghost use Rattle.cmm_caching.specs.Ask.{empty, may_exceed, moved, put_first};
 ghost use Rattle.cmm_caching.specs.Store.{Store, Sound, FitsName, tallied, kept_for, after_look, after_new, asked_for, given_again, used_again, HasRoom, is_past};
 ghost use Rattle.cmm_caching.specs.declared.kept.Kept.{Kept};
 
@@ -78,11 +78,11 @@ impl Cache {
     /// Whether a request goes past the cache: to encrypt, where its length isn't declared or is
     /// above the limit; and any, once 2^63 entries were made.
     pub(crate) fn is_direct(&self, seal: bool, declared: Option<u64>) -> bool
-        ensures direct { result ≡ ((seal && is_over self.now.limits declared) || nat_lt
+        ensures direct { result ≡ ((seal && may_exceed self.now.limits declared) || nat_lt
             (2 ^ 63) self.now.next) }
         ensures sound { Sound self.now }
     {
-        (seal && self.limits.is_over(declared)) || self.next > 1 << 63
+        (seal && self.limits.may_exceed(declared)) || self.next > 1 << 63
     }
 
     /// The materials and the number of the entry of that name, where it serves. It gains this use

@@ -2,7 +2,7 @@
 
 ghost use Rattle.std.specs.Prelude.{◌≡◌, ◌↔◌, ◌≤◌, ◌^◌, ◌-◌, IsNone, IfSome};
 ghost use Rattle.cmm_caching.specs.Limits.{LimitsValue, AreLimits};
-ghost use Rattle.cmm_caching.specs.Ask.{is_young, fits, serves, is_over};
+ghost use Rattle.cmm_caching.specs.Ask.{is_young, fits, serves, may_exceed};
 
 use std::marker::Model;
 
@@ -114,8 +114,8 @@ impl CacheLimits {
     }
 
     /// Whether the length of a message isn't declared, or is more than an entry may encrypt.
-    pub(crate) fn is_over(&self, declared: Option<u64>) -> bool
-        ensures { result ≡ is_over self.now declared }
+    pub(crate) fn may_exceed(&self, declared: Option<u64>) -> bool
+        ensures { result ≡ may_exceed self.now declared }
     {
         match declared {
             Some(length) => length > self.bytes,

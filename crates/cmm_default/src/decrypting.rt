@@ -41,7 +41,7 @@ pub fn joined(alloc: Global, stored: &Context, given: &Context) -> Result<Joined
 
 /// The data key that the keyring finds in the entries, over the whole context. M15 `NoKeyOpens`
 /// exactly where it finds none.
-pub(crate) fn opened<K: Keyring>(
+pub(crate) fn found_key<K: Keyring>(
     alloc: Global,
     ring: &mut K,
     whole: &Context,

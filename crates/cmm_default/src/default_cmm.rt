@@ -3,7 +3,7 @@
 ghost use Rattle.std.specs.Prelude.{◌≡◌};
 ghost use Rattle.cmm_default.specs.DefaultCmm.{default_now};
 
-use crate::decrypting::{joined, opened};
+use crate::decrypting::{found_key, joined};
 use crate::encrypting::{enc_materials, refusal, wrap_drawn};
 use keyring_trait::{
     DecMaterials, DecRequest, EncMaterials, EncRequest, Keyring, Manager, ManagerError,
@@ -91,7 +91,7 @@ impl<K: Keyring> Manager for DefaultCmm<K> {
         // What is known of a keyring before it is asked, and where it isn't, `wraps` says.
         let _wraps = self.ring.wraps();
         let joined = joined(alloc, request.stored(), request.given())?;
-        let key = opened(alloc, &mut self.ring, &joined.whole, request.entries())?;
+        let key = found_key(alloc, &mut self.ring, &joined.whole, request.entries())?;
         Ok(DecMaterials::new(joined.whole, joined.only, key, Served::Direct))
     }
 }

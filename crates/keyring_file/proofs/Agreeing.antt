@@ -6,7 +6,7 @@ use Rattle.std.specs.Str.{bytes_eq}
 use Rattle.std.proofs.lemmas.List.Elements.{Contains-append_cases}
 use Rattle.std.proofs.lemmas.Slice.Eq.{bytes_eq-Decides}
 use Rattle.keyring_trait.specs.Wrapping.{WrapKeyValue}
-use Rattle.keyring_file.specs.Walk.{clashes}
+use Rattle.keyring_file.specs.Walk.{is_another_key}
 use Rattle.keyring_file.specs.Counts.{AreOfOneKey}
 
 neither : (a b : Bool) → (a || b) ≡ false → (a ≡ false) × (b ≡ false)
@@ -36,15 +36,15 @@ equal_by true false c one two e = absurd cc
 equal_by false b c one two e = absurd cc
 
 -- a key that doesn't clash with another of its namespace and name is the other
-equal_keys : (w other : WrapKeyValue) → clashes w other ≡ false → other.namespace ≡ w.namespace → other.name ≡ w.name → other.key ≡ w.key
+equal_keys : (w other : WrapKeyValue) → is_another_key w other ≡ false → other.namespace ≡ w.namespace → other.name ≡ w.name → other.key ≡ w.key
 equal_keys w other apart namespace name =
     (bytes_eq-Decides other.key w.key).0 (equal_by (bytes_eq other.namespace w.namespace) (bytes_eq other.name w.name) (bytes_eq other.key w.key)
     ((bytes_eq-Decides other.namespace w.namespace).1 namespace) ((bytes_eq-Decides other.name w.name).1 name) apart)
 
-module _ (keys : List WrapKeyValue) (new : WrapKeyValue) (apart : list_any (clashes new) keys ≡ false) (agree : AreOfOneKey keys) where
+module _ (keys : List WrapKeyValue) (new : WrapKeyValue) (apart : list_any (is_another_key new) keys ≡ false) (agree : AreOfOneKey keys) where
   with_the_new : (v w : WrapKeyValue) → Contains keys v → new ≡ w → v.namespace ≡ w.namespace → v.name ≡ w.name → v.key ≡ w.key
   with_the_new v w has is namespace name =
-      equal_keys new v (fails (clashes new) keys v apart has) (namespace ∙ ap (λ k. k.namespace) (sym is)) (name ∙ ap (λ k. k.name) (sym is)) ∙ ap (λ k. k.key) is
+      equal_keys new v (fails (is_another_key new) keys v apart has) (namespace ∙ ap (λ k. k.namespace) (sym is)) (name ∙ ap (λ k. k.name) (sym is)) ∙ ap (λ k. k.key) is
 
   both_in : (v w : WrapKeyValue) → Contains keys v ⊎ Contains (new ∷ []) v → Contains keys w ⊎ Contains (new ∷ []) w → v.namespace ≡ w.namespace → v.name ≡ w.name → v.key ≡ w.key
   both_in v w (inl one) (inl two) namespace name = agree v w one two namespace name

@@ -8,7 +8,7 @@ use Rattle.esdk_fields.specs.declared.refusals.FileRefusal.TheVariants.{BadShape
 use Rattle.keyring_trait.specs.Wrapping.{WrapKeyValue}
 use Rattle.multi_keyring.specs.Forest.{Forest, Nil, RawThen, HandedThen, MultiThen, tallest}
 use Rattle.keyring_file.specs.Form.{Form, RawForm, PlugForm, MultiForm, form_of, has_node, is_empty, IsFit}
-use Rattle.keyring_file.specs.Walk.{Met, Walk, clashes}
+use Rattle.keyring_file.specs.Walk.{Met, Walk, is_another_key}
 use Rattle.keyring_file.specs.declared.form.Version.{Version}
 use Rattle.keyring_file.specs.Leaves.{wrap_key, raw_key, raw_leaf, plug_leaf}
 use Rattle.keyring_file.specs.Tree.{beside, row, optional, multi, formed, tree}
@@ -91,7 +91,7 @@ module _ {P : Type 0} (wraps : P → ℕ) (levels : ℕ) (old : Met P) where
       let longer = length-append old.keys (w ∷ []) in
       record { leaves = most; keys = omega (arith, longer, h.keys); nodes = omega (arith, longer, h.nodes) }
 
-  raw_is : (w : WrapKeyValue) → old.leaves + 1 ≤ 64 → list_any (clashes (unretired w)) old.keys ≡ false
+  raw_is : (w : WrapKeyValue) → old.leaves + 1 ≤ 64 → list_any (is_another_key (unretired w)) old.keys ≡ false
       → AreRead wraps (suc levels) (RawThen w Nil) old (with_leaves 1 (with_key (unretired w) (with_node old)))
   raw_is w most apart = record {
     low = omega arith;

@@ -7,7 +7,7 @@ use Rattle.esdk_fields.specs.declared.refusals.FileRefusal.{FileRefusal}
 use Rattle.esdk_fields.specs.declared.refusals.FileRefusal.TheVariants.{BadKey, ReservedNamespace}
 use Rattle.raw_aes_keyring.specs.RawKey.{reserved_namespace}
 use Rattle.keyring_file.specs.Base64Key.{base64_key}
-use Rattle.keyring_file.specs.Walk.{Met, clashes}
+use Rattle.keyring_file.specs.Walk.{Met, is_another_key}
 use Rattle.keyring_file.specs.Leaves.{wrap_key, raw_key}
 use Rattle.keyring_file.proofs.Steps.{got, passed, counted_on, kept_on, with_key, with_leaves}
 
@@ -19,7 +19,7 @@ result_is x y e = cc
 
 -- the key is kept, and one leaf more is met
 pub record KeyIsRead {P : Type 0} (namespace name : List ℕ) (old : Met P) (x : List ℕ × Met P) : Type 0 where
-  pub apart : list_any (clashes (wrap_key namespace name x.0 false)) old.keys ≡ false
+  pub apart : list_any (is_another_key (wrap_key namespace name x.0 false)) old.keys ≡ false
   pub most : old.leaves + 1 ≤ 64
   pub new : with_leaves 1 (with_key (wrap_key namespace name x.0 false) old) ≡ x.1
 

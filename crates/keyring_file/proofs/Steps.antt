@@ -9,7 +9,7 @@ use Rattle.esdk_fields.specs.declared.refusals.FileRefusal.TheVariants.{TooManyL
 use Rattle.keyring_trait.specs.Wrapping.{WrapKeyValue}
 use Rattle.keyring_file.specs.declared.plugs.Plug.{Plug}
 use Rattle.keyring_file.specs.Plugs.{taken}
-use Rattle.keyring_file.specs.Walk.{Met, Walk, then_walk, or_refuse, refuse_if, counted, kept, used, used_of, clashes}
+use Rattle.keyring_file.specs.Walk.{Met, Walk, then_walk, or_refuse, refuse_if, counted, kept, used, used_of, is_another_key}
 
 -- what was met, with one more
 abbrev pub with_leaves : {P : Type 0} → ℕ → Met P → Met P
@@ -63,17 +63,17 @@ unfolding counted
 counted_on n next met y e = counted_by (nat_lt 64 (met.leaves + n)) n next met y refl e
 
 pub record Kept {P B : Type 0} (w : WrapKeyValue) (next : Unit {0} → Walk P B) (met : Met P) (y : B × Met P) : Type 0 where
-  pub apart : list_any (clashes w) met.keys ≡ false
+  pub apart : list_any (is_another_key w) met.keys ≡ false
   pub rest : next tt (with_key w met) ≡ Ok y
 
-kept_by : {P B : Type 0} (test : Bool) (w : WrapKeyValue) (next : Unit {0} → Walk P B) (met : Met P) (y : B × Met P) → list_any (clashes w) met.keys ≡ test
+kept_by : {P B : Type 0} (test : Bool) (w : WrapKeyValue) (next : Unit {0} → Walk P B) (met : Met P) (y : B × Met P) → list_any (is_another_key w) met.keys ≡ test
     → then_walk (if test then Err (ClashingKeys w.namespace w.name) else Ok (tt, with_key w met)) next ≡ Ok y → Kept w next met y
 kept_by true w next met y is e = absurd cc
 kept_by false w next met y is e = record { apart = is; rest = e }
 
 pub kept_on : {P B : Type 0} (w : WrapKeyValue) (next : Unit {0} → Walk P B) (met : Met P) (y : B × Met P) → then_walk (kept w met) next ≡ Ok y → Kept w next met y
 unfolding kept
-kept_on w next met y e = kept_by (list_any (clashes w) met.keys) w next met y refl e
+kept_on w next met y e = kept_by (list_any (is_another_key w) met.keys) w next met y refl e
 
 -- one plug fewer is left
 fewer_by : {P : Type 0} (test : Bool) (plug : Plug P) (plugs : List (Plug P)) (rest : Option (P × List (Plug P))) (found : P × List (Plug P))

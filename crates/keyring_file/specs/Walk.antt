@@ -62,15 +62,15 @@ counted n met =
     else Ok (tt, record met { leaves = met.leaves + n })
 
 -- another key of the same namespace and name
-abbrev pub clashes : WrapKeyValue → WrapKeyValue → Bool
-clashes w other =
+abbrev pub is_another_key : WrapKeyValue → WrapKeyValue → Bool
+is_another_key w other =
     bytes_eq other.namespace w.namespace && bytes_eq other.name w.name
     && not (bytes_eq other.key w.key)
 
 -- one more raw key. K5 where an earlier one clashes with it
 unfoldable pub kept : {P : Type 0} → WrapKeyValue → Walk P (Unit {0})
 kept w met =
-    if list_any (clashes w) met.keys then Err (ClashingKeys w.namespace w.name)
+    if list_any (is_another_key w) met.keys then Err (ClashingKeys w.namespace w.name)
     else Ok (tt, record met { keys = met.keys ++ w ∷ [] })
 
 abbrev pub used_of : {P : Type 0} → List ℕ → Met P → Option (P × List (Plug P))

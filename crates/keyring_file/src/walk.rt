@@ -3,7 +3,7 @@
 ghost use Rattle.std.specs.Prelude.{◌≡◌, ◌≢◌, ◌≤◌, length, [], IfOk};
 ghost use Rattle.std.specs.List.{list_any};
 ghost use Rattle.raw_aes_keyring.specs.RawKey.{reserved_namespace};
-ghost use Rattle.keyring_file.specs.Walk.{clashes, counted, kept, used};
+ghost use Rattle.keyring_file.specs.Walk.{is_another_key, counted, kept, used};
 ghost use Rattle.raw_aes_keyring.specs.Made.{MakesKeyring};
 ghost use Rattle.keyring_file.specs.Leaves.{wrap_key, raw_key, raw_leaf, plug_leaf};
 ghost use Rattle.keyring_file.specs.Found.{met, Gives, GivesNothing, IsKeyring, wraps_of};
@@ -154,7 +154,7 @@ impl<P: Keyring> Walk<P> {
 
 /// Whether one of the keys has the key's namespace and its name, and is another.
 fn has_clash(keys: &[WrapKey], key: &WrapKey) -> bool
-    ensures { result ≡ list_any (clashes key.now) keys.now }
+    ensures { result ≡ list_any (is_another_key key.now) keys.now }
 {
     for other in keys {
         if clash(key, other) {
@@ -166,7 +166,7 @@ fn has_clash(keys: &[WrapKey], key: &WrapKey) -> bool
 
 /// Whether the other key has the key's namespace and its name, and is another.
 fn clash(key: &WrapKey, other: &WrapKey) -> bool
-    ensures { result ≡ clashes key.now other.now }
+    ensures { result ≡ is_another_key key.now other.now }
 {
     other.namespace == key.namespace && other.name == key.name && other.key != key.key
 }

@@ -92,6 +92,10 @@ IsNew Direct = ⊤
 IsNew (New number) = ⊤
 IsNew (Hit number) = ⊥
 
+-- all of these were served directly
+abbrev pub AllDirect : List JournalLine → Type 0
+AllDirect lines = All (λ line. line.served ≡ Direct) lines
+
 -- a plain manager's are served directly
 abbrev pub ServesPlainly : ManagerMeaning → Served → Type 0
 ServesPlainly m served = m.plain ≡ true → served ≡ Direct

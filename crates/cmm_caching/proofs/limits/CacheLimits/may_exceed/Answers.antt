@@ -1,6 +1,6 @@
 -- A length that isn't declared is over.
 use Rattle.std.proofs.Common.{rules}
-use Rattle.cmm_caching.proofs.limits.CacheLimits.is_over.Goals as goal
+use Rattle.cmm_caching.proofs.limits.CacheLimits.may_exceed.Goals as goal
 
 pub returns-in-None : goal.returns-in-None
 returns-in-None c = search rules

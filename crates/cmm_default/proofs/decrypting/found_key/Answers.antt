@@ -1,6 +1,6 @@
 -- What the keyring answers is over the whole context.
 use Rattle.std.proofs.Common.{rules}
-use Rattle.cmm_default.proofs.decrypting.opened.Goals as goal
+use Rattle.cmm_default.proofs.decrypting.found_key.Goals as goal
 
 pub returns-in-Ok-Some-clause-opens : goal.returns-in-Ok-Some-clause-opens
 returns-in-Ok-Some-clause-opens g c = search rules
