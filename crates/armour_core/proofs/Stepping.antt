@@ -181,20 +181,20 @@ step_stopped v piece stopped = (
 )
 
 -- What a step answers and leaves.
-pub record Answers (u0 : Unarmour) (piece : List ℕ) (new : Unarmour) (result : Result ℕ ArmourError) : Type 0 where
+pub record StepAnswers (u0 : Unarmour) (piece : List ℕ) (new : Unarmour) (result : Result ℕ ArmourError) : Type 0 where
   pub answer : (v : UnarmouringValue) → Reads u0 v → result ≡ group_answer v piece
   pub reads : (v : UnarmouringValue) → Reads u0 v → Reads new (group_stepped v piece)
 
 -- where the session goes on
 answers_on : (u0 new : Unarmour) (piece : List ℕ) (result : Result ℕ ArmourError) → u0.stopped ≡ false
-    → ((v : UnarmouringValue) → Reads u0 v → v.stopped ≡ false → (result ≡ group_answer v piece) × Reads new (group_stepped v piece)) → Answers u0 piece new result
+    → ((v : UnarmouringValue) → Reads u0 v → v.stopped ≡ false → (result ≡ group_answer v piece) × Reads new (group_stepped v piece)) → StepAnswers u0 piece new result
 answers_on u0 new piece result on each = record {
   answer = λ v reads. (each v reads (sym reads.stopped ∙ on)).0;
   reads = λ v reads. (each v reads (sym reads.stopped ∙ on)).1;
 }
 
 -- the piece ends in the group
-pub step_ends : (u0 u : Unarmour) (piece : List ℕ) (used : ℕ) → u0.stopped ≡ false → InStep u0 u piece used → length piece ≤ used → Answers u0 piece u (Ok used)
+pub step_ends : (u0 u : Unarmour) (piece : List ℕ) (used : ℕ) → u0.stopped ≡ false → InStep u0 u piece used → length piece ≤ used → StepAnswers u0 piece u (Ok used)
 step_ends u0 u piece used on step all = answers_on u0 u piece (Ok used) on (λ v reads goes.
     let s = step.steps v reads goes in
     let count : used_of v piece ≡ used = s.left ∙ ap (λ (r : List ℕ). used + bytes_with r (4 - length (characters (v.taken ++ take used piece)) % 4)) (drop_all used piece all)
@@ -205,7 +205,7 @@ step_ends u0 u piece used on step all = answers_on u0 u piece (Ok used) on (λ v
 
 -- a byte of the piece ends the group
 pub step_gives : (u0 u new : Unarmour) (piece : List ℕ) (used byte : ℕ) → u0.stopped ≡ false → InStep u0 u piece used → used < length piece → byte ≡ slice_index piece used
-    → ((text : List ℕ) → HoldsGroup u text → TakesByte text byte true new) → Answers u0 piece new (Ok (used + 1))
+    → ((text : List ℕ) → HoldsGroup u text → TakesByte text byte true new) → StepAnswers u0 piece new (Ok (used + 1))
 step_gives u0 u new piece used byte on step within is takes = answers_on u0 new piece (Ok (used + 1)) on (λ v reads goes.
     let s = step.steps v reads goes in
     let text : List ℕ = v.taken ++ take used piece in
@@ -220,7 +220,7 @@ step_gives u0 u new piece used byte on step within is takes = answers_on u0 new 
 
 -- a byte of the piece makes the group bad
 pub step_refuses : (u0 u new : Unarmour) (piece : List ℕ) (used byte : ℕ) (error : ArmourError) → u0.stopped ≡ false → InStep u0 u piece used → used < length piece → byte ≡ slice_index piece used
-    → ((text : List ℕ) → HoldsGroup u text → RefusesByte text byte error new) → Answers u0 piece new (Err error)
+    → ((text : List ℕ) → HoldsGroup u text → RefusesByte text byte error new) → StepAnswers u0 piece new (Err error)
 step_refuses u0 u new piece used byte error on step within is refuses = answers_on u0 new piece (Err error) on (λ v reads goes.
     let s = step.steps v reads goes in
     let text : List ℕ = v.taken ++ take used piece in

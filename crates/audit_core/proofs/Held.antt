@@ -31,48 +31,48 @@ use Rattle.audit_core.proofs.Told.{before_of, after_of, later_all, names_what_op
 
 -- ---- one message
 
-abbrev message_of : List ℕ → List KeyValue → Message
-message_of bytes given = record { bytes = bytes; given = given }
+abbrev held_message : List ℕ → List KeyValue → Message
+held_message bytes given = record { bytes = bytes; given = given }
 
 -- its bytes begin with this header
 audited_begins : (leaves : List (List WrapKeyValue)) (told : List ℕ) (given : List KeyValue) (h : HeaderValue) (end : Place) → BeginsWith no_limits told h end
-    → audited leaves (message_of told given) ≡ audited_header leaves h given
+    → audited leaves (held_message told given) ≡ audited_header leaves h given
 unfolding audited
 audited_begins leaves told given h end begins =
-    ap (audited_reading leaves (message_of told given)) begins.read
+    ap (audited_reading leaves (held_message told given)) begins.read
     ∙ ap (λ (x : HeaderValue). audited_header leaves x given)
     (ap (made_of told begins.parts) (stored_is begins.parts.context h.stored begins.stored) ∙ sym begins.is)
 
 held_header : (leaves : List (List WrapKeyValue)) (old new : ShelfState) (name told : List ℕ) (given : List KeyValue) (h : HeaderValue) → HasHeader old new name h → Holds old.files name told
-    → audited leaves (message_of told given) ≡ audited_header leaves h given
+    → audited leaves (held_message told given) ≡ audited_header leaves h given
 held_header leaves old new name told given h has holds =
     let rest = drop (length has.bytes) told in
     audited_begins leaves told given h (followed has.end rest)
     (subst (λ (b : List ℕ). BeginsWith no_limits b h (followed has.end rest)) (sym (has.reads.read.front told holds)) (BeginsWith-append no_limits has.bytes rest h has.end has.begins))
 
 audited_refused : (leaves : List (List WrapKeyValue)) (told : List ℕ) (given : List KeyValue) (fault : faults.Fault) (at : ℕ) → header no_limits (start told) ≡ Refused fault at
-    → audited leaves (message_of told given) ≡ Fault fault
+    → audited leaves (held_message told given) ≡ Fault fault
 unfolding audited
-audited_refused leaves told given fault at refused = ap (audited_reading leaves (message_of told given)) refused
+audited_refused leaves told given fault at refused = ap (audited_reading leaves (held_message told given)) refused
 
-audited_wanting : (leaves : List (List WrapKeyValue)) (told : List ℕ) (given : List KeyValue) → header no_limits (start told) ≡ Wanting → audited leaves (message_of told given) ≡ Fault Truncated
+audited_wanting : (leaves : List (List WrapKeyValue)) (told : List ℕ) (given : List KeyValue) → header no_limits (start told) ≡ Wanting → audited leaves (held_message told given) ≡ Fault Truncated
 unfolding audited
-audited_wanting leaves told given wanting = ap (audited_reading leaves (message_of told given)) wanting
+audited_wanting leaves told given wanting = ap (audited_reading leaves (held_message told given)) wanting
 
 held_fault : (leaves : List (List WrapKeyValue)) (old new : ShelfState) (name told : List ℕ) (given : List KeyValue) (fault : faults.Fault) → HasHeaderFault old new name fault → Holds old.files name told
-    → audited leaves (message_of told given) ≡ Fault fault
+    → audited leaves (held_message told given) ≡ Fault fault
 held_fault leaves old new name told given fault has holds =
     let rest = drop (length has.bytes) told in
     audited_refused leaves told given fault has.at
     (ap (λ (b : List ℕ). header no_limits (start b)) (has.reads.read.front told holds) ∙ fault_stays (header no_limits) has.bytes rest fault has.at (IsSequential-header no_limits) has.refused)
 
 held_cut : (leaves : List (List WrapKeyValue)) (old new : ShelfState) (name told : List ℕ) (given : List KeyValue) → IsCut old new name → Holds old.files name told
-    → audited leaves (message_of told given) ≡ Fault Truncated
+    → audited leaves (held_message told given) ≡ Fault Truncated
 held_cut leaves old new name told given cut holds = audited_wanting leaves told given (ap (λ (b : List ℕ). header no_limits (start b)) (cut.whole told holds) ∙ cut.wanting)
 
 -- what is found of it is what its bytes say
 found_held : (leaves : List (List WrapKeyValue)) (old new : ShelfState) (before after : List KeyringMeaning) (m : AuditMessage) (x : Audited) (told : List ℕ) → FindsOf old new before after m x
-    → Holds old.files m.from told → told_by before ≡ Some leaves → Stayed (all_faults before) (all_faults after) → x ≡ audited leaves (message_of told m.given)
+    → Holds old.files m.from told → told_by before ≡ Some leaves → Stayed (all_faults before) (all_faults after) → x ≡ audited leaves (held_message told m.given)
 found_held leaves old new before after m (OpenedBy numbers) told found holds tells stayed =
     let h = found.header in
     ap OpenedBy (names_what_opens before after h m.given numbers leaves found.names tells stayed)
@@ -147,6 +147,6 @@ finds_what_is_held old new before after (m ∷ ms) (x ∷ xs) (h ∷ hs) leaves 
     let rest : Stayed (all_faults each.leaves) (all_faults after) = omega (arith, keep.later, rest_later, stayed) in
     let files = found_files old each.between before each.leaves m x each.first in
     let first : x ≡ audited leaves h =
-    found_held leaves old each.between before each.leaves m x h.bytes each.first held.0 tells own ∙ ap (λ (g : List KeyValue). audited leaves (message_of h.bytes g)) (sym held.1) in
+    found_held leaves old each.between before each.leaves m x h.bytes each.first held.0 tells own ∙ ap (λ (g : List KeyValue). audited leaves (held_message h.bytes g)) (sym held.1) in
     let others = finds_what_is_held each.between new each.leaves after ms xs hs leaves each.others (subst (λ (f : Option Files). AreHeld f ms hs) (sym files) held.2) (keep.told ∙ tells) rest in
     cc

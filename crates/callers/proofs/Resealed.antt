@@ -33,7 +33,7 @@ use Rattle.reseal_core.specs.declared.errors.ResealError.{ResealError}
 use Rattle.reseal_core.specs.declared.errors.ResealError.TheVariants as reseals
 use Rattle.reseal_core.specs.Front.{request_for}
 use Rattle.reseal_core.specs.Reseal as inputs
-use Rattle.reseal_core.specs.Reseal.{OpensFirst, Resealing, StartsNot, Writes, WritesFront}
+use Rattle.reseal_core.specs.Reseal.{OpensFirst, Resealing, RefusesHeader, Writes, WritesFront}
 use Rattle.reseal_core.specs.Underway.{IsCalled}
 use Rattle.callers.specs.Resealing.{ResealerFails, HasFault, IsWholeAnd, OpensAnd}
 
@@ -138,7 +138,7 @@ module _ (asked : Resealing) (random taken more : List ℕ) (output put : SinkSt
       → ResealerFails asked random (taken ++ more) output put (reseals.Refusal refusal)
   refusal_so refusal (inl r) = inl (
     r.nothing,
-    opens_so r.first r.whole r.only r.key (λ whole only text. asked.gives_none (request_for whole only) (managers.Refusal refusal) ⊎ StartsNot asked random whole only refusal) r.opens r.why,
+    opens_so r.first r.whole r.only r.key (λ whole only text. asked.gives_none (request_for whole only) (managers.Refusal refusal) ⊎ RefusesHeader asked random whole only refusal) r.opens r.why,
   )
   refusal_so refusal (inr (is, r)) = inr (is, opens_so r.first r.whole r.only r.key _ r.opens (r.many, record { materials = r.materials; has = r.has; is = r.gained }))
 

@@ -23,7 +23,7 @@ use Rattle.reseal_core.specs.declared.errors.ResealError.{ResealError}
 use Rattle.reseal_core.specs.declared.errors.ResealError.TheVariants as reseals
 use Rattle.reseal_core.specs.declared.resealer.Resealer.{Resealer}
 use Rattle.reseal_core.specs.Front.{request_for}
-use Rattle.reseal_core.specs.Reseal.{HasMaterials, Resealing, StartsNot, Writes, WritesFront}
+use Rattle.reseal_core.specs.Reseal.{HasMaterials, Resealing, RefusesHeader, Writes, WritesFront}
 use Rattle.reseal_core.specs.Session.{new_session}
 use Rattle.reseal_core.specs.Underway.{Reached}
 use Rattle.callers.specs.declared.errors.CallError.{CallError}
@@ -98,7 +98,7 @@ ResealerFails asked random bytes output put (reseals.Fault fault) = HasFault ask
 ResealerFails asked random bytes output put (reseals.Refusal refusal) =
     (SinkTakes output put [] × OpensAnd asked bytes
     (λ whole only text. asked.gives_none (request_for whole only) (managers.Refusal refusal)
-    ⊎ StartsNot asked random whole only refusal))
+    ⊎ RefusesHeader asked random whole only refusal))
     ⊎ ((refusal ≡ TooManyFrames) × OpensAnd asked bytes
     (λ whole only text. (most_text asked.size < length text) × HasFrontAnd asked random
     (λ front. Appends output.written put.written front) whole only text))

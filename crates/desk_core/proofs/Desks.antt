@@ -86,12 +86,12 @@ removed old new live id alive updates = are_live_after old new live id None None
 -- ---- the end
 
 -- what `end` comes to: the answer, and the desk after it
-pub record EndsSo {M : Type 0} (v : DeskValue) (id : ℕ) (result : Result (Unit {0}) DeskError) (next : Desk M) : Type 0 where
+pub record EndsTurn {M : Type 0} (v : DeskValue) (id : ℕ) (result : Result (Unit {0}) DeskError) (next : Desk M) : Type 0 where
   pub answer : result ≡ (ended (v.live id)).answer
   pub stands : Stands next (after_turn v id [] (ended (v.live id)))
 
 pub ends_none : {M : Type 0} (next : Desk M) (v : DeskValue) (id : ℕ) → NoneAbove v.live v.last → AreLive next.sessions (update nat_eq v.live id None) → next.last_id ≡ v.last
-    → next.journal.items ≡ v.journal → next.lent ≡ lents.Nothing → v.live id ≡ None → EndsSo v id (Err errors.NotLive) next
+    → next.journal.items ≡ v.journal → next.lent ≡ lents.Nothing → v.live id ≡ None → EndsTurn v id (Err errors.NotLive) next
 ends_none next v id above alive last journal lent none = record {
   answer = sym (ap (λ (o : Option SessionValue). (ended o).answer) none);
   stands = stands_quiet next v id [] (ended (v.live id)) (ap (λ (o : Option SessionValue). (ended o).left) none) (ap (λ (o : Option SessionValue). (ended o).out) none) above alive last
@@ -99,7 +99,7 @@ ends_none next v id above alive last journal lent none = record {
 }
 
 pub ends_err : {M : Type 0} (next : Desk M) (v : DeskValue) (id : ℕ) (machine : Box Session) (error : DeskError) → NoneAbove v.live v.last → AreLive next.sessions (update nat_eq v.live id None)
-    → next.last_id ≡ v.last → next.journal.items ≡ v.journal → next.lent ≡ lents.Nothing → (at : LiveAt v.live id machine) → finish_answer at.session ≡ Err error → EndsSo v id (Err error) next
+    → next.last_id ≡ v.last → next.journal.items ≡ v.journal → next.lent ≡ lents.Nothing → (at : LiveAt v.live id machine) → finish_answer at.session ≡ Err error → EndsTurn v id (Err error) next
 ends_err next v id machine error above alive last journal lent at fails =
     let s : SessionValue = at.session in
     let turn : Result (Unit {0}) DeskError → Turn (Unit {0}) = λ r. answered r (finished s) None in
@@ -111,7 +111,7 @@ ends_err next v id machine error above alive last journal lent at fails =
 
 pub ends_ok : {M : Type 0} (next : Desk M) (v : DeskValue) (id : ℕ) (machine then : Box Session) → NoneAbove v.live v.last → AreLive next.sessions (update nat_eq v.live id None)
     → next.last_id ≡ v.last → next.journal.items ≡ v.journal → next.lent ≡ lents.Ended then → (at : LiveAt v.live id machine) → finish_answer at.session ≡ Ok tt
-    → StandsFor then.value (finished at.session) → EndsSo v id (Ok tt) next
+    → StandsFor then.value (finished at.session) → EndsTurn v id (Ok tt) next
 ends_ok next v id machine then above alive last journal lent at goes stands =
     let s : SessionValue = at.session in
     let turn : Result (Unit {0}) DeskError → Turn (Unit {0}) = λ r. answered r (finished s) None in

@@ -15,7 +15,7 @@ use Rattle.esdk_batch.specs.declared.progress.Progress.TheVariants as stages
 use Rattle.esdk_batch.specs.Failures.{AllCounted, CountsFailures, HasFile, Tally, TurnCounts, entropy_fails, fails_by, keyring_fails, shelf_fails, shelf_fails_of}
 use Rattle.esdk_batch.specs.Files.{KeepsOthers}
 use Rattle.esdk_batch.specs.Progress.{is_ended}
-use Rattle.esdk_batch.specs.Rounds.{AreApart}
+use Rattle.esdk_batch.specs.Rounds.{FilesAreApart}
 use Rattle.esdk_batch.proofs.Counting.{kept_missing, rose_more, rose_zero, same_missing, sum_mapped, sum_none, sum_set, sum_zip_mapped, sum_zip_none}
 use Rattle.esdk_batch.proofs.Places.{at_places}
 use Rattle.esdk_batch.proofs.Standing.{apart_at, others_after}
@@ -46,7 +46,7 @@ has_file_at jobs progress i job one began now within each is was all =
 -- ---- a turn
 
 module _ (jobs : List Job) (progress : List Progress) (i : ℕ) (job : Job) (old new : Progress) (began before now : Tally) (within : i < length progress) (each : length progress ≡ length jobs)
-    (is : job ≡ get_or jobs i job) (was : old ≡ get_or progress i old) (runs : is_ended old ≡ false) (apart : AreApart jobs) (keeps : KeepsOthers before.files now.files job.to)
+    (is : job ≡ get_or jobs i job) (was : old ≡ get_or progress i old) (runs : is_ended old ≡ false) (apart : FilesAreApart jobs) (keeps : KeepsOthers before.files now.files job.to)
     (turn : TurnCounts job new before now) (all : AllCounted jobs began before progress) where
   inside : i < length jobs
   inside = omega (arith, within, each)

@@ -44,7 +44,7 @@ answers_refused manager settings given b more answer fault at e answers =
 -- in them, and nothing is released.
 pub data GoesOn (manager : Saying) (settings : Settings) (given : List KeyValue) (b more : List ℕ)
     (served : Option Served) (answer : Unlocking) : Type 0 where
-  Answers : (answers : HasAnswer manager settings given (b ++ more) served answer)
+  HasOne : (answers : HasAnswer manager settings given (b ++ more) served answer)
       → GoesOn manager settings given b more served answer
   Wants : (wants : judged b settings answer ≡ locked Going)
       → GoesOn manager settings given b more served answer
@@ -53,13 +53,13 @@ goes_by : (manager : Saying) (settings : Settings) (given : List KeyValue) (b mo
     (served : Option Served) (answer : Unlocking) (r : Reading Head) → header settings (start b) ≡ r
     → HasAnswer manager settings given b served answer
     → GoesOn manager settings given b more served answer
-goes_by manager settings given b more served answer (Read parts p) e answers = Answers (record {
+goes_by manager settings given b more served answer (Read parts p) e answers = HasOne (record {
   moment = answers.moment;
   answered = answers_read (answers_at (serving manager served) answers.moment) settings given b more
       answer parts p e answers.answered;
   unserved = answers.unserved;
 })
-goes_by manager settings given b more served answer (Refused fault at) e answers = Answers (record {
+goes_by manager settings given b more served answer (Refused fault at) e answers = HasOne (record {
   moment = answers.moment;
   answered = answers_refused (answers_at (serving manager served) answers.moment) settings given b
       more answer fault at e answers.answered;
@@ -79,7 +79,7 @@ faulty_by : (manager : Saying) (settings : Settings) (given : List KeyValue) (b 
     → (judged b settings answer).verdict ≡ Faulty fault
     → GoesOn manager settings given b more served answer
     → HasAnswer manager settings given (b ++ more) served answer
-faulty_by manager settings given b more served answer fault faulty (Answers answers) = answers
+faulty_by manager settings given b more served answer fault faulty (HasOne answers) = answers
 faulty_by manager settings given b more served answer fault faulty (Wants wants) =
     absurd (let no : Going ≡ Faulty fault = sym (ap (λ (j : Judged). j.verdict) wants) ∙ faulty in cc)
 

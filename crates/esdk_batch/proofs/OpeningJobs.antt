@@ -26,7 +26,7 @@ use Rattle.esdk_batch.specs.OpenStory.{HasFault, LeavesFront, ManagerFails, Open
 use Rattle.esdk_batch.specs.SealStory.{Seen, held}
 use Rattle.esdk_batch.specs.Underway.{IsOpening, Took}
 use Rattle.esdk_batch.proofs.Judging.{answer_for, answered_for, judged_for, kept_with}
-use Rattle.esdk_batch.proofs.Judgements.{Answers, GoesOn, Wants, answers_faulty, content_on, fails_on, fault_is, faulty_on, goes_on}
+use Rattle.esdk_batch.proofs.Judgements.{HasOne, GoesOn, Wants, answers_faulty, content_on, fails_on, fault_is, faulty_on, goes_on}
 use Rattle.esdk_batch.proofs.SealingJobs.{seen_with}
 use Rattle.esdk_batch.proofs.Took.{TookPiece, front_on, gains_behind, same_behind, whole_front}
 
@@ -79,7 +79,7 @@ judged_with manager given from old live s piece to files after served answer use
 
 leaves_by : (manager : Saying) (given : List KeyValue) (seen : Seen) (b more : List ℕ) (answer : Unlocking) (n : ℕ) → held seen.from ≡ b ++ more
     → GoesOn manager no_limits given b more seen.served answer → seen.to ≡ Some (take n (content (judged_under answer b))) → LeavesFront manager given seen
-leaves_by manager given seen b more answer n from (Answers answers) to =
+leaves_by manager given seen b more answer n from (HasOne answers) to =
     let on = content_on no_limits b more answer in
     let front = front_on n (content (judged_under answer b)) on.0 in
     let whole : content (judged_under answer b) ++ on.0 ≡ content (judged_under answer (held seen.from)) = sym on.1 ∙ ap (λ (l : List ℕ). content (judged_under answer l)) (sym from) in

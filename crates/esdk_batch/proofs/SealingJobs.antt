@@ -197,8 +197,8 @@ seal_goes manager asked from to after drawn live next s piece count further serv
       holds = holds ∙ ap (λ (l : List ℕ). Some l) (sym one.given);
     }
 
-is_over : (v : SealingValue) (piece : List ℕ) (refusal : Refusal) → feed_refusal v piece ≡ Some refusal → most_taken v < length (v.taken ++ piece)
-is_over v piece refusal why = elim (cases_lt (most_taken v) (length (v.taken ++ piece))) [
+is_too_long : (v : SealingValue) (piece : List ℕ) (refusal : Refusal) → feed_refusal v piece ≡ Some refusal → most_taken v < length (v.taken ++ piece)
+is_too_long v piece refusal why = elim (cases_lt (most_taken v) (length (v.taken ++ piece))) [
   | inl over ↦ over
   | inr few ↦ absurd (let no : None ≡ Some refusal = sym ((refuses_piece v piece).none.1 few) ∙ why in cc)
 ]
@@ -244,7 +244,7 @@ seal_refused : (manager : Saying) (asked : SealAsked) (from before to after : Op
     → IsSealing manager asked from to drawn live s → TookPiece s.taken piece live.at count from → feed_refusal s piece ≡ Some refusal
     → after ≡ Some (given_so_far s ++ fed_out s piece) → SealsSo manager asked (seen_with from before after drawn live.served) (ends.Refusal refusal)
 seal_refused manager asked from before to after drawn live s piece count refusal at took why holds =
-    let over : most_taken s < length (s.taken ++ piece) = is_over s piece refusal why in
+    let over : most_taken s < length (s.taken ++ piece) = is_too_long s piece refusal why in
     let most : most_taken s ≡ most_sealed asked = same_most asked s at.declared at.size in
     let text : length (story.held from) ≡ length took.text = ap (λ (o : Option (List ℕ)). length (story.held o)) took.there in
     let long : length (story.held from) ≡ length ((s.taken ++ piece) ++ drop (live.at + count) (story.held from)) = ap length took.took.front in

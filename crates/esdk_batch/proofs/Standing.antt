@@ -25,7 +25,7 @@ use Rattle.esdk_batch.specs.Batch.{OnlyWritten, in_line}
 use Rattle.keyring_trait.specs.Saying.{Saying}
 use Rattle.esdk_batch.specs.Underway.{IsAt, TakesTurn}
 use Rattle.esdk_batch.specs.Turns.{AddsLines, DrawsBytes, HasKind, answered_so_far}
-use Rattle.esdk_batch.specs.Rounds.{AreApart, AreAt, Beginning, HaveBegun, HaveDrawn, HaveSessions, Stand, has_begun}
+use Rattle.esdk_batch.specs.Rounds.{FilesAreApart, AreAt, Beginning, HaveBegun, HaveDrawn, HaveSessions, Stand, has_begun}
 use Rattle.esdk_batch.proofs.Beside.{rest_set}
 use Rattle.esdk_batch.proofs.Places.{at_places, concat_last, finds_more, nothing_more, taken_unknown, takes_none}
 use Rattle.esdk_batch.proofs.SealedFirst.{sealed_after}
@@ -114,7 +114,7 @@ pub others_after : (jobs : List Job) (i : ℕ) (job : Job) (before now later : O
 others_after jobs i job before now later within is keeps others = λ name none. keeps.others name (not_written jobs i job name within is none) ∙ others name none
 
 -- no two jobs write one file
-pub apart_at : (jobs : List Job) (i k : ℕ) (job d : Job) → AreApart jobs → i < length jobs → k < length jobs → k ≢ i → job ≡ get_or jobs i job → (get_or jobs k d).to ≢ job.to
+pub apart_at : (jobs : List Job) (i k : ℕ) (job d : Job) → FilesAreApart jobs → i < length jobs → k < length jobs → k ≢ i → job ≡ get_or jobs i job → (get_or jobs k d).to ≢ job.to
 apart_at jobs i k job d apart within below other is same =
     let at : job ≡ get_or jobs i d = get_or_read jobs i job within is d in
     elim (cases_lt k i) [
@@ -132,7 +132,7 @@ still_told now later left tells is = told now (sym tells ∙ ap is_some is)
 -- ---- where each job stands
 
 module _ (manager : Saying) (jobs : List Job) (progress : List Progress) (i : ℕ) (job : Job) (old new : Progress) (v w : DeskValue) (now later : Option Files) (entropy spent : EntropyState)
-    (apart : AreApart jobs) (turned : Turned jobs progress i job old new v.last w.last v.live w.live) (have : HaveSessions jobs progress v.live)
+    (apart : FilesAreApart jobs) (turned : Turned jobs progress i job old new v.last w.last v.live w.live) (have : HaveSessions jobs progress v.live)
     (turn : TakesTurn manager job old new v w now later entropy spent) (before : Option Files) (others : OnlyWritten jobs before now) (draws : List (List ℕ)) (count : length draws ≡ length progress)
     (at : (files held : Files) → before ≡ Some files → now ≡ Some held → AreAt manager jobs files held draws v.live progress) where
   inside : i < length jobs
@@ -191,7 +191,7 @@ later_by (stages.Ended line) last next entropy spent bytes = omega (arith, ap (�
 -- A turn of the job at a place, in all that it comes to.
 pub record TakesAll (manager : Saying) (jobs : List Job) (width : ℕ) (progress : List Progress) (i : ℕ) (job : Job) (old new : Progress) (v w : DeskValue) (now later : Option Files)
     (entropy spent : EntropyState) : Type 0 where
-  pub apart : AreApart jobs
+  pub apart : FilesAreApart jobs
   pub turned : Turned jobs progress i job old new v.last w.last v.live w.live
   pub turn : TakesTurn manager job old new v w now later entropy spent
   pub bytes : DrawsBytes old v.last w.last entropy spent

@@ -20,7 +20,7 @@ use Rattle.esdk_batch.specs.Managing.{ManagerWent, SaysWithin}
 use Rattle.esdk_batch.specs.Progress.{IsFirstRunning, all_turns_left, is_ended, turns_left}
 use Rattle.esdk_batch.specs.Underway.{HasSession, TakesTurn}
 use Rattle.esdk_batch.specs.Turns.{AddsLines, DrawsBytes, DrawsNumber, HasKind, Knows}
-use Rattle.esdk_batch.specs.Rounds.{AreApart, AreReady, Beginning, HaveBegun, HaveSessions, IsOpened, Stand, all_waits, has_begun}
+use Rattle.esdk_batch.specs.Rounds.{FilesAreApart, AreReady, Beginning, HaveBegun, HaveSessions, IsOpened, Stand, all_waits, has_begun}
 use Rattle.esdk_batch.proofs.Managers.{admits_between, desk_none, desk_on, said, says_earlier, says_later}
 use Rattle.esdk_batch.proofs.Places.{front_at, front_from, front_set}
 use Rattle.esdk_batch.proofs.SameDesk.{adds_too}
@@ -98,7 +98,7 @@ module _ {M : Type 0} (state : M → ManagerNow) (jobs : List Job) (progress : L
         sessions_after jobs progress i job old new v.last a.w.last v.live a.w.live a.turned have,
       )
 
-  pub stand_on : (width : ℕ) (start last : M) (began : Beginning) (v : DeskValue) → AreApart jobs → (old ≡ stages.Waiting) ⊎ HaveBegun width progress
+  pub stand_on : (width : ℕ) (start last : M) (began : Beginning) (v : DeskValue) → FilesAreApart jobs → (old ≡ stages.Waiting) ⊎ HaveBegun width progress
       → SaysWithin state start last before desk → Stands before v → Stand (said state start last) jobs width began files entropy v progress
       → (w : DeskValue) × Stands desk w × Stand (said state start last) jobs width began held spent w (set progress i new)
   stand_on width start last began v apart window admits stands stand =
@@ -211,7 +211,7 @@ module _ {M : Type 0} (state : M → ManagerNow) (jobs : List Job) (width first 
         | inr past ↦ absurd (omega (arith, past, within, on.whole))
       ]
 
-  module _ (job : Job) (new : Progress) (desk : Desk M) (put : Option Files) (drawn : EntropyState) (is : job ≡ get_or jobs at job) (apart : AreApart jobs) (runs : is_ended one ≡ false) (room : turns < width)
+  module _ (job : Job) (new : Progress) (desk : Desk M) (put : Option Files) (drawn : EntropyState) (is : job ≡ get_or jobs at job) (apart : FilesAreApart jobs) (runs : is_ended one ≡ false) (room : turns < width)
       (t : TurnOf state job one new mid desk held put spent drawn) where
     begun_new : has_begun new ≡ true
     begun_new = begun_by one new (last_of mid) (last_of desk) t.numbers

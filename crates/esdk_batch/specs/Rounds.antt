@@ -43,7 +43,7 @@ all_waits progress = sum_by waits progress
 
 -- What holds of the files that they read and write: no job writes what one reads, and no two jobs
 -- write one file.
-pub record AreApart (jobs : List Job) : Type 0 where
+pub record FilesAreApart (jobs : List Job) : Type 0 where
   pub unread : All (λ job. is_written jobs job.from ≡ false) jobs
   pub apart : AllPairs (λ one other. one.to ≢ other.to) jobs
 

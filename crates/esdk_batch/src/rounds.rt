@@ -11,7 +11,7 @@ ghost use Rattle.esdk_batch.specs.Failures.{AllCounted, Tally, tally_of};
 ghost use Rattle.esdk_batch.specs.Managing.{ManagerWent, SaysWithin};
 ghost use Rattle.esdk_batch.specs.Moments.{ReadsClock};
 ghost use Rattle.esdk_batch.specs.Progress.{IsFirstRunning, all_turns_left, is_ended};
-ghost use Rattle.esdk_batch.specs.Rounds.{AreApart, AreReady, Beginning, HaveBegun, IsOpened, Stand, all_waits};
+ghost use Rattle.esdk_batch.specs.Rounds.{FilesAreApart, AreReady, Beginning, HaveBegun, IsOpened, Stand, all_waits};
 
 use crate::progress::{Progress, first_running};
 use crate::turns::take_turn;
@@ -34,7 +34,7 @@ pub(crate) fn run_rounds<M: Manager, F: Shelf, W: Entropy, C: Clock>(
     clock: &mut C,
 ) -> Result<(), AllocError>
     requires works { All (λ job. IsWork job.work) jobs.now }
-    requires apart { AreApart jobs.now }
+    requires apart { FilesAreApart jobs.now }
     requires each { length progress.old ≡ length jobs.now }
     requires wide { 1 ≤ width }
     requires buffer { 0 < length buffer.old }
@@ -89,7 +89,7 @@ fn run_round<M: Manager, F: Shelf, W: Entropy, C: Clock>(
     clock: &mut C,
 ) -> Result<(), AllocError>
     requires works { All (λ job. IsWork job.work) jobs.now }
-    requires apart { AreApart jobs.now }
+    requires apart { FilesAreApart jobs.now }
     requires each { length progress.old ≡ length jobs.now }
     requires wide { 1 ≤ width }
     requires first { IsFirstRunning progress.old (Some first) }

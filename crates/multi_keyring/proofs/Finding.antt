@@ -93,7 +93,7 @@ plus_none : (n : ℕ) → n + 0 ≡ n
 plus_none n = omega arith
 
 -- What a tree answers to entries.
-pub record Answers {P : Type 0} (leaf : P → KeyringMeaning) (o n : Node P) (c : List KeyValue) (es : List Entry) (r : Result (Option (List ℕ)) RingError) : Type 0 where
+pub record NodeAnswers {P : Type 0} (leaf : P → KeyringMeaning) (o n : Node P) (c : List KeyValue) (es : List Entry) (r : Result (Option (List ℕ)) RingError) : Type 0 where
   pub height : node_height n ≡ node_height o
   pub goes : KeyringGoes (tree_meaning leaf o) (tree_meaning leaf n)
   pub opens : OpensAs (tree_meaning leaf o).keys (tree_meaning leaf o).faults (tree_meaning leaf n).faults c es r
@@ -102,7 +102,7 @@ pub record Answers {P : Type 0} (leaf : P → KeyringMeaning) (o n : Node P) (c 
 
 -- it is a row by itself
 pub one_unwraps : {P : Type 0} (leaf : P → KeyringMeaning) (o n : Node P) (c : List KeyValue) (es : List Entry) (r : Result (Option (List ℕ)) RingError)
-    → Answers leaf o n c es r → Unwraps leaf (o ∷ []) (n ∷ []) c es r
+    → NodeAnswers leaf o n c es r → Unwraps leaf (o ∷ []) (n ∷ []) c es r
 one_unwraps leaf o n c es r is = record {
   stays = record { heights = ap (λ (h : ℕ). h ∷ []) is.height; goes = (is.goes, tt) };
   opens = rw (both_keys-right (tree_meaning leaf o).keys, plus_none (tree_meaning leaf o).faults, plus_none (tree_meaning leaf n).faults) is.opens;
@@ -163,10 +163,10 @@ after-ends true (Err e) ends = refl
 
 ends_at : {P : Type 0} (leaf : P → KeyringMeaning) (f : Bool) (before asked left : List (Node P)) (x d : Node P) (c : List KeyValue) (es : List Entry) (r : Result (Option (List ℕ)) RingError)
     → length asked < length (asked ++ left) → Unwraps leaf before asked c es (so_far f) → AllCounted (map (tree_meaning leaf) left)
-    → Answers leaf (slice_index_or (asked ++ left) (length asked) d) x c es r → (FindsNoKey r → ⊥) → Unwraps leaf (before ++ left) (slice_set (asked ++ left) (length asked) x) c es r
+    → NodeAnswers leaf (slice_index_or (asked ++ left) (length asked) d) x c es r → (FindsNoKey r → ⊥) → Unwraps leaf (before ++ left) (slice_set (asked ++ left) (length asked) x) c es r
 ends_at leaf f before asked [] x d c es r some u counted is ends = absurd (omega (arith, some, length-append asked []))
 ends_at leaf f before asked (y ∷ left) x d c es r some u counted is ends =
-    let one = one_unwraps leaf y x c es r (subst (λ (z : Node _). Answers leaf z x c es r) (get_or-append_seam asked y left d) is) in
+    let one = one_unwraps leaf y x c es r (subst (λ (z : Node _). NodeAnswers leaf z x c es r) (get_or-append_seam asked y left d) is) in
     let both = subst (λ (a : Result (Option (List ℕ)) RingError). Unwraps leaf (before ++ (y ∷ [])) (asked ++ (x ∷ [])) c es a) (after-ends f r ends)
     (unwraps_join leaf f r before asked (y ∷ []) (x ∷ []) c es u one) in
     rw (set-append_seam asked y left x, sym (append_assoc before (y ∷ []) left), sym (append_assoc asked (x ∷ []) left))
@@ -174,22 +174,22 @@ ends_at leaf f before asked (y ∷ left) x d c es r some u counted is ends =
 
 -- the tree at the index gave an answer that ends the search
 pub ends_here : {P : Type 0} (leaf : P → KeyringMeaning) (old now : List (Node P)) (i : ℕ) (f : Bool) (c : List KeyValue) (es : List Entry) (y x : Node P) (r s : Result (Option (List ℕ)) RingError)
-    → Between leaf old now i f c es → i < length now → slice_index_or now i y ≡ y → Answers leaf y x c es r → r ≡ s → (FindsNoKey s → ⊥) → Unwraps leaf old (slice_set now i x) c es s
+    → Between leaf old now i f c es → i < length now → slice_index_or now i y ≡ y → NodeAnswers leaf y x c es r → r ≡ s → (FindsNoKey s → ⊥) → Unwraps leaf old (slice_set now i x) c es s
 ends_here {P = P} leaf old now i f c es y x r s b some there is same ends =
     rw (b.old_is, b.now_is, sym b.at)
     (ends_at leaf f b.before b.asked b.left x y c es s (subst (λ (l : List (Node P)). length b.asked < length l) b.now_is (omega (arith, some, b.at))) b.unwraps b.counted
-    (subst (λ (l : List (Node P)). Answers leaf (slice_index_or l (length b.asked) y) x c es s) b.now_is
-    (subst (λ (n : ℕ). Answers leaf (slice_index_or now n y) x c es s) (sym b.at)
-    (subst (λ (z : Node P). Answers leaf z x c es s) (sym there) (subst (λ (a : Result (Option (List ℕ)) RingError). Answers leaf y x c es a) same is))))
+    (subst (λ (l : List (Node P)). NodeAnswers leaf (slice_index_or l (length b.asked) y) x c es s) b.now_is
+    (subst (λ (n : ℕ). NodeAnswers leaf (slice_index_or now n y) x c es s) (sym b.at)
+    (subst (λ (z : Node P). NodeAnswers leaf z x c es s) (sym there) (subst (λ (a : Result (Option (List ℕ)) RingError). NodeAnswers leaf y x c es a) same is))))
     ends)
 
 next_at : {P : Type 0} (leaf : P → KeyringMeaning) (f g : Bool) (before asked left : List (Node P)) (x d : Node P) (c : List KeyValue) (es : List Entry) (r : Result (Option (List ℕ)) RingError)
     → length asked < length (asked ++ left) → Unwraps leaf before asked c es (so_far f) → AllCounted (map (tree_meaning leaf) left)
-    → Answers leaf (slice_index_or (asked ++ left) (length asked) d) x c es r → after f r ≡ so_far g
+    → NodeAnswers leaf (slice_index_or (asked ++ left) (length asked) d) x c es r → after f r ≡ so_far g
     → Between leaf (before ++ left) (slice_set (asked ++ left) (length asked) x) (length asked + 1) g c es
 next_at leaf f g before asked [] x d c es r some u counted is so = absurd (omega (arith, some, length-append asked []))
 next_at {P = P} leaf f g before asked (y ∷ left) x d c es r some u counted is so =
-    let one = one_unwraps leaf y x c es r (subst (λ (z : Node P). Answers leaf z x c es r) (get_or-append_seam asked y left d) is) in
+    let one = one_unwraps leaf y x c es r (subst (λ (z : Node P). NodeAnswers leaf z x c es r) (get_or-append_seam asked y left d) is) in
     record {
       before = before ++ (y ∷ []);
       asked = asked ++ (x ∷ []);
@@ -204,12 +204,12 @@ next_at {P = P} leaf f g before asked (y ∷ left) x d c es r some u counted is 
 
 -- the tree at the index found no key either
 pub goes_on : {P : Type 0} (leaf : P → KeyringMeaning) (old now : List (Node P)) (i : ℕ) (f g : Bool) (c : List KeyValue) (es : List Entry) (y x : Node P) (r : Result (Option (List ℕ)) RingError)
-    → Between leaf old now i f c es → i < length now → slice_index_or now i y ≡ y → Answers leaf y x c es r → after f r ≡ so_far g → Between leaf old (slice_set now i x) (i + 1) g c es
+    → Between leaf old now i f c es → i < length now → slice_index_or now i y ≡ y → NodeAnswers leaf y x c es r → after f r ≡ so_far g → Between leaf old (slice_set now i x) (i + 1) g c es
 goes_on {P = P} leaf old now i f g c es y x r b some there is so =
     rw (b.old_is, b.now_is, sym b.at)
     (next_at leaf f g b.before b.asked b.left x y c es r (subst (λ (l : List (Node P)). length b.asked < length l) b.now_is (omega (arith, some, b.at))) b.unwraps b.counted
-    (subst (λ (l : List (Node P)). Answers leaf (slice_index_or l (length b.asked) y) x c es r) b.now_is
-    (subst (λ (n : ℕ). Answers leaf (slice_index_or now n y) x c es r) (sym b.at) (subst (λ (z : Node P). Answers leaf z x c es r) (sym there) is)))
+    (subst (λ (l : List (Node P)). NodeAnswers leaf (slice_index_or l (length b.asked) y) x c es r) b.now_is
+    (subst (λ (n : ℕ). NodeAnswers leaf (slice_index_or now n y) x c es r) (sym b.at) (subst (λ (z : Node P). NodeAnswers leaf z x c es r) (sym there) is)))
     so)
 
 pub after_none : (f : Bool) → after f (Ok None) ≡ so_far f
@@ -227,7 +227,7 @@ all_with {P = P} members generator is = ap (λ (o : Option (Node P)). generator_
 
 -- the generator's answer ended the search
 pub generator_ends : {P : Type 0} (leaf : P → KeyringMeaning) (members : Members P) (o n : Node P) (shown : List (Node P)) (c : List KeyValue) (es : List Entry) (r s : Result (Option (List ℕ)) RingError)
-    → members.generator ≡ Some o → Answers leaf o n c es r → r ≡ s → (FindsNoKey s → ⊥) → shown ≡ members.children.items → AllCounted (map (tree_meaning leaf) shown)
+    → members.generator ≡ Some o → NodeAnswers leaf o n c es r → r ≡ s → (FindsNoKey s → ⊥) → shown ≡ members.children.items → AllCounted (map (tree_meaning leaf) shown)
     → Unwraps leaf (all_of members) (n ∷ members.children.items) c es s
 generator_ends {P = P} leaf members o n shown c es r s has is same ends shown_is counted =
     let first = subst (λ (a : Result (Option (List ℕ)) RingError). Unwraps leaf (o ∷ []) (n ∷ []) c es a) same (one_unwraps leaf o n c es r is) in
@@ -236,7 +236,7 @@ generator_ends {P = P} leaf members o n shown c es r s has is same ends shown_is
 
 -- the generator found no key, and the children were asked
 pub generator_goes_on : {P : Type 0} (leaf : P → KeyringMeaning) (members : Members P) (f : Bool) (o n : Node P) (qs : List (Node P)) (c : List KeyValue) (es : List Entry)
-    (r s t : Result (Option (List ℕ)) RingError) → members.generator ≡ Some o → Answers leaf o n c es r → r ≡ so_far f → Unwraps leaf members.children.items qs c es s → after f s ≡ t
+    (r s t : Result (Option (List ℕ)) RingError) → members.generator ≡ Some o → NodeAnswers leaf o n c es r → r ≡ so_far f → Unwraps leaf members.children.items qs c es s → after f s ≡ t
     → Unwraps leaf (all_of members) (n ∷ qs) c es t
 generator_goes_on leaf members f o n qs c es r s t has is same next so =
     let first = subst (λ (a : Result (Option (List ℕ)) RingError). Unwraps leaf (o ∷ []) (n ∷ []) c es a) same (one_unwraps leaf o n c es r is) in

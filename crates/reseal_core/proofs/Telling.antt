@@ -26,7 +26,7 @@ use Rattle.esdk_decrypt.proofs.Told.{Allows, answered_allowed, asked_of, failing
 use Rattle.reseal_core.specs.declared.errors.InputError.{InputError}
 use Rattle.reseal_core.specs.declared.errors.InputError.TheVariants as errors
 use Rattle.reseal_core.specs.Front.{request_for}
-use Rattle.reseal_core.specs.Reseal.{EndsSo, HasMaterials, OpensFirst, Passes, RefusesMessage, Reseals, ResealEnds, Resealing, ResealsInput, StartsNot, WritesBy, WritesFirst, WritesFront, resealing_from}
+use Rattle.reseal_core.specs.Reseal.{EndsSo, HasMaterials, OpensFirst, Passes, RefusesMessage, Reseals, ResealEnds, Resealing, ResealsInput, RefusesHeader, WritesBy, WritesFirst, WritesFront, resealing_from}
 use Rattle.reseal_core.specs.Told.{resealing_told}
 
 -- What a manager gives, and why it gives nothing.
@@ -112,7 +112,7 @@ module _ (from to : Answering) (settings : Settings) (given : List KeyValue) (fi
     };
   }
 
-  starts_more : (drawn : List ℕ) (whole only : List KeyValue) (refusal : Refusal) → StartsNot a drawn whole only refusal → StartsNot b drawn whole only refusal
+  starts_more : (drawn : List ℕ) (whole only : List KeyValue) (refusal : Refusal) → RefusesHeader a drawn whole only refusal → RefusesHeader b drawn whole only refusal
   starts_more drawn whole only refusal s = record { materials = s.materials; given = more.gives (request_for whole only) (drawn_rest drawn) s.materials s.given; sound = s.sound; refused = s.refused }
 
   pub ends_more : (drawn : List ℕ) (input taken : SourceState) (output put : SinkState) (error : InputError) → EndsSo a drawn input taken output put error → EndsSo b drawn input taken output put error
@@ -120,7 +120,7 @@ module _ (from to : Answering) (settings : Settings) (given : List KeyValue) (fi
       record { bytes = e.bytes; answer = e.answer; passes = passes_more drawn input taken output put e.bytes e.answer e.passes; cause = e.cause; last = e.last }
   ends_more drawn input taken output put (errors.Refusal refusal) (inl e) = inl (refuses_more e.why)
     where
-      refuses_more : (a.gives_none (request_for e.whole e.only) (managers.Refusal refusal) ⊎ StartsNot a drawn e.whole e.only refusal) → RefusesMessage b drawn input taken output put refusal
+      refuses_more : (a.gives_none (request_for e.whole e.only) (managers.Refusal refusal) ⊎ RefusesHeader a drawn e.whole e.only refusal) → RefusesMessage b drawn input taken output put refusal
       refuses_more (inl none) = record {
         first = e.first;
         whole = e.whole;

@@ -40,7 +40,7 @@ use Rattle.reseal_core.specs.declared.errors.InputError.{InputError}
 use Rattle.reseal_core.specs.declared.errors.InputError.TheVariants as errors
 use Rattle.reseal_core.specs.Front.{AreSound}
 use Rattle.reseal_core.specs.Laws.{HasFaultAndFront, IsNoMessage, IsResealable, IsResealed, front_by, new_writer, unlocked_to}
-use Rattle.reseal_core.specs.Reseal.{HasFault, OpensFirst, RefusesMessage, Reseals, ResealEnds, Resealing, ResealsInput, StartsNot, WritesBy}
+use Rattle.reseal_core.specs.Reseal.{HasFault, OpensFirst, RefusesMessage, Reseals, ResealEnds, Resealing, ResealsInput, RefusesHeader, WritesBy}
 use Rattle.reseal_core.specs.Told.{resealing_told}
 use Rattle.reseal_core.proofs.NewMaterials.{CanSeal, limits_of_count, materials, writable}
 use Rattle.reseal_core.proofs.Unfinished.{whole_to_nobody}
@@ -260,7 +260,7 @@ module _ (reader : Reader) where
       same_whole first whole only key comes = let e : Unlocks is.whole is.only is.key ≡ Unlocks whole only key = sym is.unlocked ∙ comes.unlocked in cc
 
       -- no header is too long
-      start_taken : (drawn : List ℕ) (whole only : List KeyValue) (refusal : Refusal) → Drew run.wraps entropy spent drawn → StartsNot run drawn whole only refusal → ⊥
+      start_taken : (drawn : List ℕ) (whole only : List KeyValue) (refusal : Refusal) → Drew run.wraps entropy spent drawn → RefusesHeader run drawn whole only refusal → ⊥
       start_taken drawn whole only refusal drew starts =
           let long : length (drawn_id drawn) ≡ 32 = omega (arith, length-take 32 drawn, drew.count) in
           let begins : start_refusal starts.materials None (drawn_id drawn) ≡ None =

@@ -60,7 +60,7 @@ pub record GivesNot (saying : Saying) (whole only : List KeyValue) (error : Rese
     pub named : error ≡ given_as why
 
 -- It gave some, with whose entries a header would be too long.
-pub record StartsNot (saying : Saying) (now : ℕ) (random : List ℕ) (whole only : List KeyValue)
+pub record HeaderRefused (saying : Saying) (now : ℕ) (random : List ℕ) (whole only : List KeyValue)
     (error : ResealError) : Type 0 where
   pub materials : EncMaterialsValue
   pub refusal : Refusal
@@ -73,7 +73,7 @@ pub record StartsNot (saying : Saying) (now : ℕ) (random : List ℕ) (whole on
 abbrev pub IsNotBegun : Saying → ℕ → List ℕ → List KeyValue → List KeyValue → ResealError → Type 0
 IsNotBegun saying now random whole only error =
     GivesNot saying whole only error
-    ⊎ (StartsNot saying now random whole only error ⊎ (error ≡ errors.Memory))
+    ⊎ (HeaderRefused saying now random whole only error ⊎ (error ≡ errors.Memory))
 
 -- a sealer isn't begun for that reason; want of memory is free
 abbrev pub IsRefused : Option Refusal → ResealError → Type 0

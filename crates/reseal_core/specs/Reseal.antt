@@ -178,7 +178,7 @@ pub record OpensFirst (asked : Resealing) (input taken : SourceState) (first : L
   pub unlocked : (judged first asked.opening.settings (Unlocks whole only key)).unlocked ≡ true
 
 -- The manager gave materials with which the header would be too long.
-pub record StartsNot (asked : Resealing) (drawn : List ℕ) (whole only : List KeyValue)
+pub record RefusesHeader (asked : Resealing) (drawn : List ℕ) (whole only : List KeyValue)
     (refusal : Refusal) : Type 0 where
   pub materials : EncMaterialsValue
   pub given : asked.gives (request_for whole only) (drawn_rest drawn) materials
@@ -195,7 +195,7 @@ pub record RefusesMessage (asked : Resealing) (drawn : List ℕ) (input taken : 
   pub key : List ℕ
   pub opens : OpensFirst asked input taken first whole only key
   pub why : asked.gives_none (request_for whole only) (managers.Refusal refusal)
-      ⊎ StartsNot asked drawn whole only refusal
+      ⊎ RefusesHeader asked drawn whole only refusal
   pub nothing : SinkTakes output put []
   pub last : APieceBehind (λ before. header asked.opening.settings (start before) ≡ Wanting)
       (first ++ opens.behind)

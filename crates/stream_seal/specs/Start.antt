@@ -33,9 +33,9 @@ BeginsNot refusal errors.Stopped = ⊥
 BeginsNot refusal errors.Memory = ⊤
 
 -- a message isn't begun for the reason that no header is written
-abbrev pub StartsNot : PairError → SealError → Type 0
-StartsNot (pairs.Refusal refusal) error = error ≡ errors.Refusal refusal
-StartsNot pairs.Memory error = error ≡ errors.Memory
+abbrev pub NamesPairError : PairError → SealError → Type 0
+NamesPairError (pairs.Refusal refusal) error = error ≡ errors.Refusal refusal
+NamesPairError pairs.Memory error = error ≡ errors.Memory
 
 -- how many frames a message has at the most: each frame's number has four bytes
 abbrev pub most_frames : ℕ

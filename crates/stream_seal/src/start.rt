@@ -5,7 +5,7 @@ ghost use Rattle.context_codec.specs.Insert.{RefusesAs};
 ghost use Rattle.message_format.specs.Message.{header_body};
 ghost use Rattle.suite_table.specs.declared.suite.Suite.TheVariants.{Committing};
 ghost use Rattle.suite_table.specs.Keys.{derived, commitment};
-ghost use Rattle.stream_seal.specs.Start.{StartsNot, start_of, start_refusal};
+ghost use Rattle.stream_seal.specs.Start.{NamesPairError, start_of, start_refusal};
 
 use crate::errors::SealError;
 use context_codec::PairError;
@@ -88,7 +88,7 @@ fn body_of_header(
 
 /// Why a message isn't begun whose header isn't written.
 pub(crate) fn unstarted(error: PairError) -> SealError
-    ensures { StartsNot error result }
+    ensures { NamesPairError error result }
 {
     match error {
         PairError::Refusal(refusal) => SealError::Refusal(refusal),
