@@ -67,7 +67,7 @@ rest_none v w lines draws undrawn over = rest_never v.live w.live (v.last + 1) d
 kept_desk : (v : DeskValue) (session : ℕ) → KeepsDesk session v v []
 kept_desk v session = record { others = λ other apart. refl; last = refl; journal = sym (append-nil v.journal) }
 
-dropped_desk : (v : DeskValue) (session : ℕ) → KeepsDesk session v (after_call v session false DropSession) []
+pub dropped_desk : (v : DeskValue) (session : ℕ) → KeepsDesk session v (after_call v session false DropSession) []
 dropped_desk v session = record { others = λ other apart. update_apart v.live session (dropped (v.live session)).left other apart; last = refl; journal = refl }
 
 pub dropped_left : (v : DeskValue) (session : ℕ) (s : SessionValue) → v.live session ≡ Some s → (after_call v session false DropSession).live session ≡ None

@@ -14,6 +14,7 @@ pub mod FurtherTurns
 pub mod Gaining
 pub mod Judgements
 pub mod Judging
+pub mod Keeping
 pub mod KeptAnswers
 pub mod Lines
 pub mod Managers

@@ -13,7 +13,7 @@ use Rattle.stream_seal.specs.Session.{SealingValue, finished}
 use Rattle.stream_seal.specs.Start.{message_of, most_text}
 use Rattle.stream_seal.proofs.Feeding.{feeds, finishes, refuses_piece}
 use Rattle.stream_seal.specs.Start.{start_refusal}
-use Rattle.esdk_encrypt.specs.Encrypt.{drawn_id, drawn_rest}
+use Rattle.esdk_encrypt.specs.Encrypt.{drawn_id, drawn_rest, written_so_far}
 use Rattle.batch_report.specs.declared.job_lines.JobEnd.{JobEnd}
 use Rattle.batch_report.specs.declared.job_lines.JobEnd.TheVariants as ends
 use Rattle.esdk_batch.specs.declared.progress.Live.{Live}
@@ -234,6 +234,23 @@ same_most asked v d s = ap (λ (o : Option ℕ). most_of o (most_text v.size)) d
 same_over : (asked : SealAsked) (v : SealingValue) → v.declared ≡ asked.declared → v.size ≡ asked.frame → over_of v.declared (most_text v.size) ≡ over_of asked.declared (most_text asked.frame)
 same_over asked v d s = ap (λ (o : Option ℕ). over_of o (most_text v.size)) d ∙ ap (λ (n : ℕ). over_of asked.declared (most_text n)) s
 
+-- what was given with a piece is what is written so far of the text that was taken
+given_is : (v : SealingValue) (piece : List ℕ) → given_so_far (fed v piece) ≡ written_so_far v.materials v.size v.id (take (most_taken v) (v.taken ++ piece))
+unfolding given_so_far fed
+given_is v piece = refl
+
+same_written : (m : EncMaterialsValue) (size other : ℕ) (id name text bytes : List ℕ) → size ≡ other → id ≡ name → text ≡ bytes → written_so_far m size id text ≡ written_so_far m other name bytes
+same_written m size other id name text bytes a b c = cc
+
+-- where no more can be taken, that is the text which the job may take
+written_over : (asked : SealAsked) (s : SealingValue) (id piece rest bytes : List ℕ) → IsFed s → s.declared ≡ asked.declared → s.size ≡ asked.frame → s.id ≡ id
+    → bytes ≡ (s.taken ++ piece) ++ rest → most_taken s < length (s.taken ++ piece)
+    → given_so_far s ++ fed_out s piece ≡ written_so_far s.materials asked.frame id (take (most_sealed asked) bytes)
+written_over asked s id piece rest bytes is declared size same front over =
+    let text : take (most_taken s) (s.taken ++ piece) ≡ take (most_sealed asked) bytes =
+    sym (take-append-le (most_taken s) (s.taken ++ piece) rest (omega (arith, over))) ∙ ap (take (most_taken s)) (sym front) ∙ ap (λ (n : ℕ). take n bytes) (same_most asked s declared size) in
+    sym (feeds s piece is).given ∙ given_is s piece ∙ same_written s.materials s.size asked.frame s.id id (take (most_taken s) (s.taken ++ piece)) (take (most_sealed asked) bytes) size same text
+
 -- with what a piece gave the message begins
 begins_piece : (from : Option (List ℕ)) (s : SealingValue) (piece : List ℕ) (at count : ℕ) → IsFed s → TookPiece s.taken piece at count from
     → Begins (given_so_far s ++ fed_out s piece) (message_in s (story.held from))
@@ -251,11 +268,15 @@ seal_refused manager asked from before to after drawn live s piece count refusal
     let parts = length-append (s.taken ++ piece) (drop (live.at + count) (story.held from)) in
     let cause : over_of s.declared (most_text s.size) ≡ refusal = cause_is s piece refusal why in
     too_much manager asked (seen_with from before after drawn live.served) s.declared (most_text s.size) refusal cause (record {
-      front = seals_front manager asked from before to after drawn live s (given_so_far s ++ fed_out s piece) at holds (begins_piece from s piece live.at count at.is_fed took);
+      materials = s.materials;
+      given = is_given manager asked from before to after drawn live s at;
+      begins = at.begins;
       text = took.text;
       from = took.there;
       over = omega (arith, over, most, text, long, parts);
       cause = sym (same_over asked s at.declared at.size) ∙ cause;
+      to = holds ∙ ap (λ (l : List ℕ). Some l)
+          (written_over asked s (drawn_id drawn) piece (drop (live.at + count) (story.held from)) (story.held from) at.is_fed at.declared at.size at.id took.took.front over);
     })
 
 -- how a job ends whose piece was fed

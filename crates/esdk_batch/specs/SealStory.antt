@@ -13,7 +13,7 @@ use Rattle.keyring_trait.specs.Requests.{EncRequestValue}
 use Rattle.keyring_trait.specs.Saying.{Saying}
 use Rattle.stream_seal.specs.Feeding.{most_of, over_of}
 use Rattle.stream_seal.specs.Start.{message_of, most_text, start_refusal}
-use Rattle.esdk_encrypt.specs.Encrypt.{draws, drawn_id, drawn_rest}
+use Rattle.esdk_encrypt.specs.Encrypt.{draws, drawn_id, drawn_rest, written_so_far}
 use Rattle.batch_report.specs.declared.job_lines.JobEnd.{JobEnd}
 use Rattle.batch_report.specs.declared.job_lines.JobEnd.TheVariants as ends
 use Rattle.esdk_batch.specs.Files.{most_input}
@@ -84,15 +84,19 @@ pub record SealsWhole (manager : Saying) (asked : SealAsked) (seen : Seen) : Typ
   pub short : length text ≤ most_sealed asked
   pub to : seen.to ≡ Some (message_of materials asked.frame (drawn_id seen.drawn) text)
 
--- It reads more than it may, for this reason, and its file holds a front of the message of what it
--- may.
+-- It reads more than it may, for this reason. Its message could begin, and of what it may its file
+-- holds what is written while more may come: the header, and all frames but the last.
 pub record SealsTooMuch (manager : Saying) (asked : SealAsked) (seen : Seen)
     (refusal : Refusal) : Type 0 where
-  pub front : SealsFront manager asked seen
+  pub materials : EncMaterialsValue
+  pub given : IsGiven manager asked seen materials
+  pub begins : start_refusal materials None (drawn_id seen.drawn) ≡ None
   pub text : List ℕ
   pub from : seen.from ≡ Some text
   pub over : most_sealed asked < length text
   pub cause : over_of asked.declared (most_text asked.frame) ≡ refusal
+  pub to : seen.to ≡ Some (written_so_far materials asked.frame (drawn_id seen.drawn)
+      (sealed_text asked seen))
 
 -- It drew its bytes, the manager gave nothing, for this reason, and its file is as before.
 pub record IsGivenNone (manager : Saying) (asked : SealAsked) (seen : Seen)

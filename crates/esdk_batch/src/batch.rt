@@ -1,6 +1,6 @@
 //! The whole batch.
 
-ghost use Rattle.std.specs.Prelude.{◌≡◌, ◌≤◌, ◌-◌, ◌^◌, ℕ, true, All, is_some, IfOk, OnOk};
+ghost use Rattle.std.specs.Prelude.{◌≡◌, ◌≤◌, ◌+◌, ◌-◌, ◌^◌, ℕ, true, All, length, is_some, IfOk, OnOk};
 ghost use Rattle.keyring_trait.specs.Manager.{Went};
 ghost use Rattle.keyring_trait.specs.Saying.{said_between};
 ghost use Rattle.desk_core.specs.Desk.{DeskValue};
@@ -22,6 +22,9 @@ use std::alloc::{AllocError, Global};
 /// Runs the jobs in turns over the desk, and reports of each. Fails where memory runs out, and the
 /// batch ends there; then sessions of its jobs may be left live, and files that they wrote not put
 /// in their places. Else the sessions are live that were live before.
+///
+/// Whatever comes, each session that was live before is as it was, and no other has a number that
+/// was drawn before. One number is drawn for each job at the most.
 ///
 /// The shelf is told first which names are going to be read.
 ///
@@ -62,6 +65,9 @@ pub fn run_batch<M: Manager, F: Shelf, W: Entropy, C: Clock>(
         (journal_of desk.old) (journal_of desk.new) }
     ensures sessions { (v : DeskValue) → Stands desk.old v → OnOk result ((w : DeskValue)
         × Stands desk.new w × ((session : ℕ) → w.live session ≡ v.live session)) }
+    ensures kept { (v : DeskValue) → Stands desk.old v → (w : DeskValue) × Stands desk.new w
+        × ((session : ℕ) → session ≤ v.last → w.live session ≡ v.live session) }
+    ensures numbers { last_of desk.new ≤ last_of desk.old + length jobs.now.jobs }
     ensures others { OnlyWritten jobs.now.jobs (F.state shelf.old).files (F.state shelf.new).files }
     ensures told { is_some (F.state shelf.new).files ≡ is_some (F.state shelf.old).files }
     ensures failures { IfOk result (CountsFailures jobs.now.jobs

@@ -1,6 +1,6 @@
 //! A piece of a job's file that is fed to its session, and the session's end.
 
-ghost use Rattle.std.specs.Prelude.{◌≡◌, ◌≢◌, ℕ, true, false, List, Some, IfOk};
+ghost use Rattle.std.specs.Prelude.{◌≡◌, ◌≢◌, ◌<◌, ℕ, true, false, List, Some, IfOk};
 ghost use Rattle.esdk_base.specs.declared.receiver.FeedError.TheVariants.{Machine};
 ghost use Rattle.desk_core.specs.declared.errors.DeskError.TheVariants.{NotLive};
 ghost use Rattle.desk_core.specs.Session.{SessionValue};
@@ -9,6 +9,7 @@ ghost use Rattle.desk_core.specs.Stands.{IsWorth, Stands, manager_of, journal_of
 ghost use Rattle.keyring_trait.specs.Saying.{said_between};
 ghost use Rattle.esdk_batch.specs.Managing.{ManagerWent, SaysWithin};
 ghost use Rattle.esdk_batch.specs.Ending.{EndsBy, EndsSession, FeedsPiece};
+ghost use Rattle.esdk_batch.specs.Keeping.{KeepsSessions};
 ghost use Rattle.esdk_base.specs.Shelf.{is_missing};
 ghost use Rattle.esdk_batch.specs.Failures.{PieceCounts};
 ghost use Rattle.esdk_batch.specs.Files.{KeepsOthers};
@@ -25,7 +26,8 @@ use keyring_trait::Manager;
 use std::alloc::{AllocError, Global};
 
 /// Feeds a piece to a live session, to the piece's end, and appends what the session gives to the
-/// file. Answers how the job ended, if it did, and then the session isn't live any more.
+/// file. Answers how the job ended, if it did, and then the session isn't live any more. Whatever
+/// comes, the sessions with smaller numbers are as before, and no number is drawn.
 pub(crate) fn feed_piece<M: Manager, F: Shelf>(
     alloc: Global,
     session: u64,
@@ -42,6 +44,7 @@ pub(crate) fn feed_piece<M: Manager, F: Shelf>(
         → IfOk result (λ end. (w : DeskValue) × Stands desk.new w × FeedsPiece
         (said_between (M.state first) (M.state last))
         session s piece.now v w to.now (F.state shelf.old).files (F.state shelf.new).files end) }
+    ensures sessions { (last : ℕ) → last < session → KeepsSessions last 0 desk.old desk.new }
     ensures moment { GainsAt now (journal_of desk.old) (journal_of desk.new) }
     ensures kept { KeepsOthers (F.state shelf.old).files (F.state shelf.new).files to.now }
     ensures counts { is_missing (F.state shelf.old).files to.now ≡ false
@@ -58,7 +61,8 @@ pub(crate) fn feed_piece<M: Manager, F: Shelf>(
     }
 }
 
-/// Ends a live session, and appends what it gives to the file. Answers how the job ended.
+/// Ends a live session, and appends what it gives to the file. Answers how the job ended. Whatever
+/// comes, the sessions with smaller numbers are as before, and no number is drawn.
 pub(crate) fn end_session<M: Manager, F: Shelf>(
     session: u64,
     to: &str,
@@ -70,6 +74,7 @@ pub(crate) fn end_session<M: Manager, F: Shelf>(
         → IfOk result (λ end. (w : DeskValue) × Stands desk.new w
         × EndsSession session s v w to.now (F.state shelf.old).files (F.state shelf.new).files
         end) }
+    ensures sessions { (last : ℕ) → last < session → KeepsSessions last 0 desk.old desk.new }
     ensures kept { KeepsOthers (F.state shelf.old).files (F.state shelf.new).files to.now }
     ensures counts { (keyring : ℕ) → is_missing (F.state shelf.old).files to.now ≡ false
         → IfOk result (λ end. PieceCounts to.now (Some end)

@@ -23,6 +23,7 @@ ghost use Rattle.esdk_batch.specs.Failures.{TurnCounts, tally_of};
 ghost use Rattle.esdk_batch.specs.Files.{KeepsOthers, MakesFile};
 ghost use Rattle.esdk_batch.specs.Moments.{GainsAt};
 ghost use Rattle.esdk_batch.specs.Ending.{EndsFor};
+ghost use Rattle.esdk_batch.specs.Keeping.{KeepsSessions};
 ghost use Rattle.esdk_batch.specs.Opening.{BeginsFile, request_of};
 ghost use Rattle.esdk_batch.specs.SealStory.{SealAsked};
 ghost use Rattle.esdk_batch.specs.Underway.{IsLiveAt, TakesTurn};
@@ -47,6 +48,9 @@ use std::alloc::{AllocError, Global};
 /// An encrypt job draws the bytes that its message is made with by one fill (X4), opens its session
 /// with them, makes its file hold nothing and appends the message's header (X3). A decrypt job
 /// opens its session, and makes its file hold nothing (X3).
+///
+/// Whatever comes, every session that was live before is as before, and one number is drawn at the
+/// most.
 pub(crate) fn open_job<M: Manager, F: Shelf, W: Entropy>(
     alloc: Global,
     job: &Job,
@@ -67,6 +71,8 @@ pub(crate) fn open_job<M: Manager, F: Shelf, W: Entropy>(
         (W.state entropy.old) (W.state entropy.new)) }
     ensures numbers { IfOk result
         (λ next. DrawsNumber Waiting next (last_of desk.old) (last_of desk.new)) }
+    ensures sessions { (last : ℕ) → last ≤ last_of desk.old
+        → KeepsSessions last 1 desk.old desk.new }
     ensures draws { OnOk result (DrawsBytes Waiting (last_of desk.old) (last_of desk.new)
         (W.state entropy.old) (W.state entropy.new)) }
     ensures lines { (v : DeskValue) → Stands desk.old v
@@ -119,7 +125,8 @@ fn wish_of(
     }
 }
 
-/// Opens a session that seals a message.
+/// Opens a session that seals a message. Whatever comes, every session that was live before is as
+/// before, and one number is drawn at the most.
 fn open_sealing<M: Manager, F: Shelf, W: Entropy>(
     alloc: Global,
     request: &SealRequest,
@@ -143,6 +150,8 @@ fn open_sealing<M: Manager, F: Shelf, W: Entropy>(
         (W.state entropy.old) (W.state entropy.new)) }
     ensures numbers { IfOk result
         (λ next. DrawsNumber Waiting next (last_of desk.old) (last_of desk.new)) }
+    ensures sessions { (last : ℕ) → last ≤ last_of desk.old
+        → KeepsSessions last 1 desk.old desk.new }
     ensures draws { OnOk result (DrawsBytes Waiting (last_of desk.old) (last_of desk.new)
         (W.state entropy.old) (W.state entropy.new)) }
     ensures lines { (job : Job) (asked : SealAsked) (v : DeskValue)
@@ -175,7 +184,8 @@ fn open_sealing<M: Manager, F: Shelf, W: Entropy>(
     }
 }
 
-/// Opens a session that opens a message.
+/// Opens a session that opens a message. Whatever comes, every session that was live before is as
+/// before, and one number is drawn at the most.
 fn open_opening<M: Manager, F: Shelf>(
     alloc: Global,
     given: &Context,
@@ -193,6 +203,8 @@ fn open_opening<M: Manager, F: Shelf>(
         job Waiting next v w (F.state shelf.old).files (F.state shelf.new).files entropy entropy) }
     ensures numbers { IfOk result
         (λ next. DrawsNumber Waiting next (last_of desk.old) (last_of desk.new)) }
+    ensures sessions { (last : ℕ) → last ≤ last_of desk.old
+        → KeepsSessions last 1 desk.old desk.new }
     ensures last { OnOk result (last_of desk.new ≡ last_of desk.old + 1) }
     ensures lines { (job : Job) (required : List (List ℕ)) (v : DeskValue)
         → job.work ≡ Decrypt given.now required → Stands desk.old v → IfOk result
@@ -214,7 +226,7 @@ fn open_opening<M: Manager, F: Shelf>(
 }
 
 /// Makes the file of a session that was opened just now. Where that fails, the job ends, and its
-/// session is dropped.
+/// session is dropped. The sessions with smaller numbers are as before, and no number is drawn.
 fn begin<M: Manager, F: Shelf>(
     session: u64,
     kind: Kind,
@@ -229,6 +241,7 @@ fn begin<M: Manager, F: Shelf>(
         → (w : DeskValue) × Stands desk.new w
         × BeginsFile session kind served s v w
         (F.state shelf.old).files (F.state shelf.new).files to.now result }
+    ensures sessions { (last : ℕ) → last < session → KeepsSessions last 0 desk.old desk.new }
     ensures kind { (work : Work) → kind ≡ kind_of work → HasKind work result }
     ensures kept { KeepsOthers (F.state shelf.old).files (F.state shelf.new).files to.now }
     ensures counts { (job : Job) (entropy keyring : ℕ) → job.to ≡ to.now → TurnCounts job result

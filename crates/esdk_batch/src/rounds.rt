@@ -1,6 +1,6 @@
 //! The rounds of a batch.
 
-ghost use Rattle.std.specs.Prelude.{◌≡◌, ◌≤◌, ◌<◌, ◌+◌, ◌-◌, ◌^◌, true, All, length, take, is_some, List, Some, OnOk};
+ghost use Rattle.std.specs.Prelude.{◌≡◌, ◌≤◌, ◌<◌, ◌+◌, ◌-◌, ◌^◌, ℕ, true, All, length, take, is_some, List, Some, OnOk};
 ghost use Rattle.job_file.specs.JobFile.{IsWork};
 ghost use Rattle.desk_core.specs.Desk.{DeskValue};
 ghost use Rattle.desk_core.specs.Stands.{IsWorth, Stands, manager_of, journal_of, last_of};
@@ -8,6 +8,7 @@ ghost use Rattle.keyring_trait.specs.Manager.{Went};
 ghost use Rattle.keyring_trait.specs.Saying.{said_between};
 ghost use Rattle.esdk_batch.specs.Batch.{OnlyWritten};
 ghost use Rattle.esdk_batch.specs.Failures.{AllCounted, Tally, tally_of};
+ghost use Rattle.esdk_batch.specs.Keeping.{IsBeyond, KeepsSessions};
 ghost use Rattle.esdk_batch.specs.Managing.{ManagerWent, SaysWithin};
 ghost use Rattle.esdk_batch.specs.Moments.{ReadsClock};
 ghost use Rattle.esdk_batch.specs.Progress.{IsFirstRunning, all_turns_left, is_ended};
@@ -21,7 +22,8 @@ use job_file::Job;
 use keyring_trait::Manager;
 use std::alloc::{AllocError, Global};
 
-/// Has rounds until every job ended.
+/// Has rounds until every job ended. Whatever comes, the sessions with smaller numbers than those
+/// of the jobs are as before, and each job that waits draws one number at the most.
 pub(crate) fn run_rounds<M: Manager, F: Shelf, W: Entropy, C: Clock>(
     alloc: Global,
     jobs: &[Job],
@@ -51,6 +53,8 @@ pub(crate) fn run_rounds<M: Manager, F: Shelf, W: Entropy, C: Clock>(
         → OnOk result ((w : DeskValue) × Stands desk.new w
         × Stand (said_between (M.state start) (M.state last))
         jobs.now width began (F.state shelf.new).files (W.state entropy.new) w progress.new) }
+    ensures sessions { (last : ℕ) → last ≤ last_of desk.old → All (IsBeyond last) progress.old
+        → KeepsSessions last (all_waits progress.old) desk.old desk.new }
     ensures went { ManagerWent M.state desk.old desk.new }
     ensures moments { ReadsClock (C.moments clock.old) (C.moments clock.new)
         (journal_of desk.old) (journal_of desk.new) }
@@ -75,7 +79,9 @@ pub(crate) fn run_rounds<M: Manager, F: Shelf, W: Entropy, C: Clock>(
 }
 
 /// One round: a turn of each job in the window, which is the first jobs that haven't ended, as many
-/// as it is wide, in the order of the jobs. The first of them is the job of this index.
+/// as it is wide, in the order of the jobs. The first of them is the job of this index. Whatever
+/// comes, the sessions with smaller numbers than those of the jobs are as before, and each job that
+/// waits draws one number at the most.
 fn run_round<M: Manager, F: Shelf, W: Entropy, C: Clock>(
     alloc: Global,
     jobs: &[Job],
@@ -106,6 +112,10 @@ fn run_round<M: Manager, F: Shelf, W: Entropy, C: Clock>(
         → OnOk result ((w : DeskValue) × Stands desk.new w
         × Stand (said_between (M.state start) (M.state last))
         jobs.now width began (F.state shelf.new).files (W.state entropy.new) w progress.new) }
+    ensures sessions { (last : ℕ) → last ≤ last_of desk.old → All (IsBeyond last) progress.old
+        → KeepsSessions last (all_waits progress.old) desk.old desk.new }
+    ensures beyond { (last : ℕ) → last ≤ last_of desk.old → All (IsBeyond last) progress.old
+        → OnOk result (All (IsBeyond last) progress.new) }
     ensures moments { ReadsClock (C.moments clock.old) (C.moments clock.new)
         (journal_of desk.old) (journal_of desk.new) }
     ensures others { OnlyWritten jobs.now (F.state shelf.old).files (F.state shelf.new).files }

@@ -6,6 +6,7 @@ ghost use Rattle.desk_core.specs.Desk.{DeskValue};
 ghost use Rattle.desk_core.specs.Stands.{IsWorth, Stands, manager_of, journal_of, last_of};
 ghost use Rattle.keyring_trait.specs.Manager.{Went};
 ghost use Rattle.keyring_trait.specs.Saying.{said_between};
+ghost use Rattle.esdk_batch.specs.Keeping.{IsBeyond, KeepsSessions};
 ghost use Rattle.esdk_batch.specs.Managing.{ManagerWent, SaysWithin};
 ghost use Rattle.esdk_batch.specs.Progress.{is_ended, turns_left};
 ghost use Rattle.esdk_batch.specs.Turns.{AddsLines, DrawsBytes, DrawsNumber, HasKind, Knows, either, waits};
@@ -30,7 +31,8 @@ use std::alloc::{AllocError, Global};
 /// A turn of a job, which reads the clock once, first. The first turn opens the job's session. Each
 /// further turn reads one piece of its file, feeds all of it and appends what the session gives; at
 /// the file's end it ends the session. Where the job ended, what it wrote is put in its place. A
-/// job that ended has no turn.
+/// job that ended has no turn. Whatever comes, the sessions with smaller numbers than the job's are
+/// as before, and only a first turn draws a number, one at the most.
 pub(crate) fn take_turn<M: Manager, F: Shelf, W: Entropy, C: Clock>(
     alloc: Global,
     job: &Job,
@@ -55,6 +57,8 @@ pub(crate) fn take_turn<M: Manager, F: Shelf, W: Entropy, C: Clock>(
         (W.state entropy.old) (W.state entropy.new)) }
     ensures numbers { OnOk result
         (DrawsNumber progress.old progress.new (last_of desk.old) (last_of desk.new)) }
+    ensures sessions { (last : ℕ) → last ≤ last_of desk.old → IsBeyond last progress.old
+        → KeepsSessions last (waits progress.old) desk.old desk.new }
     ensures draws { OnOk result (DrawsBytes progress.old (last_of desk.old) (last_of desk.new)
         (W.state entropy.old) (W.state entropy.new)) }
     ensures lines { (v : DeskValue) → Stands desk.old v → Knows job.now.work progress.old v.live
@@ -92,7 +96,8 @@ pub(crate) fn take_turn<M: Manager, F: Shelf, W: Entropy, C: Clock>(
     }
 }
 
-/// A further turn of a job.
+/// A further turn of a job. Whatever comes, the sessions with smaller numbers than the job's are as
+/// before, and no number is drawn.
 fn go_on<M: Manager, F: Shelf>(
     alloc: Global,
     job: &Job,
@@ -114,6 +119,7 @@ fn go_on<M: Manager, F: Shelf>(
         job.now live next v w (F.state shelf.old).files (F.state shelf.new).files) }
     ensures numbers { IfOk result
         (λ next. DrawsNumber (stages.Live live) next (last_of desk.old) (last_of desk.new)) }
+    ensures sessions { (last : ℕ) → last < live.session → KeepsSessions last 0 desk.old desk.new }
     ensures lines { (v : DeskValue) → Stands desk.old v
         → Knows job.now.work (stages.Live live) v.live
         → IfOk result (λ next. (w : DeskValue) × Stands desk.new w

@@ -92,7 +92,16 @@ module _ (from to : Saying) (admits : Admits to from) (asked : SealAsked) (seen 
       record { materials = is.materials; text = is.text; given = given_more is.materials is.given; begins = is.begins; from = is.from; short = is.short; to = is.to }
 
   too_much : (refusal : Refusal) → seals.SealsTooMuch from asked seen refusal → seals.SealsTooMuch to asked seen refusal
-  too_much refusal is = record { front = sealed_front is.front; text = is.text; from = is.from; over = is.over; cause = is.cause }
+  too_much refusal is = record {
+    materials = is.materials;
+    given = given_more is.materials is.given;
+    begins = is.begins;
+    text = is.text;
+    from = is.from;
+    over = is.over;
+    cause = is.cause;
+    to = is.to;
+  }
 
   none_given : (error : ManagerError) → seals.IsGivenNone from asked seen error → seals.IsGivenNone to asked seen error
   none_given error is = record { count = is.count ∙ ap draws admits.wraps; cause = admits.gives_none _ error is.cause; unserved = is.unserved; same = is.same }

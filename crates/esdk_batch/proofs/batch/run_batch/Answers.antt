@@ -1,9 +1,9 @@
 -- No job had a turn yet; and all ended.
-use Rattle.std.proofs.Common.{◌≡◌, length, arith, ap, sym, subst, ◌∙◌}
+use Rattle.std.proofs.Common.{◌≡◌, length, arith, ap, refl, sym, subst, ◌∙◌}
 use Rattle.std.specs.Prelude.{All}
 use Rattle.std.proofs.lemmas.List.{with_items_is}
 use Rattle.std.proofs.lemmas.Result.{IfOk-weaker}
-use Rattle.desk_core.specs.Stands.{manager_of}
+use Rattle.desk_core.specs.Stands.{last_of, manager_of}
 use Rattle.esdk_batch.specs.declared.progress.Progress.TheVariants.{Waiting}
 use Rattle.esdk_batch.specs.Rounds.{Beginning, all_waits}
 use Rattle.esdk_batch.specs.Failures.{Tally, tally_of}
@@ -11,6 +11,7 @@ use Rattle.esdk_batch.proofs.AllCounting.{counted_all, counted_none}
 use Rattle.esdk_batch.proofs.Beginnings.{count_waits, stand_begins}
 use Rattle.esdk_batch.proofs.Beside.{rest_ended}
 use Rattle.esdk_batch.proofs.Conclusion.{batch_ends_at, begun_as, counted_as, on_ok}
+use Rattle.esdk_batch.proofs.Keeping.{beyond_waiting, keeps_drawn_before}
 use Rattle.esdk_batch.proofs.Managers.{admits_between}
 use Rattle.esdk_batch.proofs.batch.run_batch.Goals as goal
 
@@ -66,3 +67,46 @@ returns-clause-failures g c =
     let all = c.in_ok-run_rounds.ensures.counts began (counted_none c.jobs-3.result.now began old wait) in
     IfOk-weaker c.report_of.result _ _ (λ lines ended. counted_as c.args.jobs.now.jobs _ _ _ (g.F.Shelf.state c.announce.new.shelf) _ lines c.announce.ensures
     (counted_all c.jobs-3.result.now c.args.jobs.now.jobs began _ new lines c.jobs-3.ensures.jobs (sym items ∙ ended) all)) c.report_of.ensures
+
+-- ---- the sessions that were live before, and the numbers
+
+pub returns-clause-kept : goal.returns-clause-kept
+returns-clause-kept g c =
+    let wait = subst (All (λ one. one ≡ Waiting)) (sym c.deref_mut.ensures.value) c.in_ok-progress.ensures.waiting in
+    let last = last_of c.args.desk.now in
+    keeps_drawn_before _ c.args.desk.now c.run_rounds.new.desk (c.in_ok-run_rounds.ensures.sessions last (omega arith) (beyond_waiting last c.deref_mut.result.now wait))
+
+pub returns-in_err-run_rounds-clause-kept : goal.returns-in_err-run_rounds-clause-kept
+returns-in_err-run_rounds-clause-kept g c =
+    let wait = subst (All (λ one. one ≡ Waiting)) (sym c.deref_mut.ensures.value) c.in_ok-progress.ensures.waiting in
+    let last = last_of c.args.desk.now in
+    keeps_drawn_before _ c.args.desk.now c.run_rounds.new.desk (c.in_err-run_rounds.ensures.sessions last (omega arith) (beyond_waiting last c.deref_mut.result.now wait))
+
+pub returns-in_err-announce-clause-kept : goal.returns-in_err-announce-clause-kept
+returns-in_err-announce-clause-kept g c = λ v stands. (v, stands, λ session under. refl)
+
+pub returns-in_err-buffer-clause-kept : goal.returns-in_err-buffer-clause-kept
+returns-in_err-buffer-clause-kept g c = λ v stands. (v, stands, λ session under. refl)
+
+pub returns-in_err-progress-clause-kept : goal.returns-in_err-progress-clause-kept
+returns-in_err-progress-clause-kept g c = λ v stands. (v, stands, λ session under. refl)
+
+pub returns-clause-numbers : goal.returns-clause-numbers
+returns-clause-numbers g c =
+    let progress = c.in_ok-progress.progress.items in
+    let wait = subst (All (λ one. one ≡ Waiting)) (sym c.deref_mut.ensures.value) c.in_ok-progress.ensures.waiting in
+    let last = last_of c.args.desk.now in
+    let kept = c.in_ok-run_rounds.ensures.sessions last (omega arith) (beyond_waiting last c.deref_mut.result.now wait) in
+    let jobs : c.jobs-2.result.now ≡ c.args.jobs.now.jobs = c.jobs-2.ensures.jobs in
+    let count : length progress ≡ length c.jobs-2.result.now = c.in_ok-progress.ensures.count in
+    omega (arith, kept.few, ap all_waits c.deref_mut.ensures.value, count_waits progress c.in_ok-progress.ensures.waiting, count, ap length jobs)
+
+pub returns-in_err-run_rounds-clause-numbers : goal.returns-in_err-run_rounds-clause-numbers
+returns-in_err-run_rounds-clause-numbers g c =
+    let progress = c.in_ok-progress.progress.items in
+    let wait = subst (All (λ one. one ≡ Waiting)) (sym c.deref_mut.ensures.value) c.in_ok-progress.ensures.waiting in
+    let last = last_of c.args.desk.now in
+    let kept = c.in_err-run_rounds.ensures.sessions last (omega arith) (beyond_waiting last c.deref_mut.result.now wait) in
+    let jobs : c.jobs-2.result.now ≡ c.args.jobs.now.jobs = c.jobs-2.ensures.jobs in
+    let count : length progress ≡ length c.jobs-2.result.now = c.in_ok-progress.ensures.count in
+    omega (arith, kept.few, ap all_waits c.deref_mut.ensures.value, count_waits progress c.in_ok-progress.ensures.waiting, count, ap length jobs)

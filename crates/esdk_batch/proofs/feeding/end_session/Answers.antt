@@ -1,5 +1,5 @@
 -- The session ends as the desk says, and what it gives is put behind its job's file.
-use Rattle.std.proofs.Common.{◌≡◌, ◌∙◌, Ok, Err, IfOk, Some, None, sym, rules}
+use Rattle.std.proofs.Common.{◌≡◌, ◌∙◌, [], Ok, Err, IfOk, Some, None, sym, rules}
 use Rattle.desk_core.specs.Desk.{DeskValue}
 use Rattle.desk_core.specs.Stands.{Stands}
 use Rattle.batch_report.specs.declared.job_lines.JobEnd.{JobEnd}
@@ -9,6 +9,7 @@ use Rattle.esdk_batch.specs.Failures.{PieceCounts}
 use Rattle.esdk_batch.specs.FileEnd.{file_fails, file_takes}
 use Rattle.esdk_batch.proofs.Ends.{session_broken, session_put, session_same, session_whole}
 use Rattle.esdk_batch.proofs.Faulting.{ended_soundly, errors_counted}
+use Rattle.esdk_batch.proofs.Keeping.{keeps_handed}
 use Rattle.esdk_batch.proofs.Writing.{along, writes_file}
 use Rattle.esdk_batch.proofs.feeding.end_session.Goals as goal
 
@@ -49,3 +50,13 @@ returns-in-Err-clause-counts g c = λ keyring there.
     (errors_counted c.in-Err.error c.end_by.result c.args.to.now _ _ _ _ keyring c.end_by.ensures put there
     (ended_soundly (file_takes g.F.Shelf.state) (file_fails g.F.Shelf.state) _ after (v.live c.args.session) s c.in-Err.error live finishes))
     (search (rules, same))
+
+-- ---- the other sessions
+
+pub returns-in-Ok-clause-sessions : goal.returns-in-Ok-clause-sessions
+returns-in-Ok-clause-sessions g c = λ last beyond.
+    keeps_handed last c.args.session c.args.desk.now c.end_into.new.self (c.requires.0, c.requires.1) (λ v stands. ([], (None, c.in-Ok.ensures.stands v stands))) beyond
+
+pub returns-in-Err-clause-sessions : goal.returns-in-Err-clause-sessions
+returns-in-Err-clause-sessions g c = λ last beyond.
+    keeps_handed last c.args.session c.args.desk.now c.end_into.new.self (c.requires.0, c.requires.1) (λ v stands. ([], (None, c.in-Err.ensures.stands v stands))) beyond

@@ -1,13 +1,14 @@
 -- What the session hands over is put behind the file, and where an error ends it the job ends so.
 use Rattle.std.proofs.Common.{◌≡◌, ◌∙◌, Ok, Err, Some, None, sym, rules}
 use Rattle.keyring_trait.specs.Saying.{said_between}
-use Rattle.desk_core.specs.Desk.{DeskValue}
+use Rattle.desk_core.specs.Desk.{DeskValue, open_lines}
 use Rattle.desk_core.specs.Stands.{Stands, manager_of}
 use Rattle.esdk_batch.specs.Ending.{FeedsPiece}
 use Rattle.esdk_batch.specs.Failures.{PieceCounts}
 use Rattle.esdk_batch.specs.FileEnd.{file_fails, file_takes}
 use Rattle.esdk_batch.proofs.Faulting.{error_counted, feed_rose}
 use Rattle.esdk_batch.proofs.FedPieces.{piece_ended, piece_put, piece_same, piece_whole}
+use Rattle.esdk_batch.proofs.Keeping.{keeps_handed}
 use Rattle.esdk_batch.proofs.Managers.{admits_last}
 use Rattle.esdk_batch.proofs.Writing.{along, writes_file}
 use Rattle.esdk_batch.proofs.feeding.feed_piece.Goals as goal
@@ -65,3 +66,20 @@ returns-in_ok-end_by-in-Err-clause-counts g c = λ there.
     c.in-Err.ensures.went.goes.later
     (feed_rose g.M.Manager.state (file_takes g.F.Shelf.state) (file_fails g.F.Shelf.state) v c.args.session c.args.now s c.args.piece.now c.args.desk.now c.feed_into.new.self _ after c.in-Err.error live fed))
     (search (rules, same))
+
+-- ---- the other sessions
+
+pub returns-in-Ok-clause-sessions : goal.returns-in-Ok-clause-sessions
+returns-in-Ok-clause-sessions g c = λ last beyond.
+    keeps_handed last c.args.session c.args.desk.now c.feed_into.new.self (c.requires.0, c.requires.1)
+    (λ v stands. let fed = c.in-Ok.ensures.feeds v stands in (open_lines c.args.session c.args.now fed.heard, (fed.left, fed.stands))) beyond
+
+pub returns-in_ok-end_by-in-Err-clause-sessions : goal.returns-in_ok-end_by-in-Err-clause-sessions
+returns-in_ok-end_by-in-Err-clause-sessions g c = λ last beyond.
+    keeps_handed last c.args.session c.args.desk.now c.feed_into.new.self (c.requires.0, c.requires.1)
+    (λ v stands. let fed = c.in-Err.ensures.feeds v stands in (open_lines c.args.session c.args.now fed.heard, (fed.left, fed.stands))) beyond
+
+pub returns-in_err-end_by-in-Err-clause-sessions : goal.returns-in_err-end_by-in-Err-clause-sessions
+returns-in_err-end_by-in-Err-clause-sessions g c = λ last beyond.
+    keeps_handed last c.args.session c.args.desk.now c.feed_into.new.self (c.requires.0, c.requires.1)
+    (λ v stands. let fed = c.in-Err.ensures.feeds v stands in (open_lines c.args.session c.args.now fed.heard, (fed.left, fed.stands))) beyond

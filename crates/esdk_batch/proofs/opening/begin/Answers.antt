@@ -6,6 +6,7 @@ use Rattle.desk_core.specs.Desk.{DropSession, after_call}
 use Rattle.batch_report.specs.declared.job_lines.JobEnd.TheVariants as ends
 use Rattle.esdk_batch.proofs.Counting.{rose_none}
 use Rattle.esdk_batch.proofs.FirstTurns.{file_begun, file_failed}
+use Rattle.esdk_batch.proofs.Keeping.{keeps_dropped, keeps_same}
 use Rattle.esdk_batch.proofs.TurnCounting.{ended_counts, live_counts}
 use Rattle.esdk_batch.proofs.opening.begin.Goals as goal
 
@@ -29,3 +30,12 @@ pub returns-in-Err-clause-counts : goal.returns-in-Err-clause-counts
 returns-in-Err-clause-counts g c = λ job entropy keyring to.
     ended_counts job c.ended_job.result _ _ (record { kind = c.args.kind; end = ends.Outside outsides.ShelfFault; served = c.args.served }) c.ended_job.ensures
     (rose_none entropy entropy (omega arith)) (rose_none keyring keyring (omega arith)) c.in-Err.ensures.cause
+
+-- ---- the other sessions
+
+pub returns-in-Ok-clause-sessions : goal.returns-in-Ok-clause-sessions
+returns-in-Ok-clause-sessions g c = λ last beyond. keeps_same last 0 c.args.desk.now
+
+pub returns-in-Err-clause-sessions : goal.returns-in-Err-clause-sessions
+returns-in-Err-clause-sessions g c = λ last beyond.
+    keeps_dropped last c.args.session c.args.desk.now c.drop_session-dropped.new.self (c.requires.0, c.requires.1) c.drop_session-dropped.ensures.stands beyond

@@ -7,6 +7,7 @@ use Rattle.esdk_batch.proofs.Counting.{rose_zero}
 use Rattle.esdk_batch.proofs.Faulting.{open_soundly, sound_end}
 use Rattle.esdk_batch.proofs.FirstLines.{number_drawn, open_begun_adds}
 use Rattle.esdk_batch.proofs.FirstTurns.{draws_next, draws_on}
+use Rattle.esdk_batch.proofs.Keeping.{keeps_drawn, keeps_on, keeps_same}
 use Rattle.esdk_batch.proofs.OpenBegins.{has_begun, open_begins_at, opening_live, opening_of}
 use Rattle.esdk_batch.proofs.Openings.{live_after, open_error_lives, open_lives}
 use Rattle.esdk_batch.proofs.TurnCounting.{ended_counts}
@@ -69,3 +70,34 @@ returns-in_ok-end_of-in-Err-clause-counts g c = λ job entropy keyring to.
     let sound = sound_end c.in-Err.error (Ok end) c.in_ok-end_of-in-Err.ensures (open_soundly _ _ opens.short _ c.in-Err.error opens.answer) in
     ended_counts job c.ended_job.result _ _ (record { kind = Unseal; end = end; served = None }) c.ended_job.ensures
     (rose_zero _ entropy entropy sound.entropy (omega arith)) (rose_zero _ keyring keyring sound.keyring (omega arith)) (rose_zero _ _ _ sound.shelf (omega arith))
+
+-- ---- the other sessions
+
+pub returns-in_err-copy-clause-sessions : goal.returns-in_err-copy-clause-sessions
+returns-in_err-copy-clause-sessions g c = λ last under. keeps_same last 1 c.args.desk.now
+
+pub returns-in-Ok-clause-sessions : goal.returns-in-Ok-clause-sessions
+returns-in-Ok-clause-sessions g c = λ last under.
+    let v : DeskValue = c.requires.worth.0 in
+    let opens = c.in-Ok.ensures.opens v c.requires.worth.1 in
+    let lives = open_lives c.none.result c.in_ok-copy.field-0 opens.short (v.last + 1) c.in-Ok.session opens.answer in
+    keeps_on last 1 0 1 c.args.desk.now c.open_open.new.self c.begin.new.desk
+    (keeps_drawn last c.args.desk.now c.open_open.new.self c.requires.worth under (λ v stands.
+    let o = c.in-Ok.ensures.opens v stands in
+    let turn : Turn ℕ = open_opened c.none.result c.in_ok-copy.field-0 o.short (v.last + 1) in
+    (after_turn (drawn v) (v.last + 1) [] turn, o.stands, ([], draws_next v [] turn))))
+    (c.begin.ensures.sessions last (omega (arith, lives.same, under, c.requires.worth.1.last))) (omega (arith, c.in-Ok.ensures.last))
+
+pub returns-in_ok-end_of-in-Err-clause-sessions : goal.returns-in_ok-end_of-in-Err-clause-sessions
+returns-in_ok-end_of-in-Err-clause-sessions g c = λ last under.
+    keeps_drawn last c.args.desk.now c.open_open.new.self c.requires.worth under (λ v stands.
+    let o = c.in-Err.ensures.opens v stands in
+    let turn : Turn ℕ = open_opened c.none.result c.in_ok-copy.field-0 o.short (v.last + 1) in
+    (after_turn (drawn v) (v.last + 1) [] turn, o.stands, ([], draws_next v [] turn)))
+
+pub returns-in_err-end_of-in-Err-clause-sessions : goal.returns-in_err-end_of-in-Err-clause-sessions
+returns-in_err-end_of-in-Err-clause-sessions g c = λ last under.
+    keeps_drawn last c.args.desk.now c.open_open.new.self c.requires.worth under (λ v stands.
+    let o = c.in-Err.ensures.opens v stands in
+    let turn : Turn ℕ = open_opened c.none.result c.in_ok-copy.field-0 o.short (v.last + 1) in
+    (after_turn (drawn v) (v.last + 1) [] turn, o.stands, ([], draws_next v [] turn)))

@@ -5,7 +5,7 @@ use Rattle.esdk_fields.specs.declared.refusals.Outside.TheVariants as outsides
 use Rattle.keyring_trait.specs.declared.journal.JournalLine.{JournalLine}
 use Rattle.keyring_trait.specs.declared.journal.Kind.TheVariants.{Seal}
 use Rattle.desk_core.specs.Session.{Sealing, Turn, seal_opened}
-use Rattle.desk_core.specs.Desk.{DeskValue, after_turn, drawn, lines_of, served_by}
+use Rattle.desk_core.specs.Desk.{DeskValue, after_turn, drawn, lines_of, seal_lines, served_by}
 use Rattle.desk_core.specs.Stands.{manager_of}
 use Rattle.batch_report.specs.declared.job_lines.JobEnd.TheVariants as ends
 use Rattle.keyring_trait.specs.Saying.{Saying}
@@ -14,6 +14,7 @@ use Rattle.esdk_batch.proofs.Counting.{rose_none, rose_zero}
 use Rattle.esdk_batch.proofs.Faulting.{entropy_sound, keyring_counted, seal_rose, shelf_sound}
 use Rattle.esdk_batch.proofs.FirstLines.{number_drawn, seal_begun_adds, seal_ended_adds}
 use Rattle.esdk_batch.proofs.FirstTurns.{draws_next, draws_on}
+use Rattle.esdk_batch.proofs.Keeping.{keeps_drawn, keeps_on, keeps_same}
 use Rattle.esdk_batch.proofs.Managers.{said, says_same}
 use Rattle.esdk_batch.proofs.Moments.{gains_none, gains_same, sealed_gains}
 use Rattle.esdk_batch.proofs.SealBegins.{draws_nothing, is_begun, opens_none, seal_begins_at, sealing_of}
@@ -174,3 +175,37 @@ returns-in_ok-end_of-in-Err-clause-counts g c = λ job to.
     ended_counts job c.ended_job-in-Err.result _ _ (record { kind = Seal; end = end; served = c.served_since-served.result }) c.ended_job-in-Err.ensures
     (rose_zero _ _ _ (entropy_sound c.in-Err.error end named) c.fill.ensures.cause.later)
     (keyring_counted c.in-Err.error end _ _ named opened.went.goes.later rose) (rose_zero _ _ _ (shelf_sound c.in-Err.error end named) (omega arith))
+
+-- ---- the other sessions
+
+pub returns-in_default-clause-sessions : goal.returns-in_default-clause-sessions
+returns-in_default-clause-sessions g c = λ last under. keeps_same last 1 c.args.desk.now
+
+pub returns-in-Ok-opened-clause-sessions : goal.returns-in-Ok-opened-clause-sessions
+returns-in-Ok-opened-clause-sessions g c = λ last under.
+    let v : DeskValue = c.requires.worth.0 in
+    let opens = c.in-Ok-opened.ensures.opens v c.requires.worth.1 in
+    let lives = seal_lives c.args.request.now c.fill.new.out opens.reply opens.short (v.last + 1) c.in-Ok-opened.session opens.answer in
+    keeps_on last 1 0 1 c.args.desk.now c.open_seal-opened.new.self c.begin.new.desk
+    (keeps_drawn last c.args.desk.now c.open_seal-opened.new.self c.requires.worth under (λ v stands.
+    let o = c.in-Ok-opened.ensures.opens v stands in
+    let lines : List JournalLine = seal_lines (v.last + 1) c.args.now c.args.request.now o.reply in
+    let turn : Turn ℕ = seal_opened c.args.request.now c.fill.new.out o.reply o.short (v.last + 1) in
+    (after_turn (drawn v) (v.last + 1) lines turn, o.stands, (lines, draws_next v lines turn))))
+    (c.begin.ensures.sessions last (omega (arith, lives.same, under, c.requires.worth.1.last))) (omega (arith, c.in-Ok-opened.ensures.last))
+
+pub returns-in_ok-end_of-in-Err-clause-sessions : goal.returns-in_ok-end_of-in-Err-clause-sessions
+returns-in_ok-end_of-in-Err-clause-sessions g c = λ last under.
+    keeps_drawn last c.args.desk.now c.open_seal-opened.new.self c.requires.worth under (λ v stands.
+    let o = c.in-Err.ensures.opens v stands in
+    let lines : List JournalLine = seal_lines (v.last + 1) c.args.now c.args.request.now o.reply in
+    let turn : Turn ℕ = seal_opened c.args.request.now c.fill.new.out o.reply o.short (v.last + 1) in
+    (after_turn (drawn v) (v.last + 1) lines turn, o.stands, (lines, draws_next v lines turn)))
+
+pub returns-in_err-end_of-in-Err-clause-sessions : goal.returns-in_err-end_of-in-Err-clause-sessions
+returns-in_err-end_of-in-Err-clause-sessions g c = λ last under.
+    keeps_drawn last c.args.desk.now c.open_seal-opened.new.self c.requires.worth under (λ v stands.
+    let o = c.in-Err.ensures.opens v stands in
+    let lines : List JournalLine = seal_lines (v.last + 1) c.args.now c.args.request.now o.reply in
+    let turn : Turn ℕ = seal_opened c.args.request.now c.fill.new.out o.reply o.short (v.last + 1) in
+    (after_turn (drawn v) (v.last + 1) lines turn, o.stands, (lines, draws_next v lines turn)))

@@ -1,8 +1,10 @@
 -- The job at the index has a turn, or it ended before.
-use Rattle.std.proofs.Common.{◌<◌, length, get_or, sym, ap, ◌∙◌, inr, arith}
+use Rattle.std.proofs.Common.{◌<◌, ◌≤◌, length, get_or, sym, ap, ◌∙◌, inl, inr, arith}
 use Rattle.std.proofs.lemmas.List.{get_or_default}
+use Rattle.desk_core.specs.Stands.{last_of}
 use Rattle.esdk_batch.specs.Progress.{is_ended}
 use Rattle.esdk_batch.proofs.AllCounting.{counted_after, has_file_at}
+use Rattle.esdk_batch.proofs.Keeping.{beyond_set, keeps_turn}
 use Rattle.esdk_batch.proofs.Moments.{reads_turn}
 use Rattle.esdk_batch.proofs.Standing.{others_after}
 use Rattle.esdk_batch.proofs.Windows.{round_begun, round_skips, round_turns}
@@ -14,6 +16,7 @@ loop-at-preserved-then-is_ended g c = record {
       c.loop-at.invariant.on (omega (arith, c.loop-at-test.true)) c.requires.first c.index-progress-at.result c.index-progress-at.is (ap is_ended c.index-progress-at.is ∙ sym c.is_ended.ensures ∙ c.if-is_ended.true);
   counts = c.loop-at.invariant.counts;
   moments = c.loop-at.invariant.moments;
+  sessions = c.loop-at.invariant.sessions;
 }
 
 pub loop-at-preserved : goal.loop-at-preserved
@@ -38,7 +41,18 @@ loop-at-preserved g c =
           counted_after c.args.jobs.now progress at c.index-jobs-at.result one c.take_turn.new.progress began _ _ within each c.index-jobs-at.is was runs c.requires.apart
           turn.kept (turn.counts runs has) all;
       moments = reads_turn _ _ _ _ _ _ c.loop-at.invariant.moments (turn.moment runs);
+      sessions = λ last under beyond.
+          let all = c.loop-at.invariant.sessions last under beyond in
+          let early : last ≤ last_of c.loop-at.desk = omega (arith, under, all.0.later) in (
+            keeps_turn last c.args.desk.now c.loop-at.desk c.take_turn.new.desk c.args.progress.now progress at one within was c.loop-at.invariant.on.room all.0
+                (turn.sessions last early (all.1 at c.index-progress-at-in-loop-at.result within)),
+            beyond_set last _ _ progress at one c.take_turn.new.progress within was early turn.numbers all.1,
+          );
     }
+
+pub returns-then-turns-width-clause-opened : goal.returns-then-turns-width-clause-opened
+returns-then-turns-width-clause-opened g c =
+    round_begun c.args.width c.args.first c.loop-at.at c.loop-at.turns c.loop-at.progress c.loop-at.invariant.on.begun (inl (omega (arith, c.if-turns-width.true, c.loop-at.invariant.on.slow)))
 
 pub returns-clause-opened : goal.returns-clause-opened
 returns-clause-opened g c =
@@ -55,3 +69,28 @@ returns-in_err-take_turn-clause-moments g c =
     let within : c.loop-at.at < length progress = omega (arith, c.loop-at-test.true, c.loop-at.invariant.on.each) in
     let runs = ap is_ended (get_or_default progress c.loop-at.at c.index-progress-at-in-loop-at.result c.index-progress-at.result within) ∙ sym c.is_ended.ensures ∙ c.if-is_ended.false in
     reads_turn _ _ _ _ _ _ c.loop-at.invariant.moments (c.in_err-take_turn.ensures.moment runs)
+
+-- ---- the other sessions
+
+pub returns-then-turns-width-clause-sessions : goal.returns-then-turns-width-clause-sessions
+returns-then-turns-width-clause-sessions g c = λ last under beyond. (c.loop-at.invariant.sessions last under beyond).0
+
+pub returns-then-turns-width-clause-beyond : goal.returns-then-turns-width-clause-beyond
+returns-then-turns-width-clause-beyond g c = λ last under beyond. (c.loop-at.invariant.sessions last under beyond).1
+
+pub returns-clause-sessions : goal.returns-clause-sessions
+returns-clause-sessions g c = λ last under beyond. (c.loop-at.invariant.sessions last under beyond).0
+
+pub returns-clause-beyond : goal.returns-clause-beyond
+returns-clause-beyond g c = λ last under beyond. (c.loop-at.invariant.sessions last under beyond).1
+
+pub returns-in_err-take_turn-clause-sessions : goal.returns-in_err-take_turn-clause-sessions
+returns-in_err-take_turn-clause-sessions g c = λ last under beyond.
+    let progress = c.loop-at.progress in
+    let at = c.loop-at.at in
+    let one = get_or progress at c.index-progress-at-in-loop-at.result in
+    let within : at < length progress = omega (arith, c.loop-at-test.true, c.loop-at.invariant.on.each) in
+    let was = get_or_default progress at c.index-progress-at-in-loop-at.result one within in
+    let all = c.loop-at.invariant.sessions last under beyond in
+    keeps_turn last c.args.desk.now c.loop-at.desk c.take_turn.new.desk c.args.progress.now progress at one within was c.loop-at.invariant.on.room all.0
+    (c.in_err-take_turn.ensures.sessions last (omega (arith, under, all.0.later)) (all.1 at c.index-progress-at-in-loop-at.result within))

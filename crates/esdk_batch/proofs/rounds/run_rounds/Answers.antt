@@ -1,5 +1,8 @@
 -- One round more.
-use Rattle.std.proofs.Common.{arith}
+use Rattle.std.proofs.Common.{◌≤◌, arith}
+use Rattle.desk_core.specs.Stands.{last_of}
+use Rattle.esdk_batch.specs.Rounds.{all_waits}
+use Rattle.esdk_batch.proofs.Keeping.{keeps_on}
 use Rattle.esdk_batch.proofs.Moments.{reads_more}
 use Rattle.esdk_batch.proofs.Windows.{rounds_more}
 use Rattle.esdk_batch.proofs.rounds.run_rounds.Goals as goal
@@ -16,7 +19,23 @@ loop-first-preserved g c =
       counts = λ began first. round.counts began (c.loop-first.invariant.counts began first);
       moments = reads_more _ _ _ _ _ _ c.loop-first.invariant.moments round.moments;
       past = round.past;
+      sessions = λ last under beyond.
+          let all = c.loop-first.invariant.sessions last under beyond in
+          let early : last ≤ last_of c.loop-first.desk = omega (arith, under, all.0.later) in (
+            keeps_on last (all_waits c.args.progress.now) (all_waits c.loop-first.progress) (all_waits c.args.progress.now) c.args.desk.now c.loop-first.desk c.run_round.new.desk all.0
+                (round.sessions last early all.1) c.loop-first.invariant.on.room,
+            round.beyond last early all.1,
+          );
     }
 
 pub returns-in_err-run_round-clause-moments : goal.returns-in_err-run_round-clause-moments
 returns-in_err-run_round-clause-moments g c = reads_more _ _ _ _ _ _ c.loop-first.invariant.moments c.in_err-run_round.ensures.moments
+
+pub returns-in_err-run_round-clause-sessions : goal.returns-in_err-run_round-clause-sessions
+returns-in_err-run_round-clause-sessions g c = λ last under beyond.
+    let all = c.loop-first.invariant.sessions last under beyond in
+    keeps_on last (all_waits c.args.progress.now) (all_waits c.loop-first.progress) (all_waits c.args.progress.now) c.args.desk.now c.loop-first.desk c.run_round.new.desk all.0
+    (c.in_err-run_round.ensures.sessions last (omega (arith, under, all.0.later)) all.1) c.loop-first.invariant.on.room
+
+pub returns-clause-sessions : goal.returns-clause-sessions
+returns-clause-sessions g c = λ last under beyond. (c.loop-first.invariant.sessions last under beyond).0

@@ -5,6 +5,7 @@ use Rattle.desk_core.specs.Stands.{manager_of, journal_of}
 use Rattle.esdk_batch.proofs.FedTurns.{broken_so, fed_as, fed_so, reported_is}
 use Rattle.esdk_batch.proofs.FurtherLines.{broken_lines_so, draws_none, fed_lines, known, no_lines_so}
 use Rattle.esdk_batch.proofs.FurtherTurns.{finished_so, unread_so}
+use Rattle.esdk_batch.proofs.Keeping.{keeps_dropped}
 use Rattle.esdk_batch.proofs.Managers.{admits_between}
 use Rattle.esdk_batch.proofs.Moments.{gains_none}
 use Rattle.esdk_batch.proofs.TurnCounting.{counts_from, piece_as, piece_ended, piece_goes, there_mid, unread_counts}
@@ -143,3 +144,9 @@ returns-in-None-clause-counts g c = λ entropy has.
     piece_goes c.args.job.now _ c.as_str-to.result.now (g.F.Shelf.state c.args.shelf.now) (g.F.Shelf.state c.read_piece.new.shelf) (g.F.Shelf.state c.feed_piece.new.shelf) entropy _ _ c.in-Ok.ensures.reads.1
     (record { session = c.args.live.session; at = c.args.live.at + c.in-Ok.count; served = c.either-served.result }) refl c.as_str-to.ensures.text
     (piece_as c.as_str-to.result.now _ _ (g.F.Shelf.state c.read_piece.new.shelf) (g.F.Shelf.state c.feed_piece.new.shelf) _ _ c.in-None.is (c.in_ok-end-2.ensures.counts there))
+
+-- ---- the other sessions
+
+pub returns-in-Err-clause-sessions : goal.returns-in-Err-clause-sessions
+returns-in-Err-clause-sessions g c = λ last beyond.
+    keeps_dropped last c.args.live.session c.args.desk.now c.drop_session-dropped.new.self (c.requires.ready.0, c.requires.ready.1) c.drop_session-dropped.ensures.stands beyond

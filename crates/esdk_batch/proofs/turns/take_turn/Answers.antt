@@ -4,9 +4,11 @@ use Rattle.esdk_batch.specs.declared.progress.Progress.{Progress}
 use Rattle.esdk_batch.specs.declared.progress.Progress.TheVariants as stages
 use Rattle.esdk_batch.specs.Failures.{HasFile}
 use Rattle.esdk_batch.specs.Progress.{is_ended, turns_left}
-use Rattle.esdk_batch.specs.Turns.{Knows}
+use Rattle.esdk_batch.specs.Turns.{Knows, waits}
+use Rattle.esdk_batch.specs.Keeping.{IsBeyond}
 use Rattle.esdk_batch.specs.Underway.{HasSession}
 use Rattle.esdk_batch.proofs.Unplaced.{counts_placed, kept_placed, kind_placed, lines_placed, number_placed, turn_placed, turns_first, turns_placed}
+use Rattle.esdk_batch.proofs.Keeping.{keeps_as, keeps_same}
 use Rattle.esdk_batch.proofs.TakenTurns.{further_taken, lines_as, none_taken, turn_as}
 use Rattle.esdk_batch.proofs.turns.take_turn.Goals as goal
 
@@ -109,3 +111,26 @@ returns-in-Ended-clause-moment g c = λ runs. let no : true ≡ false = ap is_en
 
 pub returns-in-Ended-clause-counts : goal.returns-in-Ended-clause-counts
 returns-in-Ended-clause-counts g c = λ runs has. let no : true ≡ false = ap is_ended (sym c.in-Ended.is) ∙ runs in absurd cc
+
+-- ---- the other sessions
+
+pub returns-in_ok-next-in-Waiting-clause-sessions : goal.returns-in_ok-next-in-Waiting-clause-sessions
+returns-in_ok-next-in-Waiting-clause-sessions g c = λ last under beyond.
+    keeps_as last c.args.progress.now stages.Waiting c.args.desk.now c.open_job.new.desk c.in-Waiting.is (c.in_ok-next-in-Waiting.ensures.sessions last under)
+
+pub returns-in_err-next-in-Waiting-clause-sessions : goal.returns-in_err-next-in-Waiting-clause-sessions
+returns-in_err-next-in-Waiting-clause-sessions g c = λ last under beyond.
+    keeps_as last c.args.progress.now stages.Waiting c.args.desk.now c.open_job.new.desk c.in-Waiting.is (c.in_err-next-in-Waiting.ensures.sessions last under)
+
+pub returns-in_ok-next-in-Live-clause-sessions : goal.returns-in_ok-next-in-Live-clause-sessions
+returns-in_ok-next-in-Live-clause-sessions g c = λ last under beyond.
+    keeps_as last c.args.progress.now (stages.Live c.in-Live.live) c.args.desk.now c.go_on.new.desk c.in-Live.is
+    (c.in_ok-next-in-Live.ensures.sessions last (subst (IsBeyond last) c.in-Live.is beyond))
+
+pub returns-in_err-next-in-Live-clause-sessions : goal.returns-in_err-next-in-Live-clause-sessions
+returns-in_err-next-in-Live-clause-sessions g c = λ last under beyond.
+    keeps_as last c.args.progress.now (stages.Live c.in-Live.live) c.args.desk.now c.go_on.new.desk c.in-Live.is
+    (c.in_err-next-in-Live.ensures.sessions last (subst (IsBeyond last) c.in-Live.is beyond))
+
+pub returns-in-Ended-clause-sessions : goal.returns-in-Ended-clause-sessions
+returns-in-Ended-clause-sessions g c = λ last under beyond. keeps_same last (waits c.args.progress.now) c.args.desk.now
