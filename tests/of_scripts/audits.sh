@@ -19,6 +19,11 @@ audits() {
     want "an audit says no more" [ ! -s report ]
     run_in audited "$share/esdk-audit" ../key .
     want "an audit of this folder" holds output 'leaf 1: needed for 2 of 2 messages'
+    ln -s audited same-audited
+    run "$share/esdk-audit" key same-audited
+    want "an audit of a link to a folder" holds output 'leaf 1: needed for 2 of 2 messages'
+    run sh -c '"$1" key audited >/dev/full' sh "$share/esdk-audit"
+    ended "an audit whose lines can't be written" 4
     echo text >audited/plain
     ln -s one.esdk audited/link.esdk
     run "$share/esdk-audit" key audited
@@ -73,6 +78,8 @@ refused_audits() {
     mkdir no-messages
     run "$share/esdk-audit" key no-messages
     ended "an audit of nothing" 1
+    run "$share/esdk-audit" key ''
+    ended "an audit of a folder without a name" 2
     run "$share/esdk-audit" key missing
     ended "an audit of no folder" 4
     run "$share/esdk-audit" missing audited

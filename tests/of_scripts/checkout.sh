@@ -34,6 +34,44 @@ answers() {
     ended "a command" 0
 }
 
+# A command `rt` that builds the program, notes that it did, and changes a source while it does so for the first time.
+make_builder() {
+    mkdir with-builder
+    cat >with-builder/rt <<END
+#!/bin/sh
+case \$1 in
+    all)
+        echo built >>"$work/builds"
+        if [ "\$(wc -l <"$work/builds")" -eq 1 ]; then sleep 0.1; touch "$work/checkout/crates/esdk_tool/main.rt"; fi
+        ;;
+    run)
+        printf '#!/bin/sh\nexec "%s" "\$@"\n' "$ESDK" >"$work/checkout/crates/esdk_tool/out/esdk_tool"
+        echo 'esdk: words NotRead'
+        exit 2
+        ;;
+esac
+END
+    chmod +x with-builder/rt
+}
+
+builds() {
+    make_builder
+    touch checkout/crates/esdk_tool/main.rt
+    for time in first second third; do
+        run env PATH="$work/with-builder:$PATH" checkout/esdk build
+        ended "the $time build" 0
+    done
+    want "a source that changed during a build is built, and then nothing is" [ "$(wc -l <builds)" -eq 2 ]
+    touch -d '2019-01-01' checkout/crates/esdk_tool/main.rt
+    run env PATH="$work/with-builder:$PATH" checkout/esdk build
+    want "a source that an older one replaced is built" [ "$(wc -l <builds)" -eq 3 ]
+    rm checkout/crates/esdk_tool/main.rt
+    run env PATH="$work/with-builder:$PATH" checkout/esdk build
+    want "a source that is gone is seen" [ "$(wc -l <builds)" -eq 4 ]
+    run checkout/esdk encrypt --keyring=key <plain
+    ended "a command of the program that was built" 0
+}
+
 # A command `rt` that copies its input, notes its words, and prints what `rt try` prints behind a program's own line: trial REPORT WORD..
 trial() {
     printf '%b' "$1" >rt.report

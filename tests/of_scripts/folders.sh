@@ -39,6 +39,16 @@ there_and_back() {
     printf 'another' >from/one
     run "$share/esdk-tree" encrypt key from store
     want "a changed file is done again" holds output '1 done, 12 kept as they were, 0 not done'
+    printf 'older' >from/one
+    touch -d '2010-01-01' from/one
+    run "$share/esdk-tree" encrypt key from store
+    want "a file that an older one replaced is done again" holds output '1 done, 12 kept as they were, 0 not done'
+    run "$ESDK" decrypt --keyring=key file=one <store/one.esdk
+    want "and its message is of the older one" holds output older
+    run "$share/esdk-tree" encrypt key from store
+    want "and then no more" holds output '0 done, 13 kept as they were, 0 not done'
+    run "$share/esdk-tree" decrypt key store back
+    want "a restored file that is newer than its message stays" holds output '0 done, 13 kept as they were, 0 not done'
 }
 
 # Some messages are cut, exchanged, altered or none.
@@ -79,6 +89,12 @@ refused_folders() {
     ended "FROM and TO are one, by a link" 2
     run "$share/esdk-tree" encrypt key missing new
     ended "no FROM" 4
+    run timeout 10 "$share/esdk-tree" encrypt key / new
+    ended "TO in FROM, which is all of the machine" 2
+    run "$share/esdk-tree" encrypt key '' new
+    ended "FROM without a name" 2
+    run "$share/esdk-tree" decrypt key store ''
+    ended "TO without a name" 2
     run "$share/esdk-tree" encrypt missing from new
     ended "no keyring file" 4
     want "no keyring file: one line" holds report 'esdk: X3 ShelfFault'
@@ -113,7 +129,17 @@ END
 case \$* in *odd*) sleep 0.1; echo more >>some/odd ;; esac
 exec "$ESDK" "\$@"
 END
-    chmod +x failing hanging changing
+    cat >growing <<END
+#!/bin/sh
+case \$* in *odd*) time=\$(stat -c %y some/odd); echo more >>some/odd; touch -d "\$time" some/odd ;; esac
+exec "$ESDK" "\$@"
+END
+    cat >replacing <<END
+#!/bin/sh
+case \$* in *odd*) "$ESDK" encrypt --keyring=key file=odd <some/a >new.odd; touch -d 2001-01-01 new.odd; mv new.odd out/odd.esdk ;; esac
+exec "$ESDK" "\$@"
+END
+    chmod +x failing hanging changing growing replacing
     mkdir some
     for name in a b odd z; do echo "$name" >"some/$name"; done
 }
@@ -144,7 +170,48 @@ failing_runs() {
     ended "a file that changes" 1
     run "$share/esdk-tree" encrypt key some out
     want "a file that changed is done by the next run" holds output '1 done, 3 kept as they were, 0 not done'
+    touch -d 2021-01-01 some/odd
+    run env ESDK="$work/growing" "$share/esdk-tree" encrypt key some out
+    want "a file that grows under one time is named" holds report 'esdk-tree: not done: odd: it changed while it was read: run this again'
+    run "$share/esdk-tree" encrypt key some out
+    want "a file that grew is done by the next run" holds output '1 done, 3 kept as they were, 0 not done'
+    run env ESDK="$work/replacing" "$share/esdk-tree" decrypt key out again
+    want "a message that an older one replaces is named" holds report 'esdk-tree: not done: odd.esdk: it changed while it was read: run this again'
+    run "$share/esdk-tree" decrypt key out again
+    want "and is done by the next run" holds output '1 done, 3 kept as they were, 0 not done'
+    want "with the text of the one that is there" cmp again/odd some/a
+    rm -r out again
+}
+
+# A file whose times are whole seconds, and which changes all the time: a change more may leave it with the same time.
+young_files() {
+    while :; do
+        touch -d "@$(date +%s)" some/odd
+        sleep 0.2
+    done &
+    toucher=$!
+    run "$share/esdk-tree" encrypt key some out
+    kill "$toucher"
+    wait "$toucher" 2>/dev/null || true
+    want "a message of a file that changes all the time hasn't its time" \
+        [ "$(($(stat -c %Y some/odd) - $(stat -c %Y out/odd.esdk)))" -ge 2 ]
+    sleep 3
+    run "$share/esdk-tree" encrypt key some out
+    want "and is done again by the next run" holds output '1 done, 3 kept as they were, 0 not done'
+    want "which gives it the file's time" [ "$(stat -c %y some/odd)" = "$(stat -c %y out/odd.esdk)" ]
     rm -r out
+}
+
+# Over a file system that takes upper and lower case for one, which is played here: names that differ in that alone are refused.
+names_of_one_case() {
+    sed 's/^    folds=$/    folds=yes/' "$share/esdk-tree" >folding
+    run env ESDK="$ESDK" sh folding encrypt key some out
+    ended "other names over a file system without case" 0
+    echo text >some/Odd
+    run env ESDK="$ESDK" sh folding encrypt key some out
+    ended "names that differ in case alone" 4
+    want "they are named" grep -q 'these names differ in that alone: ./odd' report
+    rm -r out some/Odd folding
 }
 
 stopped_runs() {
@@ -157,6 +224,12 @@ stopped_runs() {
         want "$signal in the middle of a folder leaves nothing" nothing_left out
         want "$signal in the middle of a folder leaves no half" [ ! -e out/odd.esdk ]
     done
+    rm -f going
+    begin setsid env ESDK="$work/hanging" "$share/esdk-tree" encrypt key some out
+    want "a folder that goes on in a terminal of its own" await [ -e going ]
+    kill -s HUP -- "-$begun"
+    wait "$begun" 2>/dev/null || true
+    want "a terminal that is closed leaves nothing" await nothing_left out
     run "$share/esdk-tree" encrypt key some out
     ended "a run after these" 0
     run "$share/esdk-tree" verify key out

@@ -26,8 +26,16 @@ outputs() {
     ended "an output that doesn't fit" 153
     run "$share/esdk-into" made bash -o pipefail -c '(echo half; exit 3) | cat'
     ended "a pipe that fails on its left" 3
+    run sh -c 'trap "" INT; exec "$1" made say hello' sh "$share/esdk-into"
+    ended "a word of the script itself is no command" 127
     want "after all of these the file is as before" holds made TEXT
     want "after all of these nothing is left" nothing_left .
+    printf '#!/bin/sh\necho "$*"\n' >run=daily
+    chmod +x run=daily
+    run "$share/esdk-into" daily ./run=daily a b=c
+    want "a command whose name has =" holds daily 'a b=c'
+    run env -u LC_ALL "$share/esdk-into" locale sh -c 'echo "${LC_ALL-none}"'
+    want "a command has the caller's locale" holds locale none
     for file in '-x' 'two words' "$(printf 'line\nfeed')" "$(printf 'byte\377')" "$(head -c 250 /dev/zero | tr '\0' l)"; do
         run "$share/esdk-into" "$file" echo "$file"
         want "a name as $file" holds "./$file" "$file"
