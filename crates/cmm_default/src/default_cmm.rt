@@ -52,8 +52,8 @@ impl<K: Keyring> Manager for DefaultCmm<K> {
         self.ring.refuses(false)
     }
 
-    /// The data key is the first 32 random bytes, and the entries are the keyring's wraps of it
-    /// over the whole context.
+    /// The data key is the first 32 random bytes; the entries are the keyring's, and where it tells
+    /// its keys, its wraps of that data key over the whole context.
     ///
     /// Q1 `ReservedPrefix` with the least key of the context that starts with `aws-crypto-`,
     /// exactly where there is one; else Q5 `NoGenerator` or Q6 `GeneratorHasKey`, exactly as the
@@ -79,7 +79,7 @@ impl<K: Keyring> Manager for DefaultCmm<K> {
     /// pairs.
     ///
     /// M11 `ReservedKey` exactly where `aws-crypto-public-key` is stored; else M12 or M14, exactly
-    /// as `join` answers them; else M15 `NoKeyOpens` exactly where the keyring finds no data key;
+    /// as `join` answers them; else M15 `NoKeyOpens`, only where no told key opens an entry;
     /// `KeyringFault` where the keyring failed, `Memory` where memory runs out.
     #[tactic(auto, using(crate::proofs::Faults::joins_not, crate::proofs::Found::opens_not, crate::proofs::Going::went_default, crate::proofs::Going::went_unasked))]
     fn for_decryption(

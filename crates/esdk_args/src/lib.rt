@@ -10,15 +10,15 @@
 //! extract --keyring NAME --from NAME --at N --count N PAIR..
 //! audit --jobs NAME
 //! migrate --keyring NAME [--retire N]
+//! reseal --keyring NAME --to-keyring NAME [--frame N] [--max-unit N] [--allow-uncommitted] PAIR..
 //! ```
 //!
 //! A pair word is `KEY=VALUE`, `KEY:=VALUE` where the key is required, or `KEY:` where it is
 //! required and no pair is given.
 //!
-//! `specs/Commands.antt` has the table of commands, `specs/Words.antt` says what words ask for,
-//! `specs/PairWords.antt` what a pair word says. `specs/Spelling.antt` says the same without
-//! reading the numbers and the pairs, `specs/Plain.antt` has a plain form of the words, which is
-//! read without a word of `clap`.
+//! In `specs`, `Commands.antt` has the table of commands, `Words.antt` says what words ask for,
+//! `PairWords.antt` what a pair word says, `Spelling.antt` the same without reading the numbers and
+//! the pairs, and `Plain.antt` has a plain form of the words, read without a word of `clap`.
 #![tactic(auto)]
 
 mod building;

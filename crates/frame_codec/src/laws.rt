@@ -55,7 +55,7 @@ pub fn units_have_their_sizes()
     ensures block { HasBlockSize }
 {}
 
-/// The associated data of a unit determines its message id, kind, number and content length.
+/// Of ids of one length, a unit's associated data tells its id, kind, number and content length.
 pub fn associated_data_tells_units_apart()
     ensures { TellsUnitsApart }
 {}

@@ -90,8 +90,8 @@ impl UnitBuffer {
     }
 
     /// Takes bytes of the piece into the open unit, up to `end` bytes of the unit or to the end of
-    /// the piece, and answers how many. Fails only where memory runs out, and only where more than
-    /// the reserved bytes are held then; nothing is taken then.
+    /// the piece, and answers how many. Fails only where memory runs out, and only where `end` is
+    /// more than the reserved bytes; nothing is taken then.
     pub fn fill(&mut self, end: usize, piece: &[u8]) -> Result<usize, AllocError>
         ensures count { IfOk result (λ count. count ≡ min (end - length self.old.held)
             (length piece.now)) }

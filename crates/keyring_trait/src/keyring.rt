@@ -34,10 +34,10 @@ pub trait Keyring: Drop {
     fn refuses(&self, has_key: bool) -> Option<RingRefusal>
         ensures { result ≡ refusal_with has_key (meaning self.now) };
 
-    /// Wraps the data key, or a new one of the first 32 random bytes where none is handed over, for
-    /// each wrap with the next 12 random bytes as IV. Where the keys are told, the entries are its
-    /// wraps under each key that isn't retired, in order. The text of the context, which has to be
-    /// the whole context, is authenticated with it.
+    /// The data key that is handed over, or a new one of the first 32 random bytes, with one entry
+    /// for each wrap. Where the keys are told, the entries are its wraps under each of them that
+    /// isn't retired, in order, each with the next 12 random bytes as IV; the text of the context,
+    /// which has to be the whole context, is authenticated with it.
     ///
     /// `Refused` exactly where `refuses` says so, before all else. `KeyringFault` only where the
     /// count of faults rose.
@@ -56,10 +56,10 @@ pub trait Keyring: Drop {
         ensures cause { IfErr result (WrapCause (refusal_with (is_some key.entry)
             (meaning self.old)) (meaning self.old).faults (meaning self.new).faults) };
 
-    /// The data key of the first wrapping key, retired or not, that opens an entry, and for it of
-    /// the first such entry. None where no key opens an entry. The text of the context, which has
-    /// to be the whole context, is what was authenticated. An entry that is of no key, or doesn't
-    /// open, is passed over.
+    /// Where the keys are told: a data key that one of them, retired or not, opens from an entry,
+    /// and None only where none opens one; where nothing failed, it is what the first key opens,
+    /// and for it from the first entry. The text of the context, which has to be the whole context,
+    /// is what was authenticated. An entry that is of no key, or doesn't open, is passed over.
     ///
     /// `KeyringFault` only where the count of faults rose; never `Refused`.
     fn on_decrypt(

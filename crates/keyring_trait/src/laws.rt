@@ -19,8 +19,8 @@ pub fn other_names_are_passed_over()
     ensures { PassesOtherNames }
 {}
 
-/// Where all entries wrap one data key, a reader who has one of the writer's keys unwraps it,
-/// whatever other keys it has and whatever order they have.
+/// Where all entries wrap one data key, a reader who has one of the writer's keys unwraps it, in
+/// whatever order its keys are, where no two different keys of both share namespace and name.
 pub fn the_wrapped_key_is_unwrapped()
     ensures { UnwrapsTheKey }
 {}
@@ -36,7 +36,7 @@ pub fn none_is_unwrapped()
     ensures { UnwrapsNone }
 {}
 
-/// What a list of keys makes of a data key are wraps of it, one for each of these keys.
+/// What a list of keys makes of a data key are wraps of it, one for each that isn't retired.
 pub fn what_is_made_is_wrapped()
     ensures { WrapsWhatIsMade }
 {}
@@ -46,15 +46,15 @@ pub fn drawn_bytes_are_ivs()
     ensures { DrawsIvs }
 {}
 
-/// A data key that was handed to a keyring to wrap is the one that the keyring finds again, where
-/// it tells its keys and doesn't fail.
+/// A data key that was handed to a keyring to wrap is found by it again, where it doesn't fail and
+/// tells its keys, of which one isn't retired and no two different ones share namespace and name.
 pub fn wrapped_keys_come_back()
     ensures { WrappedKeysComeBack }
 {}
 
-/// What a writer stored is unlocked by a reader who has one of its keys and gives the pairs that it
-/// required: with the whole context, the required pairs as those that are only authenticated, and
-/// the data key.
+/// What a writer stored is unlocked by a reader who has one of its keys, no other of the same two
+/// names, gives the required pairs and beside them only stored ones, and demands only keys given:
+/// with the whole context, which lacks the reserved key, the required pairs apart, and the key.
 pub fn what_was_stored_is_unlocked()
     ensures { UnlocksWhatWasStored }
 {}
