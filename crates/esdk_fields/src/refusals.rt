@@ -9,13 +9,15 @@ use std::alloc::{AllocError, AllocFailed, Global};
 /// Why a request to encrypt is refused. Its number is the one on the printed line.
 #[derive(Drop)]
 pub enum Refusal {
-    /// Q1: the context has a key that starts with `aws-crypto-`; the least such key.
+    /// Q1: the context has a key that starts with `aws-crypto-`; such a key, and the least of them
+    /// by an exact manager.
     ReservedPrefix(Text),
     /// Q2: an inserted pair would make the context's text longer than 65,535 bytes; that length.
     ContextTooLong(u128),
     /// Q3: an inserted key is there already; the key.
     DuplicateKey(Text),
-    /// Q4: a required key isn't in the context; the least such key.
+    /// Q4: a required key isn't in the context; such a key, and the least of them by an exact
+    /// manager.
     RequiredAbsent(Text),
     /// Q5: the keyring has no generator for a data key.
     NoGenerator,

@@ -14,8 +14,8 @@ use whole_input::End;
 /// Reads a header and its authentication from the input, and writes the header's listing. A header
 /// of a message without a commitment is a fault (M23), unless the caller allows these.
 ///
-/// What stands behind the authentication isn't judged, and no piece is read behind the one in which
-/// it ends. Nothing is written before the header is whole.
+/// What stands behind the authentication isn't judged, and fewer than 65,536 bytes of it are taken.
+/// Nothing is written before the header is whole.
 ///
 /// - `Fault`: the header or its authentication has this fault; M10 `Truncated`, where the input
 ///   ends before they do.

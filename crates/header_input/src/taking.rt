@@ -15,10 +15,10 @@ use whole_input::Pieces;
 /// reader that has the header. It is taken within these limits.
 ///
 /// The source is read in pieces of at most 65,536 bytes, whose buffer is taken before the first
-/// read, and no piece is read behind the one in which the header's authentication ends. What comes
+/// read, and fewer than 65,536 bytes are taken behind the header's authentication. What comes
 /// behind it isn't judged.
 ///
-/// - `Fault`: a field of the bytes that came has it, and ends in the last piece.
+/// - `Fault`: a field of the bytes that came has it, and fewer than 65,536 bytes came behind that.
 /// - `End`: the end was seen, a read failed, or 2^62 bytes came; those that came are the beginning
 ///   of a header.
 /// - `Memory`: memory ran out.

@@ -15,8 +15,8 @@ use keyring_trait::{DataKey, Keyring, RingError};
 use std::alloc::Global;
 
 impl<P: Keyring> Node<P> {
-    /// What the leaf of this number finds by itself, as its own `Keyring::on_decrypt` says: the
-    /// data key of the first of its keys that opens an entry. The leaves are counted from 1, the
+    /// What the leaf of this number finds by itself: where it tells its keys and didn't fail, the
+    /// data key of the first of them that opens an entry. The leaves are counted from 1, the
     /// generator's first, then each child's. Every other leaf means what it meant.
     ///
     /// `KeyringFault` only where the leaf's count of faults rose, and so the tree's; never

@@ -13,16 +13,15 @@ use keyring_trait::Manager;
 use std::alloc::Global;
 
 impl Opener {
-    /// Takes the whole piece, and hands each content that is released to the receiver, by one call
-    /// each, before more is taken. At the end of the header's tag the manager is asked for the data
-    /// key, at the moment `now`, in seconds; else it stays.
+    /// Takes the whole piece, and hands the contents that are released to the receiver, in order.
+    /// At the end of the header's tag the manager is asked for the data key, at the moment `now`,
+    /// in seconds; else it stays.
     ///
     /// - `Fault`: the bytes taken, followed by the piece, have this fault; what is released before
     ///   it was handed over.
     /// - `KeyringFault`: a keyring failed when the manager was asked; nothing was handed over.
     /// - `Memory`, where a step may answer it; nothing was handed over.
-    /// - `Receiver`: the receiver failed at a content. What came behind that content's unit wasn't
-    ///   taken.
+    /// - `Receiver`: the receiver failed at a content.
     /// - `Stopped` exactly where an earlier call answered an error; nothing is taken then.
     pub fn feed<M: Manager, R: Receiver>(
         &mut self,
