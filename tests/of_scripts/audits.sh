@@ -57,6 +57,10 @@ audit_faults() {
         chmod 0 closed/good.esdk
         run "$share/esdk-audit" key closed
         want "a message that can't be read is named" grep -q "not opened: ./closed/good.esdk: it can't be read" report
+        mv closed/good.esdk "$(printf 'closed/bell\007.esdk')"
+        run "$share/esdk-audit" key closed
+        want "a name with a bell is told without it" grep -q "not opened: ./closed/bell?.esdk: it can't be read" report
+        mv "$(printf 'closed/bell\007.esdk')" closed/good.esdk
     fi
 }
 

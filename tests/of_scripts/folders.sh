@@ -230,6 +230,15 @@ stopped_runs() {
     kill -s HUP -- "-$begun"
     wait "$begun" 2>/dev/null || true
     want "a terminal that is closed leaves nothing" await nothing_left out
+    rm -f going
+    sleep 60 &
+    bystander=$!
+    begin env ESDK="$work/hanging" "$share/esdk-tree" encrypt key some out
+    want "a folder that goes on beside another process" await [ -e going ]
+    for state in tmp/esdk-tree.??????; do : >"$state/worker.$bystander"; done
+    stop TERM
+    ended "a folder of which a number is another's now" 143
+    want "the process that has a worker's number goes on" kill "$bystander"
     run "$share/esdk-tree" encrypt key some out
     ended "a run after these" 0
     run "$share/esdk-tree" verify key out

@@ -77,3 +77,49 @@ stopped_outputs() {
         want "$signal in the middle ends what the command started" await is_gone "$(cat going)"
     done
 }
+
+# Makes a `sync` that takes a second where its words are so: make_slow_sync FOLDER PATTERN
+make_slow_sync() {
+    mkdir "$1"
+    printf '#!/bin/sh\ncase $1 in %s) : >syncing; sleep 1 ;; esac\n' "$2" >"$1/sync"
+    chmod +x "$1/sync"
+}
+
+# A file is written out before it gets its name, and its folder behind that.
+late_signals() {
+    make_slow_sync slow_folders '*/'
+    make_slow_sync slow_files '*[!/]'
+    for signal in HUP INT QUIT TERM; do
+        rm -f syncing
+        begin env PATH="$work/slow_folders:$PATH" "$share/esdk-into" late echo "$signal"
+        want "a folder that is written out" await [ -e syncing ]
+        stop "$signal"
+        ended "$signal while the folder is written out" 0
+        want "$signal while the folder is written out: the file is the new one" holds late "$signal"
+        rm -f syncing
+        begin env PATH="$work/slow_files:$PATH" "$share/esdk-into" late echo no
+        want "an output that is written out" await [ -e syncing ]
+        stop "$signal"
+        ended "$signal while the output is written out" "$((128 + $(number_of "$signal")))"
+        want "$signal while the output is written out: the file is as before" holds late "$signal"
+        want "$signal while it is written out leaves nothing" nothing_left .
+    done
+}
+
+# A key that is made stays, and one that isn't made leaves no file.
+late_signals_to_keys() {
+    for signal in HUP INT QUIT TERM; do
+        rm -f syncing late.key
+        begin env PATH="$work/slow_files:$PATH" "$share/esdk-keygen" backups 2026 late.key
+        want "a key that is written out" await [ -e syncing ]
+        stop "$signal"
+        ended "$signal while a key is written out" "$((128 + $(number_of "$signal")))"
+        want "$signal while a key is written out leaves no file" [ ! -e late.key ]
+        rm -f syncing
+        begin env PATH="$work/slow_folders:$PATH" "$share/esdk-keygen" backups 2026 late.key
+        want "a key's folder that is written out" await [ -e syncing ]
+        stop "$signal"
+        ended "$signal while a key's folder is written out" 0
+        want "$signal while a key's folder is written out: the key is there" grep -Eqx 'backups 2026 [0-9a-f]{64}' late.key
+    done
+}

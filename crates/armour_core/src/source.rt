@@ -19,8 +19,8 @@ use whole_input::Pieces;
 /// is bad, where the text ends, and behind 2^62 bytes of text; `ending` says which of these it was.
 ///
 /// The source tells its bytes where the text's source tells. A read fails where one of the text
-/// does, and from then on each read fails, and no more of the text is taken: all bytes that it gave
-/// so far were handed on then. Each failure is counted here.
+/// does. From then on each read into a buffer with room fails, and no more of the text is taken:
+/// all bytes that it gave so far were handed on then. Each failure is counted here.
 #[derive(Drop)]
 pub struct UnarmouredSource<'a, S> {
     text: &'a mut S,

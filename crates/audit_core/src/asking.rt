@@ -23,8 +23,7 @@ use std::alloc::{AllocError, Global};
 ///
 /// - `Fault`: the first that applies of M11, M12 and M14, which is wrong with the pairs; no leaf is
 ///   asked then.
-/// - `KeyringFault`: a leaf failed, and its count of faults rose, and so the tree's; no leaf behind
-///   it is asked.
+/// - `KeyringFault`: a leaf failed, and its count of faults rose, and so the tree's.
 /// - `Memory`: memory ran out.
 pub fn audit_one<P: Keyring>(
     alloc: Global,

@@ -7,12 +7,12 @@ use Rattle.esdk_base.specs.Receiver.{SinkFails, SinkTakes}
 use Rattle.esdk_base.specs.Streams.{SinkState}
 use Rattle.keyring_trait.specs.Materials.{EncMaterialsValue}
 use Rattle.stream_seal.specs.declared.session.Sealer.{Sealer}
-use Rattle.stream_seal.specs.Feeding.{IsFed, fed, fed_out, given_so_far}
+use Rattle.stream_seal.specs.Feeding.{IsFed, IsFeeding, fed, fed_out, given_so_far}
 use Rattle.stream_seal.specs.Receiving.{FeedsPiece, Finishes}
 use Rattle.stream_seal.specs.Session.{SealingValue, beginning, finished, new_session}
 use Rattle.stream_seal.specs.Stands.{Stands}
 use Rattle.stream_seal.specs.Start.{message_of}
-use Rattle.stream_seal.proofs.Feeding.{begin_fed, feeds, finishes}
+use Rattle.stream_seal.proofs.Feeding.{begin_fed, feeds, finishes, is_feeding}
 
 -- This text was taken, and what the message begins with, up to its last frame, was put.
 pub record Sealing (m : EncMaterialsValue) (frame : ℕ) (message_id text : List ℕ) (before now : Option (List ℕ)) (sealer : Sealer) : Type 0 where
@@ -43,11 +43,11 @@ sealing_first m size id before now sealer header wide stands is put =
 module _ {R : Type 0} (state : R → SinkState) (m : EncMaterialsValue) (size : ℕ) (id text : List ℕ) (before : Option (List ℕ)) (mid after : R) (old : Sealer)
     (sealing : Sealing m size id text before (state mid).written old) where
   -- a piece was fed
-  pub sealing_more : (piece : List ℕ) (new : Sealer) → ((v : SealingValue) → Stands old v → IsFed v → FeedsPiece {T = Unit {0}} (λ a b bytes. SinkTakes (state a) (state b) bytes)
+  pub sealing_more : (piece : List ℕ) (new : Sealer) → ((v : SealingValue) → Stands old v → IsFeeding v piece → FeedsPiece {T = Unit {0}} (λ a b bytes. SinkTakes (state a) (state b) bytes)
       (λ a b bytes (error : Failed). SinkFails (state a) (state b) bytes) v piece mid after new (Ok tt)) → Sealing m size id (text ++ piece) before (state after).written new
   sealing_more piece new fed_so =
       let v : SealingValue = sealing.session in
-      let taken = fed_so v sealing.stands sealing.is_fed in
+      let taken = fed_so v sealing.stands (is_feeding v piece sealing.is_fed) in
       let all = feeds v piece sealing.is_fed in
       let whole = all.whole taken.none in
       record {

@@ -16,9 +16,10 @@ use std::alloc::Global;
 /// `at` on, of a writer who required that these pairs are given. `now` is the moment in seconds,
 /// for a manager with a cache.
 ///
-/// At Ok the output gained these bytes, as far as there are any, and this is how many. The frames
-/// before the range and behind it aren't read: a fault of theirs isn't noticed. And where the shelf
-/// tells the file, no more of it was read than the header and the frames that were taken.
+/// At Ok, where the shelf tells the file, the output gained these bytes, as far as there are any,
+/// this is how many, and no more of the file was read than the header, 65,536 bytes behind it, and
+/// the frames that were taken. The frames before the range and behind it aren't judged: a fault of
+/// theirs isn't noticed.
 pub(crate) fn extract_range<M: Manager, F: Shelf, O: Sink>(
     alloc: Global,
     manager: &mut M,

@@ -2,7 +2,7 @@
 
 ghost use Rattle.cmm_caching.specs.Laws.{ComparesValues, GivesWhatWasMade};
 
-/// The names of two requests are equal exactly where the requests are the same in all their parts.
+/// Two names of requests compare as equal exactly where they are the same in all their parts.
 pub fn names_are_compared_as_values()
     ensures { ComparesValues }
 {}

@@ -17,7 +17,7 @@ use Rattle.keyring_trait.specs.Saying.{said_last}
 use Rattle.stream_seal.specs.declared.errors.SealError.{SealError}
 use Rattle.stream_seal.specs.declared.errors.SealError.TheVariants as seals
 use Rattle.stream_seal.specs.declared.session.Sealer.{Sealer}
-use Rattle.stream_seal.specs.Feeding.{IsFed}
+use Rattle.stream_seal.specs.Feeding.{IsFeeding}
 use Rattle.stream_seal.specs.Receiving as seal
 use Rattle.stream_seal.specs.Session.{SealingValue}
 use Rattle.stream_open.specs.declared.errors.OpenError.{OpenError}
@@ -197,7 +197,7 @@ module _ {M R E : Type 0} (state : M → ManagerNow) (takes : R → R → List �
   -- ---- a session that seals
 
   pub sealer_ok : (id now : ℕ) (v : SealingValue) (piece : List ℕ) (manager : M) (before after : R) (sealer : Sealer) (lines : List JournalLine) → seal.FeedsOn {T = Unit {0}} takes fails v piece before after sealer (Ok tt)
-      → (IsFed v → seal.FedWhole takes v piece before after sealer)
+      → (IsFeeding v piece → seal.FedWhole takes v piece before after sealer)
       → FeedsMachine state takes fails (Sealing v) id now piece manager manager before after (Ok (tt {0})) (machines.Sealing sealer) lines lines
   sealer_ok id now v piece manager before after sealer lines on whole = record {
     heard = Nothing;
@@ -234,7 +234,7 @@ module _ {M R E : Type 0} (state : M → ManagerNow) (takes : R → R → List �
   seals_not v piece before after sealer (feeds.Machine seals.Memory) on = absurd on
 
   pub sealer_err : (id now : ℕ) (v : SealingValue) (piece : List ℕ) (manager : M) (before after : R) (sealer : Sealer) (lines : List JournalLine) (error : FeedError SealError E) (named : FeedError DeskError E)
-      → named ≡ seal_failure error → seal.FeedsOn {T = Unit {0}} takes fails v piece before after sealer (Err error) → (IsFed v → seal.FeedsPiece {T = Unit {0}} takes fails v piece before after sealer (Err error))
+      → named ≡ seal_failure error → seal.FeedsOn {T = Unit {0}} takes fails v piece before after sealer (Err error) → (IsFeeding v piece → seal.FeedsPiece {T = Unit {0}} takes fails v piece before after sealer (Err error))
       → FeedsMachine {T = Unit {0}} state takes fails (Sealing v) id now piece manager manager before after (Err named) (machines.Sealing sealer) lines lines
   sealer_err id now v piece manager before after sealer lines error named is on fed = record {
     heard = Nothing;

@@ -78,7 +78,7 @@ SealsOn takes fails before after left (Err (failures.Machine (errors.Refusal ref
 SealsOn takes fails before after left (Err (failures.Machine error)) = ⊥
 
 -- What feeding a piece to this session comes to, where there is one; of a session that seals, where
--- each piece before was fed to its end. This was heard from the manager, and this session is left.
+-- each piece before was fed to its end, or this one goes on from a step. This was heard from the manager, and this session is left.
 abbrev pub FeedsSession : {M R E T : Type 0} → (M → ManagerNow) → (R → R → List ℕ → Type 0)
     → (R → R → List ℕ → E → Type 0) → ℕ → Option SessionValue → List ℕ → M → M → R → R → Heard
     → Option SessionValue → Result T (FeedError DeskError E) → Type 0
@@ -87,7 +87,7 @@ FeedsSession state takes fails now None piece old new before after heard left re
     × (heard ≡ Nothing) × (left ≡ None)
 FeedsSession state takes fails now (Some (Sealing v)) piece old new before after heard left result =
     (new ≡ old) × (heard ≡ Nothing) × SealsOn takes fails before after left result
-    × (sealing.IsFed v → FeedsSealing takes fails v piece before after left result)
+    × (sealing.IsFeeding v piece → FeedsSealing takes fails v piece before after left result)
 FeedsSession state takes fails now (Some (Opening v)) piece old new before after heard left result =
     FeedsOpening state takes fails now v piece old new before after heard left result
 

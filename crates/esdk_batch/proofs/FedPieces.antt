@@ -20,6 +20,7 @@ use Rattle.keyring_trait.specs.Saying.{Admits, Saying, said_last}
 use Rattle.keyring_trait.specs.declared.manager_errors.ManagerError.TheVariants as managers
 use Rattle.stream_seal.specs.Feeding as seals
 use Rattle.stream_seal.specs.Session.{SealingValue}
+use Rattle.stream_seal.proofs.Feeding.{is_feeding}
 use Rattle.stream_open.specs.declared.errors.OpenError.{OpenError}
 use Rattle.stream_open.specs.declared.errors.OpenError.TheVariants as opens
 use Rattle.stream_open.specs.declared.session.Opener.{Opener}
@@ -113,7 +114,7 @@ module _ {M R E : Type 0} (state : M → ManagerNow) (takes : R → R → List �
     lives = λ going. fed.2.2;
     over = λ ended. absurd cc;
     serves = ap (open_lines session now) fed.1;
-    feeds = λ was. (let whole = fed.3 was in (whole.2, whole.1.none, (writes.took _ whole.1.taken).0));
+    feeds = λ was. (let whole = fed.3 (is_feeding s piece was) in (whole.2, whole.1.none, (writes.took _ whole.1.taken).0));
   }
 
   seals_ended : (s : SealingValue) (heard : Heard) (left : Option SessionValue) (error : FeedError DeskError E) (end : JobEnd) → EndsBy error (Ok end)
@@ -126,7 +127,7 @@ module _ {M R E : Type 0} (state : M → ManagerNow) (takes : R → R → List �
         over = λ ended. fed.2.2;
         serves = ap (open_lines session now) fed.1;
         feeds = λ was.
-            (let until = fed.3 was in
+            (let until = fed.3 (is_feeding s piece was) in
             let front = writes.failed until.1.given error until.1.failed in
             let all = front_on front.0 until.1.given (seals.fed_out until.1.still.now until.1.rest) in
             (until.2, (all.0, subst (λ (b : List ℕ). Gains old.files new.files to b) (all.1 ∙ ap (take all.0) (sym until.1.still.way.out)) front.1)));
@@ -138,7 +139,7 @@ module _ {M R E : Type 0} (state : M → ManagerNow) (takes : R → R → List �
         lives = λ no. absurd (some_end (ends.Refusal refusal) no);
         over = λ ended. fed.2.2;
         serves = ap (open_lines session now) fed.1;
-        feeds = λ was. (let short = fed.3 was in (short.2, short.1.why, (writes.took _ short.1.taken).0));
+        feeds = λ was. (let short = fed.3 (is_feeding s piece was) in (short.2, short.1.why, (writes.took _ short.1.taken).0));
       })
   seals_ended s heard left (failures.Machine (errors.Fault fault)) end is fed = absurd fed.2
   seals_ended s heard left (failures.Machine errors.KeyringFault) end is fed = absurd fed.2

@@ -32,9 +32,9 @@ use whole_input::{End, Pieces};
 /// The message is judged in order: the first fault ends the judgement, and what was released before
 /// is written. Nothing is written before it is judged.
 ///
-/// An error ends the reading. A fault that is answered, the header about which a manager fails and
-/// the content that an output fails at come with the last piece, of at most 65,536 bytes: those
-/// before it had no fault and no whole header, or all that they release was written.
+/// A fault that is answered, the header about which a manager fails and the content that an output
+/// fails at come with the last bytes that were taken, at most 65,536: those before them had no
+/// fault and no whole header, or all that they release was written.
 ///
 /// Ok: the input is a whole message, all of its text was written, and this is its whole context:
 /// the pairs that its header stores and those that are only authenticated. Else:

@@ -10,12 +10,12 @@ use Rattle.esdk_fields.specs.declared.refusals.Refusal.TheVariants as refusals
 use Rattle.keyring_trait.specs.Materials.{EncMaterialsValue}
 use Rattle.stream_seal.specs.declared.errors.SealError.TheVariants as seals
 use Rattle.stream_seal.specs.declared.session.Sealer.{Sealer}
-use Rattle.stream_seal.specs.Feeding.{IsFed, fed_out, feed_refusal, frames_given}
+use Rattle.stream_seal.specs.Feeding.{IsFeeding, fed_out, feed_refusal, frames_given}
 use Rattle.stream_seal.specs.Receiving.{FedUntil, FeedsPiece}
 use Rattle.stream_seal.specs.Session.{SealingValue}
 use Rattle.stream_seal.specs.Stands.{Stands}
 use Rattle.stream_seal.specs.Start.{most_frames, most_text, start_of}
-use Rattle.stream_seal.proofs.Feeding.{refuses_piece}
+use Rattle.stream_seal.proofs.Feeding.{is_feeding, refuses_piece}
 use Rattle.stream_seal.proofs.GivenFrames.{frames_of_most}
 use Rattle.whole_input.specs.Taken.{Came, EndSeen, Piece}
 use Rattle.whole_input.specs.Pieces.{most_piece}
@@ -98,9 +98,10 @@ module _ {R : Type 0} (takes : R → R → List ℕ → Type 0) (m : EncMaterial
     -- ---- a piece came
 
     module _ (piece : List ℕ) (put : R) (new : Sealer) where
-      fed_then : (r : FedInto E) → ((v : SealingValue) → Stands old v → IsFed v → FeedsPiece takes fails v piece mid put new r)
+      fed_then : (r : FedInto E) → ((v : SealingValue) → Stands old v → IsFeeding v piece → FeedsPiece takes fails v piece mid put new r)
           → FeedsPiece takes fails (session_of m size id feeding.text) piece mid put new r
-      fed_then r feeds = feeds (session_of m size id feeding.text) feeding.stands (is_fed m size id feeding.text wide feeding.short)
+      fed_then r feeds = feeds (session_of m size id feeding.text) feeding.stands
+          (is_feeding (session_of m size id feeding.text) piece (is_fed m size id feeding.text wide feeding.short))
 
       names : (v : SealingValue) (r : FedInto E) → FeedsPiece takes fails v piece mid put new r → IsNamed r
       names v (Ok done) feeds = tt
@@ -109,7 +110,7 @@ module _ {R : Type 0} (takes : R → R → List ℕ → Type 0) (m : EncMaterial
       names v (Err (fed_errors.Machine error)) feeds = absurd feeds
 
       -- its sealer fails only with a refusal
-      pub feeding_names : (r : FedInto E) → ((v : SealingValue) → Stands old v → IsFed v → FeedsPiece takes fails v piece mid put new r) → IsNamed r
+      pub feeding_names : (r : FedInto E) → ((v : SealingValue) → Stands old v → IsFeeding v piece → FeedsPiece takes fails v piece mid put new r) → IsNamed r
       feeding_names r feeds = names (session_of m size id feeding.text) r (fed_then r feeds)
 
       module _ (takes_more : (r s t : R) (xs ys : List ℕ) → takes r s xs → takes s t ys → takes r t (xs ++ ys)) (next : SourceState) (came : Piece most_piece now next piece) where
@@ -117,7 +118,7 @@ module _ {R : Type 0} (takes : R → R → List ℕ → Type 0) (m : EncMaterial
         came_then = came_more input now next feeding.text piece feeding.came came.came
 
         pub feeding_more : (r : FedInto E) (sum : ℕ) → sum ≡ count + length piece → WritesAs r (Ok tt)
-            → ((v : SealingValue) → Stands old v → IsFed v → FeedsPiece takes fails v piece mid put new r)
+            → ((v : SealingValue) → Stands old v → IsFeeding v piece → FeedsPiece takes fails v piece mid put new r)
             → FeedingInput takes m size id input next output put new sum
         feeding_more (Ok done) sum sum_is writes feeds =
             let fed = fed_then (Ok done) feeds in
@@ -174,7 +175,7 @@ module _ {R : Type 0} (takes : R → R → List ℕ → Type 0) (m : EncMaterial
         }
 
         pub feeding_fails : (r : FedInto E) (error : EncryptError) → WritesAs r (Err error)
-            → ((v : SealingValue) → Stands old v → IsFed v → FeedsPiece takes fails v piece mid put new r)
+            → ((v : SealingValue) → Stands old v → IsFeeding v piece → FeedsPiece takes fails v piece mid put new r)
             → StopsSo m size id input next (gaining takes fails output put) error
         feeding_fails (Ok done) error writes feeds = absurd cc
         feeding_fails (Err (fed_errors.Receiver failed)) error writes feeds =

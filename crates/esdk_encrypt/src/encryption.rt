@@ -50,8 +50,8 @@ use whole_input::{End, Pieces};
 /// error isn't told further. What a sink gained then is a front of what was put (law
 /// `a_sink_gains_what_it_takes`).
 ///
-/// An error ends the reading: what has no room in a message and the frame that an output fails at
-/// come with the last piece. AWS Encryption SDK Specification, "Encrypt".
+/// What has no room in a message, and the frame that an output fails at, come within the last
+/// 65,536 bytes that were taken. AWS Encryption SDK Specification, "Encrypt".
 pub fn encrypt<M: Manager, S: Source, O: Receiver, W: Entropy>(
     alloc: Global,
     manager: &mut M,

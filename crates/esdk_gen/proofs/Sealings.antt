@@ -11,7 +11,7 @@ use Rattle.stream_seal.specs.Session.{SealingValue, beginning}
 use Rattle.stream_seal.specs.Start.{message_of, most_text}
 use Rattle.stream_seal.specs.Feeding.{fed, fed_out, feed_refusal, most_of, most_taken}
 use Rattle.stream_seal.specs.Laws.{IsSameMessage}
-use Rattle.stream_seal.proofs.Feeding.{begin_fed, feeds, finishes, refuses_piece}
+use Rattle.stream_seal.proofs.Feeding.{begin_fed, feeds, finishes, is_feeding, refuses_piece}
 use Rattle.desk_core.specs.declared.errors.DeskError.{DeskError}
 use Rattle.desk_core.specs.declared.errors.DeskError.TheVariants as errors
 use Rattle.desk_core.specs.declared.live_sessions.Desk.{Desk}
@@ -62,7 +62,7 @@ module _ {E : Type 0} (state : WrapKeyValue → ManagerNow) (fails : List ℕ �
   pub piece_fed : FeedsInto {T = Unit {0}} state Gathers fails sealing.at.value id 0 piece desk next message after (Ok tt) → SealsText next key id s (s.taken ++ piece) after
   piece_fed f =
       let session = fed_as (Ok tt) f in
-      let whole = session.3 sealing.is_fed in
+      let whole = session.3 (is_feeding s piece sealing.is_fed) in
       let law = feeds s piece sealing.is_fed in
       let all = law.whole room in
       record {
@@ -96,7 +96,7 @@ module _ {E : Type 0} (state : WrapKeyValue → ManagerNow) (fails : List ℕ �
       → error ≡ feeding.Machine machine → ⊥
   never_refused error fed machine is =
       let f = subst (λ (e : FeedError DeskError E). FeedsInto {T = Unit {0}} state Gathers fails sealing.at.value id 0 piece desk next message after (Err e)) is fed in
-      let session = fed_as (Err (feeding.Machine machine)) f in refused_never machine f.left (session.3 sealing.is_fed)
+      let session = fed_as (Err (feeding.Machine machine)) f in refused_never machine f.left (session.3 (is_feeding s piece sealing.is_fed))
 
 -- ---- one piece behind another
 

@@ -14,7 +14,7 @@ use std::alloc::Global;
 use whole_input::take_file;
 
 /// The keyring tree that the file of this name is read as, in which the plugs stand where the file
-/// names them. The shelf stays as it is.
+/// names them. The shelf's files stay as they are.
 ///
 /// `ShelfFault` where a read failed or the file isn't there; then `FileTooLong` where the file has
 /// more than 1,048,576 bytes; then what its bytes are refused for.

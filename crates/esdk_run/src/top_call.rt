@@ -41,8 +41,8 @@ use std::alloc::Global;
 /// file. `migrate` writes a keyring file in version 2, with the key retired that its words name.
 /// `batch` runs the jobs of a job file over the files of the shelf, and writes a line for each on
 /// the output. `gen` writes the line of a message that follows from a seed. The plugs are the
-/// keyrings that a keyring file may name. Where a run fails, the report gets one line, and nothing
-/// more is read or written; a report that fails then changes nothing.
+/// keyrings that a keyring file may name. Where a run fails, the report gets one line and nothing
+/// besides; a report that fails then changes nothing.
 ///
 /// The status is 0 where all was done, 1 for a fault of the input or of the file of a message, 2
 /// for words that no command takes or that have a bad number or a bad pair, 3 for a keyring file, a

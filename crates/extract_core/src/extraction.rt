@@ -48,7 +48,8 @@ const IV_AND_TAG: usize = 28;
 /// - `Outside` with `ShelfFault`: a read failed, or the shelf has no file of the name, and then
 ///   nothing was written; with `SinkFault`: the output failed. Else a front of the range was
 ///   written. With `KeyringFault`: a keyring failed when the manager was asked about the file's
-///   header, so that its count of faults rose; nothing was written, and no slot was read.
+///   header, so that its count of faults rose; nothing was written, and at most 65,536 bytes behind
+///   the header were read.
 /// - `Memory`: memory ran out. A front of the range was written; nothing, where the shelf tells
 ///   that it has no file of the name.
 pub fn extract<M: Manager, F: Shelf, O: Sink>(

@@ -17,12 +17,12 @@ use Rattle.message_format.specs.Message.{header_body, header_tag}
 use Rattle.message_format.proofs.WrittenHeads.{length-header_tag}
 use Rattle.stream_seal.specs.declared.errors.SealError.TheVariants as seals
 use Rattle.stream_seal.specs.declared.session.Sealer.{Sealer}
-use Rattle.stream_seal.specs.Feeding.{IsFed, fed_out}
+use Rattle.stream_seal.specs.Feeding.{IsFeeding, fed_out}
 use Rattle.stream_seal.specs.Receiving.{FeedsPiece, Finishes}
 use Rattle.stream_seal.specs.Session.{SealingValue, finished}
 use Rattle.stream_seal.specs.Stands.{Stands}
 use Rattle.stream_seal.specs.Start.{message_of, most_text, start_of, start_refusal}
-use Rattle.stream_seal.proofs.Feeding.{finishes, refuses_piece}
+use Rattle.stream_seal.proofs.Feeding.{finishes, is_feeding, refuses_piece}
 use Rattle.esdk_encrypt.specs.Encrypt.{drawn_id, drawn_rest, written_so_far}
 use Rattle.esdk_encrypt.specs.Writing.{Fed, session_of}
 use Rattle.esdk_encrypt.proofs.Input.{sink_fails, sink_takes}
@@ -151,14 +151,15 @@ module _ {R : Type 0} (state : R → SinkState) (message : NewMessage) (old new 
     passes (Err (feeds.Machine seals.Stopped)) f = absurd f
     passes (Err (feeds.Machine seals.Memory)) f = absurd f
 
-  pub passes_as : (content : List ℕ) (fed : Fed) → ((v : SealingValue) → Stands old v → IsFed v → FeedsPiece (sink_takes state) (sink_fails state) v content before after new fed)
+  pub passes_as : (content : List ℕ) (fed : Fed) → ((v : SealingValue) → Stands old v → IsFeeding v content → FeedsPiece (sink_takes state) (sink_fails state) v content before after new fed)
       → (size : ℕ) (random text : List ℕ) (m : Option EncMaterialsValue) → IsWritten message size random m text
       → GoesOnAs size random m text (text ++ content) (state before) (state after) next (put_as fed)
   passes_as content fed feeds size random text None written = absurd (not_begun size random text written)
   passes_as content fed feeds size random text (Some m) written =
       let at = stands_old size random text m written in
       passes content size random text m written at.1 fed
-      (feeds (session_of m size (drawn_id random) text) at.0 (is_fed m size (drawn_id random) text written.wide at.1))
+      (feeds (session_of m size (drawn_id random) text) at.0
+      (is_feeding (session_of m size (drawn_id random) text) content (is_fed m size (drawn_id random) text written.wide at.1)))
 
   -- ---- the end
 

@@ -52,8 +52,8 @@ pub struct ResealOptions {
 /// and then a frame once it is full and more of the text was released, before more is read; the
 /// final frame once the input's end was seen and the old message is whole.
 ///
-/// An error ends the reading. What it tells of came with the last piece, of at most 65,536 bytes:
-/// the bytes before that piece have no fault, where one is answered; no whole header, where a
+/// What an error tells of came with the last bytes that were taken, of which there are at most
+/// 65,536: those before them have no fault, where one is answered; no whole header, where a
 /// manager refuses or fails or the new header is too long; and text that has room, where all that
 /// was released hasn't.
 ///

@@ -7,7 +7,7 @@ use Rattle.esdk_base.specs.declared.receiver.FeedError.TheVariants as feeds
 use Rattle.stream_seal.specs.declared.errors.SealError.{SealError}
 use Rattle.stream_seal.specs.declared.errors.SealError.TheVariants as errors
 use Rattle.stream_seal.specs.declared.session.Sealer.{Sealer}
-use Rattle.stream_seal.specs.Feeding.{IsFed}
+use Rattle.stream_seal.specs.Feeding.{IsFeeding}
 use Rattle.stream_seal.specs.Receiving.{FedWhole, FeedsOn, FeedsPiece, Finishes, GivesOut}
 use Rattle.stream_seal.specs.Session.{SealingValue, IsNotMemory, finish_answer, finished, stepped}
 use Rattle.stream_seal.specs.Stands.{Stands, FeedsStill}
@@ -53,7 +53,7 @@ module _ {R E : Type 0} (takes : R → R → List ℕ → Type 0) (fails : R →
       pub taken : takes output now given
 
     pub feeding_none : ((r : R) → takes r r []) → (v : SealingValue) (piece : List ℕ) (output : R)
-        (sealer : Sealer) → Stands sealer v → IsFed v → Feeding v piece output output sealer piece
+        (sealer : Sealer) → Stands sealer v → IsFeeding v piece → Feeding v piece output output sealer piece
     feeding_none nothing v piece output sealer stands is = record {
       given = [];
       still = still_begins v piece sealer stands is;

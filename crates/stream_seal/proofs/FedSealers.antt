@@ -6,11 +6,11 @@ use Rattle.stream_seal.specs.declared.errors.SealError.{SealError}
 use Rattle.stream_seal.specs.declared.errors.SealError.TheVariants as errors
 use Rattle.stream_seal.specs.declared.session.Sealer.{Sealer}
 use Rattle.stream_seal.specs.DeclaredLength.{spent, within}
-use Rattle.stream_seal.specs.Feeding.{IsFed, IsOnTheWay, StepFeeds}
+use Rattle.stream_seal.specs.Feeding.{IsFeeding, IsOnTheWay, StepFeeds}
 use Rattle.stream_seal.specs.FrameBuffer.{FrameValue}
 use Rattle.stream_seal.specs.Session.{SealingValue, Doing, Stops, Gives, Takes, after_doing, answer_of, doing, step_answer, stepped}
 use Rattle.stream_seal.specs.Stands.{Stands, FeedsStill, FeedsNoMore, FeedFails, StillSeals}
-use Rattle.stream_seal.proofs.Feeding.{arrives, fails, feeds, goes_on}
+use Rattle.stream_seal.proofs.Feeding.{arrives, begins, fails, goes_on}
 use Rattle.stream_seal.proofs.FeedingSteps.{step_feeds}
 use Rattle.stream_seal.proofs.Refusing.{stopped_only}
 
@@ -21,8 +21,8 @@ pub record Stepped (old new : Sealer) (rest : List ℕ) (answer : Result ℕ Sea
   pub answers : (v : SealingValue) → Stands old v → answer ≡ step_answer v rest
   pub stands : (v : SealingValue) → Stands old v → Stands new (stepped v rest)
 
-pub still_begins : (v : SealingValue) (piece : List ℕ) (sealer : Sealer) → Stands sealer v → IsFed v → FeedsStill v piece sealer piece []
-still_begins v piece sealer stands is = record { now = v; stands = stands; way = (feeds v piece is).begins }
+pub still_begins : (v : SealingValue) (piece : List ℕ) (sealer : Sealer) → Stands sealer v → IsFeeding v piece → FeedsStill v piece sealer piece []
+still_begins v piece sealer stands is = record { now = v; stands = stands; way = begins v piece is }
 
 pub still_goes : (v : SealingValue) (piece : List ℕ) (old new : Sealer) (rest given out : List ℕ) (answer : Result ℕ SealError) (used : ℕ) → FeedsStill v piece old rest given → 1 ≤ length rest
     → Stepped old new rest answer → ((w : SealingValue) → Stands new w → out ≡ w.out) → answer ≡ Ok used → FeedsStill v piece new (drop used rest) (given ++ out)
@@ -63,10 +63,10 @@ pub record GoesOn (v : SealingValue) (piece : List ℕ) (sealer : Sealer) (rest 
   pub session : SealingValue
   pub stands : Stands sealer session
   pub on : session.stopped ≡ false
-  pub way : IsFed v → (given : List ℕ) × IsOnTheWay v piece session rest given
+  pub way : IsFeeding v piece → (given : List ℕ) × IsOnTheWay v piece session rest given
 
 pub going_begins : (v : SealingValue) (piece : List ℕ) (sealer : Sealer) → Stands sealer v → v.stopped ≡ false → GoesOn v piece sealer piece
-going_begins v piece sealer stands on = record { session = v; stands = stands; on = on; way = λ is. ([], (feeds v piece is).begins) }
+going_begins v piece sealer stands on = record { session = v; stands = stands; on = on; way = λ is. ([], begins v piece is) }
 
 -- no step but one that fails stops it
 pub going_more : (v : SealingValue) (piece : List ℕ) (old new : Sealer) (rest : List ℕ) (answer : Result ℕ SealError) (used : ℕ) → GoesOn v piece old rest → 1 ≤ length rest
@@ -78,8 +78,8 @@ going_more v piece old new rest answer used goes some step is =
       session = stepped now rest;
       stands = step.stands now goes.stands;
       on = stays_on now rest (doing now rest) used goes.on steps;
-      way = λ fed_before.
-          (let way = goes.way fed_before in
+      way = λ is_feeding.
+          (let way = goes.way is_feeding in
           (way.0 ++ (stepped now rest).out, goes_on v piece now rest way.0 used way.1 some steps));
     }
 
@@ -88,7 +88,7 @@ going_ends v piece sealer goes = record {
   session = goes.session;
   stands = goes.stands;
   on = goes.on;
-  feeds = λ fed_before. (let way = goes.way fed_before in (arrives v piece goes.session way.0 way.1).end);
+  feeds = λ is_feeding. (let way = goes.way is_feeding in (arrives v piece goes.session way.0 way.1).end);
 }
 
 -- and no error says that it had stopped

@@ -219,13 +219,16 @@ full_with v all wide why =
     let long : length (take (most_taken v) all) ≡ most_text v.size = omega (arith, length-take (most_taken v) all, most, many.1) in
     record { taken = long; handed = ap (λ (n : ℕ). frames_given n v.size) long ∙ frames_of_most v.size wide }
 
+pub begins : (v : SealingValue) (piece : List ℕ) → IsFeeding v piece → IsOnTheWay v piece v piece []
+begins v piece is = record { feeding = is; same = refl; same_refusal = refl; out = refl }
+
 pub feeds : (v : SealingValue) (piece : List ℕ) → IsFed v → Feeds v piece
 feeds v piece is =
     let all : List ℕ = v.taken ++ piece in
     let now : SealingValue = fed_with v all in
     let more : List ℕ = take (most_taken v - length v.taken) piece in
     record {
-      begins = record { feeding = is_feeding v piece is; same = refl; same_refusal = refl; out = refl };
+      begins = begins v piece (is_feeding v piece is);
       same = subst (λ (w : SealingValue). IsSameMessage v w) (sym (fed_is v piece)) (record { materials = refl; declared = refl; size = refl; id = refl });
       taken = ap (λ (w : SealingValue). w.taken) (fed_is v piece);
       given = ap given_so_far (fed_is v piece) ∙ given_with v all is more (front_taken (most_taken v) v.taken piece is.short) ∙ ap (λ (l : List ℕ). given_so_far v ++ l) (sym (out_is v piece));

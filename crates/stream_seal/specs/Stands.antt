@@ -7,7 +7,7 @@ use Rattle.stream_seal.specs.declared.errors.SealError.{SealError}
 use Rattle.stream_seal.specs.declared.errors.SealError.TheVariants as errors
 use Rattle.stream_seal.specs.declared.session.Sealer.{Sealer}
 use Rattle.stream_seal.specs.DeclaredLength.{declared_after}
-use Rattle.stream_seal.specs.Feeding.{IsFed, IsOnTheWay, fed, fed_out, feed_refusal}
+use Rattle.stream_seal.specs.Feeding.{IsFeeding, IsOnTheWay, fed, fed_out, feed_refusal}
 use Rattle.stream_seal.specs.Session.{SealingValue, beginning, held}
 
 -- It has the session's header, derived key, id and frame length, the number of the open frame, what is still to come of the bytes declared, what the last call gave, and
@@ -53,4 +53,4 @@ pub record StillSeals (v : SealingValue) (piece : List ℕ) (sealer : Sealer) : 
   pub session : SealingValue
   pub stands : Stands sealer session
   pub on : session.stopped ≡ false
-  pub feeds : IsFed v → session ≡ fed v piece
+  pub feeds : IsFeeding v piece → session ≡ fed v piece

@@ -3,7 +3,7 @@
 ghost use Rattle.std.specs.Prelude.{◌≡◌, ◌-◌, ◌<◌, ◌≤◌, true, false, length, None, Err, IfErr, IfOk, OnOk};
 ghost use Rattle.esdk_base.specs.declared.receiver.FeedError.TheVariants.{Machine};
 ghost use Rattle.stream_seal.specs.declared.errors.SealError.TheVariants.{Stopped};
-ghost use Rattle.stream_seal.specs.Feeding.{IsFed};
+ghost use Rattle.stream_seal.specs.Feeding.{IsFeeding};
 ghost use Rattle.stream_seal.specs.Receiving.{FeedsOn, FeedsPiece, Finishes, GivesOut};
 ghost use Rattle.stream_seal.specs.Session.{SealingValue, beginning, IsNotMemory, new_session, step_answer, stepped, finish_answer, finished};
 ghost use Rattle.stream_seal.specs.Stands.{Stands, work_of};
@@ -171,20 +171,20 @@ impl Sealer {
         Ok(())
     }
 
-    /// Takes the whole piece, and hands each frame that is full to the receiver once more bytes
-    /// come, by one call each. Never answers `Memory`.
+    /// Takes the whole piece, and hands the frames that are full to the receiver, in order, once
+    /// more bytes come. Never answers `Memory`.
     ///
     /// `OverDeclared` (Q10) and `TooManyFrames` (Q9), where the piece has a byte beyond those
     /// declared, or beyond those that a message has room for: the bytes before it were taken, and
     /// all their frames but the last handed over. `Receiver`, where the receiver failed at a frame;
     /// it isn't asked again. `Stopped`, exactly where the sealer had stopped before; then the
-    /// receiver isn't asked. After Ok it goes on, whatever it was fed before.
+    /// receiver isn't asked. After Ok it goes on, whatever it was fed before, and by `step`, too.
     pub fn feed<R: Receiver>(
         &mut self,
         piece: &[u8],
         output: &mut R,
     ) -> Result<(), FeedError<SealError, R::Error>>
-        ensures feeds { (v : SealingValue) → Stands self.old v → IsFed v
+        ensures feeds { (v : SealingValue) → Stands self.old v → IsFeeding v piece.now
             → FeedsPiece R.takes R.fails v piece.now output.old output.new self.new result }
         ensures stopped { (v : SealingValue) → Stands self.old v → v.stopped ≡ true
             → (result ≡ Err (Machine Stopped)) × (output.new ≡ output.old) }

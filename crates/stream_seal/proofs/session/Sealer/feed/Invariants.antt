@@ -1,5 +1,5 @@
 use Rattle.std.proofs.Common.{◌≡◌, ℕ, List, false, length}
-use Rattle.stream_seal.specs.Feeding.{IsFed}
+use Rattle.stream_seal.specs.Feeding.{IsFeeding}
 use Rattle.stream_seal.specs.Session.{SealingValue}
 use Rattle.stream_seal.specs.Stands.{Stands, work_of}
 use Rattle.stream_seal.proofs.FedReceivers.{Feeding}
@@ -8,7 +8,7 @@ use Rattle.stream_seal.proofs.session.Sealer.feed.Given as goal
 
 abbrev pub invariant-loop-left : goal.invariant-loop-left
 invariant-loop-left g l = record {
-  feeds : (v : SealingValue) → Stands l.fn.self v → IsFed v
+  feeds : (v : SealingValue) → Stands l.fn.self v → IsFeeding v l.piece
       → Feeding g.R.Receiver.takes g.R.Receiver.fails v l.piece l.fn.output l.output l.self l.left;
   still : (v : SealingValue) → Stands l.fn.self v → v.stopped ≡ false
       → GoesOn v l.piece l.self l.left;
