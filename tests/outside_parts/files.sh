@@ -194,11 +194,40 @@ changing_files() {
     rm -rf many
 }
 
+# A new message has the rights that its own folder gives, whatever another folder gave in the run. A folder may give new
+# files rights of its own, past the umask: here to its owner, and to all others for reading.
+rights_of_folders() {
+    local first second
+    make_folder one
+    mkdir one/open one/closed
+    if ! python3 -c 'import os, struct
+entries = b"".join(struct.pack("<HHI", tag, rights, 0xFFFFFFFF) for tag, rights in ((1, 6), (4, 4), (32, 4)))
+os.setxattr("one/open", "system.posix_acl_default", struct.pack("<I", 2) + entries)' 2>/dev/null; then
+        echo "the rights that folders give: not tried, since there are none here"
+        return
+    fi
+    : >answers
+    for first in open closed; do
+        second=closed
+        [ "$first" = open ] || second=open
+        rm -f one/*/sealed one/*/again
+        job_file one/jobs ring 4 "encrypt nine $first/sealed" "encrypt nine $second/sealed" "encrypt nine $first/again"
+        (umask 077 && cd one && "$program" batch --jobs jobs >../output 2>../report) || fail "folders with rights of their own" "$(cat output report)"
+        has_rights "a folder that gives its files to all" one/open/sealed 644
+        has_rights "a folder that gives its files to nobody" one/closed/sealed 600
+    done
+    has_rights "once more in the second folder" one/closed/again 600
+    no_parts "a folder that gives its files to all" one/open
+    no_parts "a folder that gives its files to nobody" one/closed
+    show_places "the rights that folders give to new messages"
+}
+
 files_of_a_batch() {
     names_of_one_file
     two_names_of_an_output
     links_as_outputs
     no_regular_files
     rights
+    rights_of_folders
     changing_files
 }

@@ -101,6 +101,7 @@ pub(crate) fn open_job<M: Manager, F: Shelf, W: Entropy>(
             let request = SealRequest::new(wish, *frame, None);
             open_sealing(alloc, &request, to, now, desk, shelf, entropy)
         }
+        // A key that a decryption requires is one of a given pair, which binds the message already.
         Work::Decrypt { given, .. } => open_opening(alloc, given, to, desk, shelf),
     }
 }

@@ -1,6 +1,5 @@
 -- What a run comes to whose words ask for this.
-use Rattle.std.proofs.Common.{◌≡◌, ℕ, List, Ok, Err, subst}
-use Rattle.std.specs.Prelude.{IfSome}
+use Rattle.std.proofs.Common.{◌≡◌, ℕ, List, Ok, subst}
 use Rattle.std.specs.declared.result.Result.{Result}
 use Rattle.esdk_args.specs.declared.request.DecryptWords.{DecryptWords}
 use Rattle.esdk_args.specs.declared.request.EncryptWords.{EncryptWords}
@@ -15,7 +14,7 @@ use Rattle.esdk_run.specs.EachJob.{DoesWhatItMust, SaysEachJudgement}
 use Rattle.esdk_run.specs.Objects.{Objects, Unchanged, without_entropy}
 use Rattle.esdk_run.specs.Run.{AuditRuns, BatchRuns, DecryptRuns, EncryptRuns, ExtractRuns, GenRuns, MigrateRuns, ResealRuns, RunsAs}
 use Rattle.esdk_run.specs.Served.{Generates, KeepsLimits, KeepsOtherFiles, RunsWhatIsHeld}
-use Rattle.esdk_run.specs.Told.{ComesBack, DecryptsWholeMessages, MigratesWhatIsHeld, ReadsBack, SaysTheJudgement, SaysWhatItReads, keyring_asked}
+use Rattle.esdk_run.specs.Told.{DecryptsWholeMessages, MigratesWhatIsHeld, ReadsBack, SaysTheJudgement, SaysWhatItReads}
 use Rattle.esdk_run.specs.Trees.{Trees}
 use Rattle.esdk_run.proofs.AuditDone.{audits_what_is_held}
 use Rattle.esdk_run.proofs.Auditing.{says_the_openers}
@@ -24,8 +23,6 @@ use Rattle.esdk_run.proofs.DoneJobs.{does_what_it_must}
 use Rattle.esdk_run.proofs.EachJob.{says_each_judgement}
 use Rattle.esdk_run.proofs.Decryption.{decrypts_whole_messages, reads_back, says_the_judgement, says_what_it_reads}
 use Rattle.esdk_run.proofs.Migration.{migrates_what_is_held}
-use Rattle.esdk_run.proofs.Encryption.{encrypt_comes_back}
-use Rattle.esdk_run.proofs.TreesBack.{decrypt_comes_back}
 
 pub encrypt_asked : (trees : Trees) (words : Result Request WordsFault) (asked : EncryptWords) (before after : Objects) (unchanged : Unchanged) (code : ℕ)
     → words ≡ Ok (requests.Encrypt asked) → RunsAs trees words before after unchanged code
@@ -33,7 +30,7 @@ pub encrypt_asked : (trees : Trees) (words : Result Request WordsFault) (asked :
 encrypt_asked trees words asked before after unchanged code is runs =
     subst (λ (w : Result Request WordsFault). RunsAs trees w before after unchanged code) is runs
 
-decrypt_asked : (trees : Trees) (words : Result Request WordsFault) (asked : DecryptWords) (before after : Objects) (unchanged : Unchanged) (code : ℕ)
+pub decrypt_asked : (trees : Trees) (words : Result Request WordsFault) (asked : DecryptWords) (before after : Objects) (unchanged : Unchanged) (code : ℕ)
     → words ≡ Ok (requests.Decrypt asked) → RunsAs trees words before after unchanged code
     → DecryptRuns trees asked before after (without_entropy unchanged) code
 decrypt_asked trees words asked before after unchanged code is runs =
@@ -69,23 +66,6 @@ audit_asked : (trees : Trees) (words : Result Request WordsFault) (name : List �
     → words ≡ Ok (requests.Audit name) → RunsAs trees words before after unchanged code → AuditRuns trees name before after unchanged code
 audit_asked trees words name before after unchanged code is runs =
     subst (λ (w : Result Request WordsFault). RunsAs trees w before after unchanged code) is runs
-
--- the tree of a run whose words name a keyring file
-pub comes_back : (trees : Trees) (words : Result Request WordsFault) (before after : Objects) (unchanged : Unchanged) (code : ℕ)
-    → RunsAs trees words before after unchanged code
-    → IfSome (keyring_asked words) (λ asked. ComesBack trees asked.0 asked.1 before.shelf after.shelf code)
-comes_back trees (Ok (requests.List asked)) before after unchanged code runs = tt
-comes_back trees (Ok (requests.Encrypt asked)) before after unchanged code runs =
-    encrypt_comes_back trees asked before after unchanged code runs
-comes_back trees (Ok (requests.Decrypt asked)) before after unchanged code runs =
-    decrypt_comes_back trees asked before after (without_entropy unchanged) code runs
-comes_back trees (Ok (requests.Migrate asked)) before after unchanged code runs = tt
-comes_back trees (Ok (requests.Batch name)) before after unchanged code runs = tt
-comes_back trees (Ok (requests.Gen seed size)) before after unchanged code runs = tt
-comes_back trees (Ok (requests.Extract asked)) before after unchanged code runs = tt
-comes_back trees (Ok (requests.Audit name)) before after unchanged code runs = tt
-comes_back trees (Ok (requests.Reseal asked)) before after unchanged code runs = tt
-comes_back trees (Err fault) before after unchanged code runs = tt
 
 -- ---- what is so of such a run
 

@@ -1,5 +1,5 @@
 -- An audit of files that the shelf tells comes to its end.
-use Rattle.std.proofs.Common.{◌≡◌, ◌⊎◌, ◌∙◌, ℕ, ◌^◌, ◌<◌, Bool, true, false, List, [], ◌∷◌, ◌++◌, length, drop, Ok, inl, inr, refl, sym, ap, subst, arith}
+use Rattle.std.proofs.Common.{◌≡◌, ◌⊎◌, ◌∙◌, ℕ, ◌^◌, ◌<◌, Bool, true, false, List, [], ◌∷◌, ◌++◌, length, drop, inl, inr, refl, sym, ap, subst, arith}
 use Rattle.std.specs.Prelude.{All, if◌then◌else◌}
 use Rattle.std.specs.List.{list_all}
 use Rattle.std.specs.declared.option.Option.{Option}
@@ -25,27 +25,23 @@ use Rattle.esdk_report.specs.Report.{Reports}
 use Rattle.esdk_report.specs.declared.failure.Failure.{Failure}
 use Rattle.esdk_report.specs.declared.failure.Failure.TheVariants as failures
 use Rattle.esdk_run.specs.Audit.{AuditEnds, AuditIs, Audits, FindsNotAll, HasNoAudit}
-use Rattle.esdk_run.specs.AuditTold.{AuditsWhatIsHeld, HasShortFiles, HoldsAudit, WhereNoneFailed}
+use Rattle.esdk_run.specs.AuditTold.{AuditsWhatIsHeld, HasShortFiles, HoldsAudit}
 use Rattle.esdk_run.specs.Objects.{Objects, Unchanged}
 use Rattle.esdk_run.specs.Run.{AuditRuns}
+use Rattle.esdk_run.specs.Told.{WhereNoneFailed}
 use Rattle.esdk_run.specs.Trees.{TreeGoes, Trees}
 use Rattle.esdk_run.proofs.Auditing.{read_as_held}
-use Rattle.esdk_run.proofs.Batches.{not_refused}
-use Rattle.esdk_run.proofs.Files.{no_read_fails}
+use Rattle.esdk_run.proofs.Files.{file_is_held, no_read_fails, not_refused}
 use Rattle.esdk_run.proofs.Statuses.{memory_status}
 
 -- ---- both files
-
-audit_is_held : (old between : ShelfState) (name bytes : List ℕ) (held read : AuditFile) → Holds old.files name bytes → audit_of bytes ≡ Ok held → AuditIs old between name read → held ≡ read
-audit_is_held old between name bytes held read holds is audit =
-    let same : Ok held ≡ Ok read = sym is ∙ (ap audit_of (audit.read.whole bytes holds) ∙ audit.is) in cc
 
 -- What is so of the file of an audit that the shelf tells, and of its keyring file behind it.
 module _ (trees : Trees) (name : List ℕ) (old new : ShelfState) (tree : KeyringMeaning) (told : List (List WrapKeyValue)) (messages : List Message)
     (held : HoldsAudit trees old.files name tree told messages) (short : HasShortFiles held.bytes held.keyring messages) where
   keyring_held : (file : AuditFile) (between : ShelfState) → AuditIs old between name file → Holds between.files file.keyring held.keyring
   keyring_held file between audit =
-      let same = audit_is_held old between name held.bytes held.file file held.holds held.is audit in
+      let same : held.file ≡ file = sym (file_is_held audit_of old between name held.bytes file held.file held.holds held.is audit.read) in
       subst (λ (f : Option Files). Holds f file.keyring held.keyring) (sym audit.stay) (subst (λ (a : AuditFile). Holds old.files a.keyring held.keyring) same held.holds_keyring)
 
   taken_both : (refusal : FileRefusal) → HasNoAudit trees name old new (failures.File refusal) → ⊥
@@ -60,7 +56,7 @@ module _ (trees : Trees) (name : List ℕ) (old new : ShelfState) (tree : Keyrin
       elim none.cause [
         | inl unread ↦ no_read_fails old new name held.bytes held.holds stayed unread.cause
         | inr has ↦
-            no_read_fails has.between new has.file.keyring held.keyring (keyring_held has.file has.between has.audit) (subst (λ (n : ℕ). Stayed n new.faults) (sym has.audit.read.faults) stayed)
+            no_read_fails has.between new has.file.keyring held.keyring (keyring_held has.file has.between has.audit) (subst (λ (n : ℕ). Stayed n new.faults) (sym has.audit.read.file.faults) stayed)
             has.cause.cause
       ]
 
@@ -115,7 +111,7 @@ module _ (trees : Trees) (name : List ℕ) (old new : ShelfState) (tree : Keyrin
       subst (λ (f : Option Files). AreHeld f file.messages messages) (sym audits.has.stay) (subst (λ (f : AuditFile). AreHeld old.files f.messages messages) same.file_is held.holds_messages) in
       let one = one_held read.files done m behind messages (subst (λ (ms : List AuditMessage). AreHeld read.files ms messages) are now) short.messages_short in (
         subst (λ (f : Option Files). IsHeld f m) (sym (each_files read between leaves leaves_then done found each)) one,
-        each_faults read between leaves leaves_then done found each ∙ (audits.has.keyring.file.faults ∙ audits.has.audit.read.faults),
+        each_faults read between leaves leaves_then done found each ∙ (audits.has.keyring.file.faults ∙ audits.has.audit.read.file.faults),
       )
 
   never_unread : Stayed old.faults new.faults → FindsNotAll trees name old new (failures.Outside outsides.ShelfFault) → ⊥

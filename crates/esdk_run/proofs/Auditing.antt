@@ -1,11 +1,8 @@
 -- What `audit` comes to, and what it says of files that the shelf tells.
-use Rattle.std.proofs.Common.{◌≡◌, ◌∙◌, ℕ, Bool, true, false, List, [], ◌∷◌, length, map, Option, Some, None, Ok, Err, inl, inr, refl, sym, ap, subst, arith, append-nil}
-use Rattle.std.specs.Prelude.{if◌then◌else◌}
+use Rattle.std.proofs.Common.{◌≡◌, ◌∙◌, ℕ, true, List, [], ◌∷◌, length, map, Option, Some, None, Err, inl, inr, refl, sym, ap, subst, arith, append-nil}
 use Rattle.std.specs.List.{list_all}
-use Rattle.std.specs.declared.result.Result.{Result}
 use Rattle.std.specs.Io.KnownBytes.{Appends}
 use Rattle.esdk_fields.specs.Counts.{Stayed}
-use Rattle.esdk_fields.specs.declared.refusals.FileRefusal.{FileRefusal}
 use Rattle.esdk_fields.specs.declared.refusals.Outside.TheVariants as outsides
 use Rattle.esdk_base.specs.Shelf.{Files, Holds}
 use Rattle.esdk_base.specs.Streams.{ShelfState, SinkState}
@@ -41,7 +38,8 @@ use Rattle.esdk_run.specs.FileReading.{ReadCause}
 use Rattle.esdk_run.specs.Objects.{Objects, Unchanged}
 use Rattle.esdk_run.specs.Run.{AuditRuns, AuditsBy, is_status}
 use Rattle.esdk_run.specs.Trees.{TreeGoes, TreeHas, Trees, trees_of}
-use Rattle.esdk_run.proofs.Statuses.{not_done, not_seven}
+use Rattle.esdk_run.proofs.Files.{file_is_held}
+use Rattle.esdk_run.proofs.Statuses.{jobs_status, not_done, not_seven}
 use Rattle.esdk_run.proofs.TreesBack.{one_left}
 
 -- ---- the file
@@ -78,12 +76,8 @@ each_counted old new before after (m ∷ ms) (x ∷ xs) each = omega (arith, eac
 
 -- ---- the status
 
-status_known : (all : Bool) (code : ℕ) → code ≡ (if all then 0 else 7) → is_status code ≡ true
-status_known true code is = ap is_status is
-status_known false code is = ap is_status is
-
 pub audit_status_known : (trees : Trees) (name : List ℕ) (old new : ShelfState) (before after : SinkState) (code : ℕ) → WritesAudit trees name old new before after code → is_status code ≡ true
-audit_status_known trees name old new before after code done = status_known (list_all has_opener done.found) code done.writes.status
+audit_status_known trees name old new before after code done = jobs_status (list_all has_opener done.found) code done.writes.status
 
 -- ---- a run of `audit`, as its command ends it
 
@@ -158,12 +152,6 @@ audit_fails trees name old read new file left leaves messages failure audits are
 
 -- ---- what it says of files that the shelf tells
 
-one_value : {A : Type 0} (read : Result A FileRefusal) (x y : A) → read ≡ Ok x → read ≡ Ok y → x ≡ y
-one_value {A = A} read x y is other = let same : Ok x ≡ Ok y = sym is ∙ other in cc
-
-one_told : {A : Type 0} (o : Option A) (x y : A) → o ≡ Some x → o ≡ Some y → x ≡ y
-one_told {A = A} o x y is other = let same : Some x ≡ Some y = sym is ∙ other in cc
-
 -- as many leaves tell their keys as there are
 told_many : (meanings : List KeyringMeaning) (told : List (List WrapKeyValue)) → told_by meanings ≡ Some told → length told ≡ length meanings
 told_many [] told is = let none : [] ≡ told = cc in ap length (sym none)
@@ -188,14 +176,16 @@ pub read_as_held : (trees : Trees) (name : List ℕ) (old read : ShelfState) (fi
     → ReadAsHeld trees tree held_tree meanings held.meanings file held.file
 read_as_held trees name old read file tree held_tree meanings told messages has held =
     let audit = has.audit in
-    let same_file : held.file ≡ file = one_value (audit_of audit.bytes) held.file file (ap audit_of (sym (audit.read.whole held.bytes held.holds)) ∙ held.is) audit.is in
+    let same_file : held.file ≡ file = sym (file_is_held audit_of _ _ _ held.bytes file held.file held.holds held.is audit.read) in
     let holds_keyring : Holds has.between.files file.keyring held.keyring =
     subst (λ (f : Option Files). Holds f file.keyring held.keyring) (sym audit.stay) (subst (λ (n : AuditFile). Holds old.files n.keyring held.keyring) same_file held.holds_keyring) in
-    let keyring = has.keyring.file.whole held.keyring holds_keyring in
-    let one : held_tree ∷ [] ≡ tree ∷ [] = one_value (trees.read has.keyring.bytes) (held_tree ∷ []) (tree ∷ []) (ap trees.read (sym keyring) ∙ held.tree_is) has.keyring.is in
+    let keyring = has.keyring in
+    let one : tree ∷ [] ≡ held_tree ∷ [] = file_is_held trees.read _ _ _ held.keyring (tree ∷ []) (held_tree ∷ []) holds_keyring held.tree_is
+    (record { bytes = keyring.bytes; file = keyring.file; is = keyring.is }) in
     record {
       tree_is = (cc);
-      meanings_are = one_value (trees.leaves has.keyring.bytes) held.meanings meanings (ap trees.leaves (sym keyring) ∙ held.leaves_are) has.keyring.leaves_are;
+      meanings_are = sym (file_is_held trees.leaves _ _ _ held.keyring meanings held.meanings holds_keyring held.leaves_are
+          (record { bytes = keyring.bytes; file = keyring.file; is = keyring.leaves_are }));
       file_is = same_file;
     }
 

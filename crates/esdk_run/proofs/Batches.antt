@@ -1,9 +1,9 @@
 -- What `batch` and `gen` leave, and when they must be done.
-use Rattle.std.proofs.Common.{◌≡◌, ◌⊎◌, ◌∙◌, ◌≤◌, ℕ, Bool, true, false, List, length, Ok, Err, inl, inr, refl, sym, ap, subst, arith}
+use Rattle.std.proofs.Common.{◌≡◌, ◌⊎◌, ◌∙◌, ℕ, Bool, true, false, List, Ok, inl, inr, refl, sym, ap, subst, arith}
 use Rattle.std.specs.Prelude.{is_some, if◌then◌else◌}
 use Rattle.std.specs.List.{list_all}
 use Rattle.std.specs.declared.option.Option.{Option}
-use Rattle.std.specs.declared.result.Result.{Result}
+use Rattle.esdk_base.specs.Receiver.{SinkFails}
 use Rattle.esdk_base.specs.Shelf.{Files, Holds}
 use Rattle.esdk_base.specs.Streams.{EntropyState, ShelfState, SinkState}
 use Rattle.esdk_fields.specs.Counts.{Stayed}
@@ -13,33 +13,29 @@ use Rattle.keyring_trait.specs.declared.journal.JournalLine.{JournalLine}
 use Rattle.keyring_trait.specs.Keyring.{KeyringMeaning}
 use Rattle.cmm_caching.specs.Journal.{KeepsWithin}
 use Rattle.job_file.specs.JobFile.{JobFile}
-use Rattle.whole_input.specs.File.{most_file}
 use Rattle.batch_report.specs.declared.job_lines.JobLine.{JobLine}
 use Rattle.batch_report.specs.BatchReport.{is_done}
 use Rattle.esdk_batch.specs.Batch.{OnlyWritten}
+use Rattle.esdk_gen.specs.Generator.{gen_line}
 use Rattle.esdk_report.specs.declared.failure.Failure.{Failure}
 use Rattle.esdk_report.specs.declared.failure.Failure.TheVariants as failures
 use Rattle.esdk_report.specs.Report.{Reports}
 use Rattle.esdk_run.specs.Batch.{BatchFails, ChangesOnlyWritten, JobsAre, JobsHaveNoTree, RunsJobFile, jobs_in}
-use Rattle.esdk_run.specs.FileReading.{FileFails, FileIsRefused}
-use Rattle.esdk_run.specs.Generate.{GenFails, WritesLineFront}
+use Rattle.esdk_run.specs.FileReading.{FileFails}
+use Rattle.esdk_run.specs.Generate.{GenFails}
 use Rattle.esdk_run.specs.Objects.{Objects, Unchanged}
 use Rattle.esdk_run.specs.Run.{BatchRuns, Fails, GenRuns, RunsAllJobs, is_status}
 use Rattle.esdk_run.specs.Served.{Generates, HoldsJobs, KeepsLimits, KeepsOtherFiles, RunsWhatIsHeld, ShowsLimits}
 use Rattle.esdk_run.specs.Told.{HoldsTree, IsDoneOrMemory}
 use Rattle.esdk_run.specs.Trees.{Trees}
-use Rattle.esdk_run.proofs.Files.{held_is_read, held_is_taken, no_read_fails}
+use Rattle.esdk_run.proofs.Files.{file_is_held, held_is_read, held_is_taken, no_read_fails, not_refused}
 use Rattle.esdk_run.proofs.Showing.{each_has_a_line, shows_limits}
-use Rattle.esdk_run.proofs.Statuses.{memory_status, not_done, not_seven}
+use Rattle.esdk_run.proofs.Statuses.{jobs_status, memory_status, not_done, not_seven}
 
 -- ---- the status
 
-status_known : (all : Bool) (code : ℕ) → code ≡ (if all then 0 else 7) → is_status code ≡ true
-status_known true code is = ap is_status is
-status_known false code is = ap is_status is
-
 pub run_status : (trees : Trees) (name : List ℕ) (before after : Objects) (code : ℕ) → RunsAllJobs trees name before after code → is_status code ≡ true
-run_status trees name before after code runs = status_known (list_all is_done runs.lines) code runs.writes.status
+run_status trees name before after code runs = jobs_status (list_all is_done runs.lines) code runs.writes.status
 
 -- ---- a run of `batch`, as its command ends it
 
@@ -108,18 +104,10 @@ keeps_other_files trees name before after unchanged code (inr fails) =
 
 -- ---- files that the shelf tells
 
--- a file that is read as this isn't refused
-pub not_refused : {A : Type 0} (read : List ℕ → Result A FileRefusal) (old new : ShelfState) (name bytes : List ℕ) (value : A) (refusal : FileRefusal) → Holds old.files name bytes
-    → length bytes ≤ most_file → read bytes ≡ Ok value → FileIsRefused read old new name refusal → ⊥
-not_refused read old new name bytes value refusal holds few is (inl long) = absurd (omega (arith, few, long.1.many bytes holds))
-not_refused read old new name bytes value refusal holds few is (inr refused) =
-    let same : Ok value ≡ Err refusal = sym is ∙ ap read (refused.file.whole bytes holds) ∙ refused.is in absurd cc
-
 -- the jobs that were read are those that the shelf told
 pub jobs_are_held : (old between : ShelfState) (name bytes : List ℕ) (held read : JobFile) → Holds old.files name bytes → jobs_in name bytes ≡ Ok held → JobsAre old between name read
     → read ≡ held
-jobs_are_held old between name bytes held read holds is jobs =
-    let same : Ok read ≡ Ok held = sym jobs.is ∙ ap (jobs_in name) (sym (jobs.read.whole bytes holds)) ∙ is in cc
+jobs_are_held old between name bytes held read holds is jobs = file_is_held (jobs_in name) old between name bytes read held holds is jobs.read
 
 -- and so is the tree
 pub tree_still_held : (trees : Trees) (old between : ShelfState) (name : List ℕ) (held read : JobFile) (tree : KeyringMeaning) → read ≡ held → JobsAre old between name read
@@ -141,7 +129,7 @@ held_are_read trees old new name file tree holds stayed (inl unread) = no_read_f
 held_are_read trees old new name file tree holds stayed (inr none) =
     let same = jobs_are_held old none.between name holds.bytes file none.file holds.holds holds.is none.jobs in
     held_is_read trees none.between new none.file.keyring tree (tree_still_held trees old none.between name file none.file tree same none.jobs holds.keyring)
-    (subst (λ (n : ℕ). Stayed n new.faults) (sym none.jobs.read.faults) stayed) none.cause
+    (subst (λ (n : ℕ). Stayed n new.faults) (sym none.jobs.read.file.faults) stayed) none.cause
 
 zero_or_seven : (all : Bool) (code : ℕ) → code ≡ (if all then 0 else 7) → IsDoneOrMemory code ⊎ (code ≡ 7)
 zero_or_seven true code is = inl (inl is)
@@ -174,7 +162,7 @@ runs_what_is_held trees name before after unchanged code (inr fails) file tree h
 
 -- The failure of a generation is the output's, or want of memory.
 gen_failed : (seed size : ℕ) (before after : SinkState) (unwritten : Type 0) (code : ℕ) (report reported : SinkState) (failure : Failure)
-    → GenFails seed size before after unwritten failure → Reports failure code report reported → ((code ≡ 4) × WritesLineFront seed size before after) ⊎ ((code ≡ 5) × unwritten)
+    → GenFails seed size before after unwritten failure → Reports failure code report reported → ((code ≡ 4) × SinkFails before after (gen_line seed size)) ⊎ ((code ≡ 5) × unwritten)
 gen_failed seed size before after unwritten code report reported failures.NotRead fails said = absurd fails
 gen_failed seed size before after unwritten code report reported (failures.BadNumber option) fails said = absurd fails
 gen_failed seed size before after unwritten code report reported (failures.BadPair number) fails said = absurd fails
@@ -185,7 +173,7 @@ gen_failed seed size before after unwritten code report reported (failures.Outsi
 gen_failed seed size before after unwritten code report reported (failures.Refusal refusal) fails said = absurd fails
 gen_failed seed size before after unwritten code report reported failures.Memory fails said = inr (said.status, fails)
 
-fails_generating : (seed size : ℕ) (before after : SinkState) (unwritten : Type 0) (code : ℕ) → ((code ≡ 4) × WritesLineFront seed size before after) ⊎ ((code ≡ 5) × unwritten)
+fails_generating : (seed size : ℕ) (before after : SinkState) (unwritten : Type 0) (code : ℕ) → ((code ≡ 4) × SinkFails before after (gen_line seed size)) ⊎ ((code ≡ 5) × unwritten)
     → Generates seed size before after unwritten code
 fails_generating seed size before after unwritten code (inl (four, front)) = record {
   done = λ zero. absurd (omega (arith, four, zero));

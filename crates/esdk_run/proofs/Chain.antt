@@ -1,11 +1,12 @@
 -- The chain of managers over a tree: what it gives and what it finds is what the tree does.
-use Rattle.std.proofs.Common.{◌≡◌, ◌∙◌, List, ℕ, [], None, Some, Ok, Err, refl, sym, subst, arith, take, drop}
+use Rattle.std.proofs.Common.{◌≡◌, ◌∙◌, List, ℕ, [], length, None, Some, Ok, Err, refl, sym, subst, arith, take, drop}
 use Rattle.std.specs.Prelude.{filter, map, IfErr, IfSome, ⊤}
 use Rattle.std.specs.declared.option.Option.{Option}
 use Rattle.std.specs.declared.result.Result.{Result}
 use Rattle.esdk_fields.specs.declared.faults.Fault.{Fault}
 use Rattle.esdk_fields.specs.declared.faults.Fault.TheVariants as faults
 use Rattle.esdk_fields.specs.declared.refusals.Outside.TheVariants as outsides
+use Rattle.esdk_fields.specs.declared.refusals.Refusal.{Refusal}
 use Rattle.esdk_fields.specs.declared.refusals.Refusal.TheVariants as refusals
 use Rattle.esdk_args.specs.declared.pair_words.PairWord.{PairWord}
 use Rattle.esdk_args.specs.declared.request.EncryptWords.{EncryptWords}
@@ -34,7 +35,8 @@ use Rattle.esdk_encrypt.proofs.Telling.{SaysMore, ends_more}
 use Rattle.esdk_decrypt.specs.Decrypt.{Answering, answering_of}
 use Rattle.esdk_decrypt.proofs.Told.{Allows}
 use Rattle.esdk_run.specs.Decrypt.{TreeFinds, TreeFindsNone}
-use Rattle.esdk_run.specs.Encrypt.{TreeGives, encrypt_asked, refusal_asked}
+use Rattle.esdk_run.specs.Encrypt.{encrypt_asked, refusal_asked, request_asked}
+use Rattle.esdk_run.specs.Giving.{TreeGives, refusal_over}
 use Rattle.esdk_run.specs.Pairs.{required_in}
 use Rattle.esdk_run.specs.Trees.{TreeGoes}
 
@@ -74,27 +76,35 @@ request_of context = record { context = context; required = []; declared = None 
 -- it refuses what the words are refused for
 chain_refusal : (asked : EncryptWords) (context : List KeyValue) (tree : KeyringMeaning)
     → request_refusal (chain tree (required_in asked.pairs)).meaning context ≡ refusal_asked asked context tree
-unfolding request_refusal refusal_asked
+unfolding request_refusal refusal_asked refusal_over
 chain_refusal asked context tree = refl
 
 -- ---- materials to encrypt with
 
-chain_gives : (asked : EncryptWords) (context : List KeyValue) (tree : KeyringMeaning) (random : List ℕ) (m : EncMaterialsValue)
-    → GivesMaterials (chain tree (required_in asked.pairs)) (request_of context) random m → TreeGives asked context tree random m
-chain_gives asked context tree random m given =
-    let is : (chain tree (required_in asked.pairs)).exact = chain_is_exact tree (required_in asked.pairs) in
-    let direct : m.served ≡ Direct = given.plain refl in
-    let drawn : AreDrawn tree.wraps (default_tells tree) random m = given.fresh refl (subst (λ (s : Served). IsNew s) (sym direct) tt) in
+-- what a manager gives that draws for the tree is what the tree gives
+pub gives_drawn : (refusal : Option Refusal) (tree : KeyringMeaning) (request : EncRequestValue) (random : List ℕ) (m : EncMaterialsValue)
+    → refusal ≡ None → m.context ≡ request.context → m.required ≡ request.required → length m.entries ≡ tree.wraps → m.served ≡ Direct
+    → (IsNew m.served → AreDrawn tree.wraps (default_tells tree) random m) → TreeGives refusal tree request random m
+gives_drawn refusal tree request random m unrefused whole required count direct fresh =
+    let drawn : AreDrawn tree.wraps (default_tells tree) random m = fresh (subst (λ (s : Served). IsNew s) (sym direct) tt) in
     record {
-      unrefused = sym (chain_refusal asked context tree) ∙ given.unrefused is;
-      whole = given.context;
-      required = given.demanded is ∙ required_alone asked.pairs;
+      unrefused = unrefused;
+      whole = whole;
+      required = required;
       key = drawn.key;
-      count = given.count;
-      wrapped = where_some tree.keys (λ keys. m.entries ≡ made keys context (take 32 random) (ivs_of tree.wraps (drop 32 random)))
-          (λ keys told. drawn.entries keys told ∙ (λ i. made keys (given.context i) (drawn.key i) (ivs_of tree.wraps (drop 32 random))));
+      count = count;
+      wrapped = where_some tree.keys (λ keys. m.entries ≡ made keys request.context (take 32 random) (ivs_of tree.wraps (drop 32 random)))
+          (λ keys told. drawn.entries keys told ∙ (λ i. made keys (whole i) (drawn.key i) (ivs_of tree.wraps (drop 32 random))));
       served = direct;
     }
+
+chain_gives : (asked : EncryptWords) (context : List KeyValue) (tree : KeyringMeaning) (random : List ℕ) (m : EncMaterialsValue)
+    → GivesMaterials (chain tree (required_in asked.pairs)) (request_of context) random m
+    → TreeGives (refusal_asked asked context tree) tree (request_asked asked context) random m
+chain_gives asked context tree random m given =
+    let is : (chain tree (required_in asked.pairs)).exact = chain_is_exact tree (required_in asked.pairs) in
+    gives_drawn (refusal_asked asked context tree) tree (request_asked asked context) random m (sym (chain_refusal asked context tree) ∙ given.unrefused is)
+    given.context (given.demanded is ∙ required_alone asked.pairs) given.count (given.plain refl) (given.fresh refl)
 
 chain_gives_none : (asked : EncryptWords) (context : List KeyValue) (tree left : KeyringMeaning) (keys : List (List ℕ)) (error : ManagerError)
     → GivesNone (chain tree (required_in asked.pairs)) (chain left keys) (request_of context) error → NoneFor (refusal_asked asked context tree) tree.faults left.faults error

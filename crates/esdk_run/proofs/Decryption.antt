@@ -36,7 +36,7 @@ use Rattle.esdk_run.proofs.Given.{one_context}
 use Rattle.esdk_run.proofs.Keys.{reader_allows}
 use Rattle.esdk_run.proofs.Reading.{Ending, says_what_is_read}
 use Rattle.esdk_run.proofs.Statuses.{fault_status, memory_status, not_done}
-use Rattle.esdk_run.proofs.TreesBack.{HadTree, had_tree, told_then}
+use Rattle.esdk_run.proofs.TreesBack.{HadTree, had_tree, if_none_failed, told_then}
 use Rattle.esdk_run.proofs.Unarmouring.{of_told}
 use Rattle.esdk_run.proofs.UnarmouredReaders.{decrypts_as_allowed, ends_as_allowed}
 use Rattle.esdk_run.proofs.UnarmouredTelling.{armoured_bytes, text_fault, text_memory, text_seen, written_text}
@@ -61,14 +61,9 @@ over_reader : (So : Type 0) (trees : Trees) (asked : DecryptWords) (before after
 over_reader So trees asked before after unchanged code given keys runs reads so =
     let had : HadTree trees asked before after unchanged.output code =
     had_tree trees asked before after unchanged code reads.left reads.kept runs in
-    record {
-      left = had.left;
-      kept = had.has.kept;
-      is = record { tree = had.tree; file = had.has.file; goes = had.has.goes };
-      so = λ stayed.
-          so (reader_ends asked before after unchanged.output code had.given given had.tree had.left keys (one_context asked.pairs had.given given had.has.given.made reads.pairs)
-          (told_then trees had.tree had.left reads.left keys had.has.goes had.has.kept reads.kept reads.told) stayed had.ended);
-    }
+    if_none_failed trees _ _ _ _ _ had.tree had.left So had.has
+    (λ stayed. so (reader_ends asked before after unchanged.output code had.given given had.tree had.left keys (one_context asked.pairs had.given given had.has.given.made reads.pairs)
+    (told_then trees had.tree had.left reads.left keys had.has.goes had.has.kept reads.kept reads.told) stayed had.ended))
 
 -- ---- what is read of the bytes that were taken
 

@@ -33,7 +33,8 @@ use Rattle.esdk_run.specs.Batch.{HasJobs}
 use Rattle.esdk_run.specs.EachJob.{DoesJob, DoesJobs, DoesWhatItMust, MustOpen, MustSeal, NoJobFails, ReadsSo, WorksIfItMust, reader_for}
 use Rattle.esdk_run.specs.Objects.{Objects, Unchanged}
 use Rattle.esdk_run.specs.Run.{BatchRuns, RunsAllJobs}
-use Rattle.esdk_run.specs.Serving.{managing_over, refusal_over}
+use Rattle.esdk_run.specs.Giving.{refusal_over}
+use Rattle.esdk_run.specs.Serving.{managing_over}
 use Rattle.esdk_run.specs.Told.{HoldsTree}
 use Rattle.esdk_run.specs.Trees.{Trees}
 use Rattle.esdk_run.proofs.Batches.{jobs_are_held, runs_what_is_held, tree_still_held}
@@ -155,14 +156,14 @@ read_tree_is_held trees name old new read held tree held_tree same holds has =
 
 -- no read of the two files failed
 read_faults : (trees : Trees) (name : List ℕ) (old new : ShelfState) (read : JobFile) (tree : KeyringMeaning) → HasJobs trees name old new read tree → new.faults ≡ old.faults
-read_faults trees name old new read tree has = has.keyring.file.faults ∙ has.jobs.read.faults
+read_faults trees name old new read tree has = has.keyring.file.faults ∙ has.jobs.read.file.faults
 
 jobs_done : (trees : Trees) (name : List ℕ) (before after : Objects) (code : ℕ) (runs : RunsAllJobs trees name before after code) → NoJobFails trees runs.runs.tree before after
     → DoesJobs runs.runs.file.cache runs.runs.tree before.shelf.files runs.runs.file.jobs before.output after.output
 jobs_done trees name before after code runs nothing =
     let all = runs.runs in
     let ran = all.runs.runs in
-    let kept = read_jobs_keep name all.has.jobs.bytes all.file all.has.jobs.is in
+    let kept = read_jobs_keep name all.has.jobs.read.bytes all.file all.has.jobs.read.is in
     let stayed : Stayed all.tree.faults all.left.faults = nothing.opening all.left all.kept in
     let reading : Stayed all.read.faults after.shelf.faults =
     subst (λ (n : ℕ). Stayed n after.shelf.faults) (sym (read_faults trees name before.shelf all.read all.file all.tree all.has)) nothing.reading in

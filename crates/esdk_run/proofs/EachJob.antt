@@ -207,7 +207,7 @@ all_judged trees name before after code runs =
       judged = λ keys told stayed steady.
           subst (λ (files : Option Files). AllZip (IsReadBy keys files after.shelf.files) runs.runs.file.jobs runs.lines) has.stay
           (each_read runs.runs.file.cache runs.runs.tree runs.runs.left keys runs.runs.read.files after.shelf.files runs.runs.file.jobs ran.draws runs.lines steady told stayed
-          (read_jobs_keep name has.jobs.bytes runs.runs.file has.jobs.is).given ran.jobs);
+          (read_jobs_keep name has.jobs.read.bytes runs.runs.file has.jobs.read.is).given ran.jobs);
     }
 
 pub says_each_judgement : (trees : Trees) (name : List ℕ) (before after : Objects) (unchanged : Unchanged) (code : ℕ)

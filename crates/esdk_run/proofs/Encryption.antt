@@ -25,6 +25,7 @@ use Rattle.esdk_report.specs.declared.failure.Failure.TheVariants as failures
 use Rattle.esdk_run.specs.ArmouredMessage.{form_of, output_gains}
 use Rattle.esdk_run.specs.Encrypt.{EncryptFails, encrypt_asked, refusal_asked, run_writer}
 use Rattle.esdk_run.specs.Failures.{encryption_failure}
+use Rattle.esdk_run.specs.Giving.{refusal_over}
 use Rattle.esdk_run.specs.Objects.{Objects, Unchanged, same_streams}
 use Rattle.esdk_run.specs.Pairs.{context_in, required_in}
 use Rattle.esdk_report.specs.Report.{Reports}
@@ -35,7 +36,7 @@ use Rattle.esdk_run.proofs.Files.{held_is_read, held_is_taken}
 use Rattle.esdk_run.proofs.Given.{one_context, pairs_not_refused}
 use Rattle.esdk_run.proofs.Keys.{told_says_more, tree_grants}
 use Rattle.esdk_run.proofs.Statuses.{memory_status, not_done}
-use Rattle.esdk_run.proofs.TreesBack.{gives_held, left_is, none_is_some, one_left, told_then}
+use Rattle.esdk_run.proofs.TreesBack.{gives_held, if_none_failed, left_is, none_is_some, one_left, told_then}
 
 -- ---- how the encryption ended, where a tree is given back
 
@@ -126,7 +127,7 @@ encrypt_comes_back trees asked before after unchanged code runs = record {
 -- what is left of a tree refuses what it refused
 same_refusal : (asked : EncryptWords) (context : List KeyValue) (tree left : KeyringMeaning) → left.refuses_none ≡ tree.refuses_none
     → refusal_asked asked context tree ≡ refusal_asked asked context left
-unfolding refusal_asked
+unfolding refusal_asked refusal_over
 same_refusal asked context tree left same =
     ap (λ (r : Option RingRefusal). first_some (λ o. o) (required_absent context (required_in asked.pairs) ∷ reserved_used context ∷ option_map refusal_named r ∷ [])) (sym same)
 
@@ -169,12 +170,8 @@ encrypts_what_fits trees asked before after unchanged code runs context left tex
     subst (λ (c : List KeyValue). MustEncrypt asked before after c had.left text) is
     (must_of_left had.left (one_left trees left had.left kept had.has.kept)
     (record { given = given; unrefused = unrefused; allowed = allowed; fits = fits; nothing = nothing; drawing = drawing })) in
-    record {
-      left = had.left;
-      kept = had.has.kept;
-      is = record { tree = had.tree; file = had.has.file; goes = had.has.goes };
-      so = λ stayed. memory_ends trees asked before after (same_streams unchanged) code had.context had.tree had.left text had.has must stayed had.ended;
-    }
+    if_none_failed trees _ _ _ _ _ had.tree had.left (IsDoneOrMemory code) had.has
+    (λ stayed. memory_ends trees asked before after (same_streams unchanged) code had.context had.tree had.left text had.has must stayed had.ended)
 
 -- ---- once it is done, the message was written
 

@@ -32,21 +32,22 @@ use Rattle.whole_input.specs.Pieces.{most_piece}
 use Rattle.esdk_report.specs.Report.{Reports}
 use Rattle.esdk_report.specs.declared.failure.Failure.{Failure}
 use Rattle.esdk_report.specs.declared.failure.Failure.TheVariants as failures
-use Rattle.esdk_run.specs.Extract.{ExtractFails, ExtractionFails, HasTreeFor, ReadsOfFile, as_decryption, extract_asked, extract_reader, no_limits, range_asked}
-use Rattle.esdk_run.specs.ExtractTold.{ComesBackBefore, ExtractsOfContent, ExtractsSoundRanges, GainsRange, NamesExtractFault, NothingFailsOf, ReadsFile, ReadsNoMore, ReadsTaken, SaysWhatItExtracts, WritesOfContent, extracted_by}
+use Rattle.esdk_batch.specs.Answering.{no_limits}
+use Rattle.esdk_run.specs.Extract.{ExtractFails, ExtractionFails, HasTreeFor, ReadsOfFile, as_decryption, extract_asked, extract_reader, range_asked}
+use Rattle.esdk_run.specs.ExtractTold.{ExtractsOfContent, ExtractsSoundRanges, GainsRange, NamesExtractFault, NothingFailsOf, ReadsFile, ReadsNoMore, ReadsTaken, SaysWhatItExtracts, WritesOfContent, extracted_by}
 use Rattle.esdk_run.specs.Failures.{extraction_failure}
 use Rattle.esdk_run.specs.Objects.{Objects, Unchanged}
 use Rattle.esdk_run.specs.Pairs.{context_in}
 use Rattle.esdk_run.specs.Prepared.{IsNotPrepared}
 use Rattle.esdk_run.specs.Run.{ExtractRuns, IsDone}
-use Rattle.esdk_run.specs.Told.{GivesTree, HoldsTree, IfNoneFailed, IsDoneOrMemory}
+use Rattle.esdk_run.specs.Told.{ComesBackBefore, GivesTree, HoldsTree, IfNoneFailedBefore, IsDoneOrMemory}
 use Rattle.esdk_run.specs.Trees.{IsUntouched, Trees}
 use Rattle.esdk_run.proofs.Files.{held_is_read, held_is_taken, no_read_fails}
 use Rattle.esdk_run.proofs.Given.{one_context, pairs_not_refused}
 use Rattle.esdk_run.proofs.Keys.{reader_allows}
 use Rattle.esdk_run.proofs.Preparing.{by_cause}
 use Rattle.esdk_run.proofs.Statuses.{fault_status, memory_status, not_done}
-use Rattle.esdk_run.proofs.TreesBack.{gives_held, left_is, none_is_some, told_then}
+use Rattle.esdk_run.proofs.TreesBack.{gives_held, if_none_failed, left_is, none_is_some, told_then}
 
 -- ---- the course of a run
 
@@ -134,7 +135,7 @@ held_range trees asked before after unchanged code (failures.Refusal refusal) co
 held_range trees asked before after unchanged code failures.Memory context tree is holds stayed fails said = inl (memory_status failures.Memory code before.report after.report refl said)
 
 pub extract_comes_back : (trees : Trees) (asked : ExtractWords) (before after : Objects) (unchanged : Unchanged) (code : ℕ) → ExtractRuns trees asked before after unchanged code
-    → ComesBackBefore trees asked before.shelf after.shelf code
+    → ComesBackBefore trees asked.pairs asked.keyring before.shelf after.shelf code
 extract_comes_back trees asked before after unchanged code runs = record {
   read = λ left kept.
       let had = had_range trees asked before after unchanged code left kept runs in
@@ -161,20 +162,15 @@ reader_ended asked middle before after unwritten code pairs given tree left keys
 over_reader : (So : Type 0) (trees : Trees) (asked : ExtractWords) (before after : Objects) (unchanged : Unchanged) (code : ℕ) (given : List KeyValue) (keys : List WrapKeyValue) (bytes : List ℕ)
     → ExtractRuns trees asked before after unchanged code → ReadsFile trees asked before given keys bytes
     → ((middle : ShelfState) → middle.files ≡ before.shelf.files → middle.faults ≡ before.shelf.faults → middle.given ≤ before.shelf.given + most_file + most_piece → Ended (asked_by (extract_reader asked given keys)) asked middle before after unchanged.output code → So)
-    → (middle : ShelfState) × IfNoneFailed trees asked.keyring before.shelf middle So
+    → IfNoneFailedBefore trees asked.keyring before.shelf So
 over_reader So trees asked before after unchanged code given keys bytes runs reads so =
     let had = had_range trees asked before after unchanged code reads.reads.left reads.reads.kept runs in
     let t = had.tree_for in (
       t.middle,
-      record {
-        left = t.left;
-        kept = t.has.kept;
-        is = record { tree = t.tree; file = t.has.file; goes = t.has.goes };
-        so = λ stayed.
-            so t.middle t.files t.has.file.file.faults (omega (arith, t.has.file.file.most, t.has.file.file.few))
-            (reader_ended asked t.middle before after unchanged.output code t.given given t.tree t.left keys (one_context asked.pairs t.given given t.has.given.made reads.reads.pairs)
-            (told_then trees t.tree t.left reads.reads.left keys t.has.goes t.has.kept reads.reads.kept reads.reads.told) stayed had.ended);
-      },
+      if_none_failed trees _ _ _ _ _ t.tree t.left So t.has
+          (λ stayed. so t.middle t.files t.has.file.file.faults (omega (arith, t.has.file.file.most, t.has.file.file.few))
+          (reader_ended asked t.middle before after unchanged.output code t.given given t.tree t.left keys (one_context asked.pairs t.given given t.has.given.made reads.reads.pairs)
+          (told_then trees t.tree t.left reads.reads.left keys t.has.goes t.has.kept reads.reads.kept reads.reads.told) stayed had.ended)),
     )
 
 -- ---- what is extracted
@@ -320,15 +316,20 @@ pub extracts_of_content : (trees : Trees) (asked : ExtractWords) (before after :
     → ExtractsOfContent trees asked before after code
 extracts_of_content trees asked before after unchanged code runs given keys bytes reads fits whole =
     let said = says_what_it_extracts trees asked before after unchanged code runs given keys bytes
-    reads in (
+    reads in
+    let none = said.1.2 in (
       said.0,
-      record {
-        left = said.1.left;
-        kept = said.1.kept;
-        is = said.1.is;
-        so = λ stayed. of_content (extract_reader asked given keys) asked bytes before after code
-            fits whole (said.1.so stayed);
-      },
+      (
+        said.1.0,
+        said.1.1,
+        record {
+          left = none.left;
+          kept = none.kept;
+          goes = none.goes;
+          so = λ stayed. of_content (extract_reader asked given keys) asked bytes before after code
+              fits whole (none.so stayed);
+        },
+      ),
     )
 
 -- ---- how much is read

@@ -1,5 +1,5 @@
--- The tree that a told keyring file holds is the tree that was read.
-use Rattle.std.proofs.Common.{◌≡◌, ◌∙◌, ℕ, List, [], ◌∷◌, true, Some, None, Ok, Err, inl, inr, sym, ap, arith}
+-- What a told file holds is what was read.
+use Rattle.std.proofs.Common.{◌≡◌, ◌≤◌, ◌∙◌, ℕ, List, [], ◌∷◌, length, true, Some, None, Ok, Err, inl, inr, sym, ap, arith}
 use Rattle.std.specs.declared.option.Option.{Option}
 use Rattle.std.specs.declared.result.Result.{Result}
 use Rattle.esdk_fields.specs.Counts.{Stayed}
@@ -7,18 +7,21 @@ use Rattle.esdk_base.specs.Shelf.{Files, Holds, is_missing}
 use Rattle.esdk_base.specs.Streams.{FailsToRead, ShelfState}
 use Rattle.esdk_fields.specs.declared.refusals.FileRefusal.{FileRefusal}
 use Rattle.keyring_trait.specs.Keyring.{KeyringMeaning}
-use Rattle.whole_input.specs.File.{IsUnread}
-use Rattle.esdk_run.specs.FileReading.{FileIsRefused}
+use Rattle.whole_input.specs.File.{IsUnread, most_file}
+use Rattle.esdk_run.specs.FileReading.{FileIs, FileIsRefused}
 use Rattle.esdk_run.specs.Told.{HoldsTree}
 use Rattle.esdk_run.specs.Trees.{TreeIs, Trees}
 
-one_tree : (t u : KeyringMeaning) (read : Result (List KeyringMeaning) FileRefusal) → read ≡ Ok (t ∷ []) → read ≡ Ok (u ∷ []) → t ≡ u
-one_tree t u read is_t is_u = let same : Ok (t ∷ []) ≡ Ok (u ∷ []) = sym is_t ∙ is_u in cc
+-- what was read of a file is what it holds
+pub file_is_held : {A : Type 0} (read : List ℕ → Result A FileRefusal) (old new : ShelfState) (name bytes : List ℕ) (value held : A) → Holds old.files name bytes → read bytes ≡ Ok held
+    → FileIs read old new name value → value ≡ held
+file_is_held {A = A} read old new name bytes value held holds is file =
+    let same : Ok value ≡ Ok held = sym file.is ∙ ap read (sym (file.file.whole bytes holds)) ∙ is in cc
 
 -- the tree that was read
 pub tree_is_held : (trees : Trees) (old new : ShelfState) (name : List ℕ) (read held : KeyringMeaning) → HoldsTree trees old.files name held → TreeIs trees.read old new name read → read ≡ held
 tree_is_held trees old new name read held holds is =
-    one_tree read held (trees.read is.bytes) is.is (ap trees.read (sym (is.file.whole holds.bytes holds.holds)) ∙ holds.is)
+    let one : read ∷ [] ≡ held ∷ [] = file_is_held trees.read old new name holds.bytes (read ∷ []) (held ∷ []) holds.holds holds.is is in cc
 
 -- a held file is there
 held_is_there : (files : Option Files) (name bytes : List ℕ) → Holds files name bytes → is_missing files name ≡ true → ⊥
@@ -35,10 +38,13 @@ pub held_is_read : (trees : Trees) (old new : ShelfState) (name : List ℕ) (tre
 held_is_read trees old new name tree held stayed unread = no_read_fails old new name held.bytes held.holds stayed unread.cause
 
 -- it isn't refused
+pub not_refused : {A : Type 0} (read : List ℕ → Result A FileRefusal) (old new : ShelfState) (name bytes : List ℕ) (value : A) (refusal : FileRefusal) → Holds old.files name bytes
+    → length bytes ≤ most_file → read bytes ≡ Ok value → FileIsRefused read old new name refusal → ⊥
+not_refused read old new name bytes value refusal holds few is (inl long) = absurd (omega (arith, few, long.1.many bytes holds))
+not_refused read old new name bytes value refusal holds few is (inr refused) =
+    let same : Ok value ≡ Err refusal = sym is ∙ ap read (refused.file.whole bytes holds) ∙ refused.is in absurd cc
+
 pub held_is_taken : (trees : Trees) (old new : ShelfState) (name : List ℕ) (tree : KeyringMeaning) (refusal : FileRefusal) → HoldsTree trees old.files name tree
     → FileIsRefused trees.read old new name refusal → ⊥
-held_is_taken trees old new name tree refusal held (inl long) = absurd (omega (arith, held.few, long.1.many held.bytes held.holds))
-held_is_taken trees old new name tree refusal held (inr refused) =
-    let same : Ok (tree ∷ []) ≡ trees.read refused.bytes = sym held.is ∙ ap trees.read (refused.file.whole held.bytes held.holds) in
-    let read : Ok (tree ∷ []) ≡ Err refusal = same ∙ refused.is in
-    absurd cc
+held_is_taken trees old new name tree refusal held refused =
+    not_refused trees.read old new name held.bytes (tree ∷ []) refusal held.holds held.few held.is refused

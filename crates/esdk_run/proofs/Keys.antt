@@ -14,7 +14,7 @@ use Rattle.keyring_trait.specs.declared.manager_errors.ManagerError.{ManagerErro
 use Rattle.keyring_trait.specs.declared.manager_errors.ManagerError.TheVariants as managers
 use Rattle.keyring_trait.specs.Keyring.{KeyringMeaning, OpensWith}
 use Rattle.keyring_trait.specs.Materials.{DecMaterialsValue, EncMaterialsValue}
-use Rattle.keyring_trait.specs.Requests.{DecRequestValue}
+use Rattle.keyring_trait.specs.Requests.{DecRequestValue, EncRequestValue}
 use Rattle.keyring_trait.specs.Unlocking.{Unlocks, unlock}
 use Rattle.keyring_trait.specs.Wrapping.{WrapKeyValue, active, ivs_of, made, unwrapped}
 use Rattle.esdk_encrypt.specs.Told.{NoneFor, asked_by, materials_of}
@@ -24,7 +24,8 @@ use Rattle.esdk_decrypt.specs.Told.{answering_by}
 use Rattle.esdk_decrypt.specs.Told.{NoneFor as NoneRead}
 use Rattle.esdk_decrypt.proofs.Told.{Allows, offence_unlocks, sound_unlocks}
 use Rattle.esdk_run.specs.Decrypt.{TreeFinds, TreeFindsNone, limits_of, reader_of}
-use Rattle.esdk_run.specs.Encrypt.{TreeGives, encrypt_asked, refusal_asked, run_writer}
+use Rattle.esdk_run.specs.Encrypt.{encrypt_asked, refusal_asked, request_asked, run_writer}
+use Rattle.esdk_run.specs.Giving.{TreeGives}
 use Rattle.esdk_run.specs.Pairs.{required_in}
 use Rattle.esdk_run.specs.Trees.{IsLawful}
 
@@ -34,22 +35,23 @@ pub keys_wrap : (tree : KeyringMeaning) (keys : List WrapKeyValue) → IsLawful 
 keys_wrap tree keys lawful told = sym (subst (λ (o : Option (List WrapKeyValue)). IfSome o (λ ws. length (active ws) ≡ tree.wraps)) told lawful.told)
 
 -- its materials are those of the keys
-materials_told : (asked : EncryptWords) (context : List KeyValue) (tree : KeyringMeaning) (keys : List WrapKeyValue) (random : List ℕ) (m : EncMaterialsValue) → IsLawful tree
-    → tree.keys ≡ Some keys → TreeGives asked context tree random m → m ≡ materials_of (run_writer asked context keys) random
-materials_told asked context tree keys random m lawful told given =
+pub materials_told : (refusal : Option Refusal) (tree : KeyringMeaning) (keys : List WrapKeyValue) (request : EncRequestValue) (size : ℕ) (most : Option ℕ) (random : List ℕ) (m : EncMaterialsValue)
+    → IsLawful tree → tree.keys ≡ Some keys → TreeGives refusal tree request random m
+    → m ≡ materials_of (record { keys = keys; context = request.context; required = request.required; size = size; max_keys = most }) random
+materials_told refusal tree keys request size most random m lawful told given =
     let key : List ℕ = take 32 random in
     let ivs : List ℕ = drop 32 random in
-    let wrapped : m.entries ≡ made keys context key (ivs_of tree.wraps ivs) =
-    subst (λ (o : Option (List WrapKeyValue)). IfSome o (λ ws. m.entries ≡ made ws context key (ivs_of tree.wraps ivs))) told given.wrapped in
-    let entries : m.entries ≡ made keys context key (ivs_of (length (active keys)) ivs) =
-    wrapped ∙ ap (λ (n : ℕ). made keys context key (ivs_of n ivs)) (keys_wrap tree keys lawful told) in
+    let wrapped : m.entries ≡ made keys request.context key (ivs_of tree.wraps ivs) =
+    subst (λ (o : Option (List WrapKeyValue)). IfSome o (λ ws. m.entries ≡ made ws request.context key (ivs_of tree.wraps ivs))) told given.wrapped in
+    let entries : m.entries ≡ made keys request.context key (ivs_of (length (active keys)) ivs) =
+    wrapped ∙ ap (λ (n : ℕ). made keys request.context key (ivs_of n ivs)) (keys_wrap tree keys lawful told) in
     λ i. record { context = given.whole i; required = given.required i; key = given.key i; entries = entries i; served = given.served i }
 
 pub told_says_more : (asked : EncryptWords) (context : List KeyValue) (tree left : KeyringMeaning) (keys : List WrapKeyValue) → IsLawful tree → tree.keys ≡ Some keys
     → SaysMore (encrypt_asked asked context tree left) (asked_by (run_writer asked context keys) (refusal_asked asked context tree) tree.faults left.faults)
 told_says_more asked context tree left keys lawful told = record {
   wraps = keys_wrap tree keys lawful told;
-  gives = λ random m given. (given.unrefused, materials_told asked context tree keys random m lawful told given);
+  gives = λ random m given. (given.unrefused, materials_told (refusal_asked asked context tree) tree keys (request_asked asked context) asked.frame asked.max_keys random m lawful told given);
   gives_none = λ error cause. cause;
   size = refl;
   max_keys = refl;

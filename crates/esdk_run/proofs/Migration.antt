@@ -1,34 +1,21 @@
 -- A keyring file that the shelf tells is written in version 2.
-use Rattle.std.proofs.Common.{◌≡◌, ◌≤◌, ◌∙◌, ℕ, List, Ok, Err, length, inl, inr, refl, sym, ap, arith}
-use Rattle.std.specs.declared.result.Result.{Result}
+use Rattle.std.proofs.Common.{◌≡◌, ◌≤◌, ℕ, List, Ok, length, inl, inr, refl, arith}
 use Rattle.serde_json.specs.Data.{Data}
 use Rattle.esdk_args.specs.declared.request.MigrateWords.{MigrateWords}
 use Rattle.esdk_base.specs.Shelf.{Holds}
 use Rattle.esdk_base.specs.Streams.{ShelfState, SinkState}
 use Rattle.esdk_fields.specs.Counts.{Stayed}
-use Rattle.esdk_fields.specs.declared.refusals.FileRefusal.{FileRefusal}
 use Rattle.esdk_fields.specs.declared.refusals.Outside.TheVariants as outsides
 use Rattle.whole_input.specs.File.{most_file}
 use Rattle.esdk_report.specs.declared.failure.Failure.{Failure}
 use Rattle.esdk_report.specs.declared.failure.Failure.TheVariants as failures
-use Rattle.esdk_run.specs.FileReading.{FileIsRefused}
 use Rattle.esdk_run.specs.Migrate.{MigrateFails, value_asked}
 use Rattle.esdk_report.specs.Report.{Reports}
 use Rattle.esdk_run.specs.Objects.{Objects, Unchanged}
 use Rattle.esdk_run.specs.Run.{MigrateRuns}
 use Rattle.esdk_run.specs.Told.{IsDoneOrMemory, MigratesWhatIsHeld}
-use Rattle.esdk_run.proofs.Files.{no_read_fails}
+use Rattle.esdk_run.proofs.Files.{no_read_fails, not_refused}
 use Rattle.esdk_run.proofs.Statuses.{memory_status}
-
-no_refusal : (read : Result Data FileRefusal) (value : Data) (refusal : FileRefusal) → read ≡ Ok value → read ≡ Err refusal → ⊥
-no_refusal read value refusal is refused = let same : Ok value ≡ Err refusal = sym is ∙ refused in cc
-
--- a file with a value isn't refused
-not_refused : (asked : MigrateWords) (old new : ShelfState) (bytes : List ℕ) (value : Data) (refusal : FileRefusal) → Holds old.files asked.keyring bytes → length bytes ≤ most_file
-    → value_asked asked bytes ≡ Ok value → FileIsRefused (value_asked asked) old new asked.keyring refusal → ⊥
-not_refused asked old new bytes value refusal holds few is (inl long) = absurd (omega (arith, few, long.1.many bytes holds))
-not_refused asked old new bytes value refusal holds few is (inr refused) =
-    no_refusal (value_asked asked bytes) value refusal is (ap (value_asked asked) (refused.file.whole bytes holds) ∙ refused.is)
 
 -- what may end its migration
 fails_held : (asked : MigrateWords) (old new : ShelfState) (before after : SinkState) (unwritten : Type 0) (code : ℕ) (report reported : SinkState) (bytes : List ℕ) (value : Data) (failure : Failure)
@@ -40,9 +27,9 @@ fails_held asked old new before after unwritten code report reported bytes value
 fails_held asked old new before after unwritten code report reported bytes value (failures.BadPair number) holds few is reading writing fails said = absurd fails.0
 fails_held asked old new before after unwritten code report reported bytes value (failures.Fault fault) holds few is reading writing fails said = absurd fails.0
 fails_held asked old new before after unwritten code report reported bytes value (failures.File refusal) holds few is reading writing fails said =
-    absurd (not_refused asked old new bytes value refusal holds few is fails.0)
+    absurd (not_refused (value_asked asked) old new asked.keyring bytes value refusal holds few is fails.0)
 fails_held asked old new before after unwritten code report reported bytes value (failures.Outside outsides.SinkFault) holds few is reading writing fails said =
-    absurd (omega (arith, writing, fails.rose))
+    absurd (omega (arith, writing, fails.failed.rose))
 fails_held asked old new before after unwritten code report reported bytes value (failures.Outside outsides.ShelfFault) holds few is reading writing fails said =
     absurd (no_read_fails old new asked.keyring bytes holds reading fails.0.cause)
 fails_held asked old new before after unwritten code report reported bytes value (failures.Outside outside) holds few is reading writing fails said = absurd fails.0

@@ -25,16 +25,14 @@ use Rattle.keyring_trait.specs.Keyring.{KeyringMeaning}
 use Rattle.keyring_trait.specs.Manager.{Went}
 use Rattle.multi_keyring.specs.declared.tree.Node.{Node}
 use Rattle.multi_keyring.specs.Tree.{tree_meaning}
-use Rattle.whole_input.specs.declared.file.FileError.{FileError}
 use Rattle.whole_input.specs.declared.file.FileError.TheVariants as files
-use Rattle.whole_input.specs.File.{FileCause}
 use Rattle.esdk_report.specs.declared.failure.Failure.{Failure}
 use Rattle.esdk_report.specs.declared.failure.Failure.TheVariants as failures
 use Rattle.esdk_run.specs.Batch.{jobs_in}
 use Rattle.esdk_run.specs.Decrypt.{DecryptFails}
 use Rattle.esdk_run.specs.Encrypt.{EncryptFails}
-use Rattle.esdk_run.specs.Failures.{file_failure, pairs_failure, tree_failure}
-use Rattle.esdk_run.specs.FileReading.{FileFails, ReadCause}
+use Rattle.esdk_run.specs.Failures.{pairs_failure, tree_failure}
+use Rattle.esdk_run.specs.FileReading.{FileFails, IsUntaken, ReadCause}
 use Rattle.esdk_run.specs.Migrate.{value_asked}
 use Rattle.esdk_run.specs.Objects.{Objects, Unchanged, same_streams}
 use Rattle.esdk_run.specs.Pairs.{GivesContext, RefusesPairs, RefusesWordPairs, context_in}
@@ -46,13 +44,12 @@ use Rattle.esdk_run.proofs.Chain.{chain, chain_goes}
 
 -- a file that wasn't taken
 pub file_not_taken : {A : Type 0} (read : List ℕ → Result A FileRefusal) (old new : ShelfState) (name : List ℕ)
-    (error : FileError) (failure : Failure) → failure ≡ file_failure error → FileCause old new name error
-    → FileFails read old new name failure
-file_not_taken read old new name files.Shelf failure is cause =
+    (failure : Failure) → IsUntaken old new name failure → FileFails read old new name failure
+file_not_taken read old new name failure (files.Shelf, is, cause) =
     subst (λ (f : Failure). FileFails read old new name f) (sym is) cause
-file_not_taken read old new name files.TooLong failure is cause =
+file_not_taken read old new name failure (files.TooLong, is, cause) =
     subst (λ (f : Failure). FileFails read old new name f) (sym is) (inl (refl, cause))
-file_not_taken read old new name files.Memory failure is cause =
+file_not_taken read old new name failure (files.Memory, is, cause) =
     subst (λ (f : Failure). FileFails read old new name f) (sym is) tt
 
 -- a keyring file that is refused

@@ -9,18 +9,18 @@ use Rattle.esdk_base.specs.Streams.{SinkState, SourceState}
 use Rattle.esdk_report.specs.Report.{Reports}
 use Rattle.esdk_report.specs.declared.failure.Failure.TheVariants as failures
 use Rattle.esdk_run.specs.Failures.{words_failure}
-use Rattle.esdk_run.specs.Objects.{Objects, Unchanged, same_streams}
+use Rattle.esdk_run.specs.Objects.{Objects, Unchanged, same_streams, without_entropy}
 use Rattle.esdk_run.specs.Promises.{Promises, Ticks, Words}
 use Rattle.esdk_run.specs.Run.{RunsAs}
 use Rattle.esdk_run.specs.Trees.{IsUntouched, Trees}
 use Rattle.esdk_run.specs.UnarmouredList.{ListEndsAs}
-use Rattle.esdk_run.proofs.Asked.{audited_asked, comes_back, done_asked, encrypt_asked, extract_asked, judgement_asked, judgements_asked, jobs_asked, limits_asked, line_asked, migration_asked, openers_asked, others_asked, reads_asked, reseal_asked, round_trip_asked, whole_asked}
+use Rattle.esdk_run.proofs.Asked.{audited_asked, decrypt_asked, done_asked, encrypt_asked, extract_asked, judgement_asked, judgements_asked, jobs_asked, limits_asked, line_asked, migration_asked, openers_asked, others_asked, reads_asked, reseal_asked, round_trip_asked, whole_asked}
 use Rattle.esdk_run.proofs.EarlyEnds.{leaves_a_front}
-use Rattle.esdk_run.proofs.Encryption.{encrypts_what_fits, writes_the_message}
+use Rattle.esdk_run.proofs.Encryption.{encrypt_comes_back, encrypts_what_fits, writes_the_message}
 use Rattle.esdk_run.proofs.Extraction.{extract_comes_back, extracts_of_content, extracts_sound_ranges, reads_no_more, says_what_it_extracts}
 use Rattle.esdk_run.proofs.Keeping.{Keeps}
 use Rattle.esdk_run.proofs.ResealTold.{gives_back_first, reseals_whole_messages, rotates_what_is_written, says_what_it_reseals}
-use Rattle.esdk_run.proofs.TreesBack.{none_is_some}
+use Rattle.esdk_run.proofs.TreesBack.{decrypt_comes_back, none_is_some}
 use Rattle.esdk_run.proofs.Unarmouring.{unread_text}
 
 pub promised : (trees : Trees) (words : Words) (before after : Objects) (unchanged : Unchanged) (time : Ticks) (code : ℕ)
@@ -33,11 +33,12 @@ promised trees words before after unchanged time code same unread runs keeps = r
   entropy = keeps.entropy;
   clock = keeps.clock;
   taken = keeps.taken;
-  tree = comes_back trees words before after unchanged code runs;
   judged = keeps.judged;
+  encrypt_tree = λ asked is. encrypt_comes_back trees asked before after unchanged code (encrypt_asked trees words asked before after unchanged code is runs);
   message = λ asked is. writes_the_message trees asked before after unchanged code (encrypt_asked trees words asked before after unchanged code is runs);
   fits = λ asked is. encrypts_what_fits trees asked before after unchanged code (encrypt_asked trees words asked before after unchanged code is runs);
   front = λ asked is. leaves_a_front trees asked before after unchanged code (encrypt_asked trees words asked before after unchanged code is runs);
+  decrypt_tree = λ asked is. decrypt_comes_back trees asked before after (without_entropy unchanged) code (decrypt_asked trees words asked before after unchanged code is runs);
   reads = λ asked is. reads_asked trees words asked before after unchanged code same is runs;
   judgement = λ asked is. judgement_asked trees words asked before after unchanged code is runs;
   whole = λ asked is. whole_asked trees words asked before after unchanged code is runs;

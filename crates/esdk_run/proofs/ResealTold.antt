@@ -1,6 +1,6 @@
 -- What `reseal` says over the tree that it gives back.
-use Rattle.std.proofs.Common.{◌≡◌, ◌⊎◌, ◌∙◌, ◌^◌, ◌<◌, ◌≤◌, ℕ, List, [], length, take, drop, true, false, None, Some, Ok, inl, inr, refl, sym, ap, subst, arith}
-use Rattle.std.specs.Prelude.{IfSome, ⊤}
+use Rattle.std.proofs.Common.{◌≡◌, ◌⊎◌, ◌∙◌, ◌^◌, ◌<◌, ◌≤◌, ℕ, List, [], true, false, None, Some, Ok, inl, inr, refl, sym, ap, subst, arith}
+use Rattle.std.specs.Prelude.{⊤}
 use Rattle.std.specs.declared.option.Option.{Option}
 use Rattle.esdk_args.specs.declared.request.ResealWords.{ResealWords}
 use Rattle.esdk_fields.specs.Counts.{Stayed}
@@ -14,10 +14,9 @@ use Rattle.keyring_trait.specs.declared.manager_errors.ManagerError.{ManagerErro
 use Rattle.keyring_trait.specs.declared.manager_errors.ManagerError.TheVariants as managers
 use Rattle.keyring_trait.specs.Keyring.{KeyringMeaning}
 use Rattle.keyring_trait.specs.Manager.{ManagerMeaning, request_refusal}
-use Rattle.keyring_trait.specs.Materials.{EncMaterialsValue}
 use Rattle.keyring_trait.specs.Requests.{EncRequestValue}
-use Rattle.keyring_trait.specs.Wrapping.{WrapKeyValue, active, ivs_of, made}
-use Rattle.esdk_encrypt.specs.Told.{NoneFor, materials_of, writer_of}
+use Rattle.keyring_trait.specs.Wrapping.{WrapKeyValue}
+use Rattle.esdk_encrypt.specs.Told.{NoneFor}
 use Rattle.esdk_decrypt.specs.Laws.{IsWrittenFor, Written, written_message}
 use Rattle.esdk_decrypt.specs.Told.{Reader, answering_by}
 use Rattle.reseal_core.specs.declared.errors.InputError.{InputError}
@@ -34,20 +33,21 @@ use Rattle.esdk_report.specs.declared.failure.Failure.TheVariants as failures
 use Rattle.esdk_run.specs.Decrypt.{TreeFinds, TreeFindsNone}
 use Rattle.esdk_run.specs.Failures.{resealing_failure}
 use Rattle.esdk_run.specs.FileReading.{FileFails}
+use Rattle.esdk_run.specs.Giving.{refusal_over}
 use Rattle.esdk_run.specs.Objects.{Objects, Unchanged, same_streams}
 use Rattle.esdk_run.specs.Pairs.{context_in, required_in}
-use Rattle.esdk_run.specs.Reseal.{HasFirst, HasNoSecond, HasSecond, ResealFails, ResealingFails, TreeSeals, TreeSealsNone, limits_of, reseal_asked, untouched}
-use Rattle.esdk_run.specs.ResealTold.{CanBeResealed, GivesBackFirst, IfNoneFailedFirst, NamesResealFault, NothingElseFails, OfItsKeys, ReadsBoth, ResealsWholeMessages, RotatesWhatIsWritten, SaysWhatItReseals, ShowsResealed, ShowsRotated, reseal_reader, reseal_writer, without_plugs}
+use Rattle.esdk_run.specs.Reseal.{HasFirst, HasNoSecond, HasSecond, ResealFails, ResealingFails, TreeSealsNone, limits_of, reseal_asked, untouched}
+use Rattle.esdk_run.specs.ResealTold.{CanBeResealed, NamesResealFault, NothingElseFails, OfItsKeys, ReadsBoth, ResealsWholeMessages, RotatesWhatIsWritten, SaysWhatItReseals, ShowsResealed, ShowsRotated, reseal_reader, reseal_writer, without_plugs}
 use Rattle.esdk_run.specs.Run.{ResealRuns, TellsOrLacksMemory}
-use Rattle.esdk_run.specs.Told.{GivesTree, HoldsTree, IsDoneOrMemory, IsLeft, NothingFails}
+use Rattle.esdk_run.specs.Told.{ComesBackBefore, GivesTree, HoldsTree, IfNoneFailedBefore, IsDoneOrMemory, IsLeft, NothingFails}
 use Rattle.esdk_run.specs.Trees.{IsLawful, TreeGoes, Trees}
 use Rattle.esdk_run.proofs.Decryption.{context_shown, one_shows_none, zero_shows}
 use Rattle.esdk_run.proofs.Files.{held_is_read, held_is_taken, tree_is_held}
 use Rattle.esdk_run.proofs.Given.{one_context, pairs_not_refused}
-use Rattle.esdk_run.proofs.Keys.{keys_allow, keys_wrap}
+use Rattle.esdk_run.proofs.Keys.{keys_allow, keys_wrap, materials_told}
 use Rattle.esdk_run.proofs.Resealing.{seal_refusal, tree_giving}
 use Rattle.esdk_run.proofs.Statuses.{fault_status, memory_status, not_done}
-use Rattle.esdk_run.proofs.TreesBack.{gives_held, left_is, none_is_some, told_then}
+use Rattle.esdk_run.proofs.TreesBack.{gives_held, if_none_failed, left_is, none_is_some, told_then}
 
 -- ---- how the run ended, where the first tree is given back
 
@@ -152,7 +152,7 @@ module _ (trees : Trees) (asked : ResealWords) (before after : Objects) (unchang
   fails_back (failures.Refusal refusal) context tree is holds stayed (inr fails) said = inr (gives_held trees _ _ _ _ _ fails.tree fails.left tree holds fails.first.has)
   fails_back failures.Memory context tree is holds stayed fails said = inl (memory_status failures.Memory code before.report after.report refl said)
 
-  pub gives_back_first : ResealRuns trees asked before after unchanged code → GivesBackFirst trees asked before.shelf after.shelf code
+  pub gives_back_first : ResealRuns trees asked before after unchanged code → ComesBackBefore trees asked.pairs asked.keyring before.shelf after.shelf code
   gives_back_first runs = record {
     read = λ left kept. back_left left kept (had left kept runs);
     held = λ context tree is holds stayed. elim runs [
@@ -169,17 +169,6 @@ keys_giving others second later size =
     let r : Resealing = resealing_told (record { keys = []; settings = record { max_keys = None; max_unit = None; uncommitted = false }; given = []; required = [] }) others (default_now second).meaning (default_now later).meaning size in
     record { wraps = r.wraps; gives = r.gives; gives_none = r.gives_none }
 
-materials_told : (others : List WrapKeyValue) (second : KeyringMeaning) (size : ℕ) (request : EncRequestValue) (random : List ℕ) (m : EncMaterialsValue) → IsLawful second → second.keys ≡ Some others
-    → TreeSeals second request random m → m ≡ materials_of (writer_of others (default_now second).meaning request size None) random
-materials_told others second size request random m lawful told given =
-    let key : List ℕ = take 32 random in
-    let ivs : List ℕ = drop 32 random in
-    let wrapped : m.entries ≡ made others request.context key (ivs_of second.wraps ivs) =
-    subst (λ (o : Option (List WrapKeyValue)). IfSome o (λ ws. m.entries ≡ made ws request.context key (ivs_of second.wraps ivs))) told given.wrapped in
-    let entries : m.entries ≡ made others request.context key (ivs_of (length (active others)) ivs) =
-    wrapped ∙ ap (λ (n : ℕ). made others request.context key (ivs_of n ivs)) (keys_wrap second others lawful told) in
-    λ i. record { context = given.whole i; required = given.required i; key = given.key i; entries = entries i; served = given.served i }
-
 none_told : (second later : KeyringMeaning) (request : EncRequestValue) (error : ManagerError) → TreeSealsNone second request error
     → NoneFor (request_refusal (default_now second).meaning request.context) second.faults later.faults error
 none_told second later request (managers.Fault fault) cause = absurd cause
@@ -190,7 +179,7 @@ none_told second later request managers.Memory cause = tt
 keys_give : (others : List WrapKeyValue) (second later : KeyringMeaning) (size : ℕ) → IsLawful second → second.keys ≡ Some others → GivesMore (tree_giving second) (keys_giving others second later size)
 keys_give others second later size lawful told = record {
   wraps = keys_wrap second others lawful told;
-  gives = λ request random m given. (seal_refusal request.context second ∙ given.unrefused, materials_told others second size request random m lawful told given);
+  gives = λ request random m given. (seal_refusal request.context second ∙ given.unrefused, materials_told (refusal_over request.context second) second others request size None random m lawful told given);
   gives_none = λ request error cause. none_told second later request error cause;
 }
 
@@ -243,7 +232,7 @@ record EndedEarly (trees : Trees) (asked : ResealWords) (before after : Objects)
 -- what is so of each such end is so of the run
 module _ (So : Type 0) (trees : Trees) (asked : ResealWords) (before after : Objects) (unchanged : Unchanged) (code : ℕ) (given : List KeyValue) (keys : List WrapKeyValue)
     (both : ReadsBoth trees asked before given keys) (so : EndedTold asked before after (same_streams unchanged) code given keys both.second → So) (early : EndedEarly trees asked before after code → So) where
-  over_had : Had trees asked before after unchanged code → IfNoneFailedFirst trees asked before.shelf So
+  over_had : Had trees asked before after unchanged code → IfNoneFailedBefore trees asked.keyring before.shelf So
   over_had (inl b) =
       let has = b.first.has in
       let read : b.second ≡ both.second =
@@ -251,35 +240,26 @@ module _ (So : Type 0) (trees : Trees) (asked : ResealWords) (before after : Obj
       let others : List WrapKeyValue = b.sealing.keys in
       let pairs : b.given ≡ given = one_context asked.pairs b.given given has.given.made both.pairs in (
         b.between,
-        record {
-          left = b.left;
-          kept = has.kept;
-          is = record { tree = b.tree; file = has.file; goes = has.goes };
-          so = λ stayed.
-              (let e = told_ended asked before after (same_streams unchanged) code b.given b.tree b.left b.second b.later keys others
-              (told_then trees b.tree b.left both.left keys has.goes has.kept both.kept both.told) stayed b.sealing.lawful b.sealing.told b.ended in
-              so (subst (λ (t : KeyringMeaning). EndedTold asked before after (same_streams unchanged) code given keys t) read (record {
-                others = others;
-                told = b.sealing.told;
-                steady = b.sealing.steady;
-                later = b.later;
-                goes = b.goes;
-                ended = subst (λ (g : List KeyValue). Ending (told_run asked g keys others b.second b.later) before after (same_streams unchanged) code) pairs e;
-              })));
-        },
+        if_none_failed trees _ _ _ _ _ b.tree b.left So has (λ stayed.
+            let e = told_ended asked before after (same_streams unchanged) code b.given b.tree b.left b.second b.later keys others
+            (told_then trees b.tree b.left both.left keys has.goes has.kept both.kept both.told) stayed b.sealing.lawful b.sealing.told b.ended in
+            so (subst (λ (t : KeyringMeaning). EndedTold asked before after (same_streams unchanged) code given keys t) read (record {
+              others = others;
+              told = b.sealing.told;
+              steady = b.sealing.steady;
+              later = b.later;
+              goes = b.goes;
+              ended = subst (λ (g : List KeyValue). Ending (told_run asked g keys others b.second b.later) before after (same_streams unchanged) code) pairs e;
+            }))),
       )
   over_had (inr f) =
       let has = f.fails.first.has in (
         f.fails.between,
-        record {
-          left = f.fails.tree;
-          kept = has.kept;
-          is = record { tree = f.fails.tree; file = has.file; goes = has.goes };
-          so = λ stayed. early (record { between = f.fails.between; files = f.fails.first.files; faults = has.file.file.faults; failure = f.failure; cause = f.fails.cause; said = f.said });
-        },
+        if_none_failed trees _ _ _ _ _ f.fails.tree f.fails.tree So has
+            (λ stayed. early (record { between = f.fails.between; files = f.fails.first.files; faults = has.file.file.faults; failure = f.failure; cause = f.fails.cause; said = f.said })),
       )
 
-  over_both : ResealRuns trees asked before after unchanged code → IfNoneFailedFirst trees asked before.shelf So
+  over_both : ResealRuns trees asked before after unchanged code → IfNoneFailedBefore trees asked.keyring before.shelf So
   over_both runs = over_had (had trees asked before after unchanged code both.left both.kept runs)
 
 -- ---- what is written

@@ -1,5 +1,5 @@
 -- How a resealing ends over the trees of two keyring files.
-use Rattle.std.proofs.Common.{◌≡◌, ◌∙◌, ℕ, List, Ok, Err, inl, inr, refl, sym, subst, take, drop, arith}
+use Rattle.std.proofs.Common.{◌≡◌, ◌∙◌, ℕ, List, Ok, Err, inl, inr, refl, sym, subst, arith}
 use Rattle.std.specs.Prelude.{IfErr, IfOk, ⊤}
 use Rattle.std.specs.declared.result.Result.{Result}
 use Rattle.esdk_args.specs.declared.request.ResealWords.{ResealWords}
@@ -9,14 +9,11 @@ use Rattle.esdk_fields.specs.declared.refusals.Outside.TheVariants as outsides
 use Rattle.context_codec.specs.Context.{KeyValue}
 use Rattle.keyring_trait.specs.declared.manager_errors.ManagerError.{ManagerError}
 use Rattle.keyring_trait.specs.declared.manager_errors.ManagerError.TheVariants as managers
-use Rattle.keyring_trait.specs.declared.served.Served.{Served}
-use Rattle.keyring_trait.specs.declared.served.Served.TheVariants.{Direct}
 use Rattle.keyring_trait.specs.Keyring.{KeyringMeaning}
-use Rattle.keyring_trait.specs.Manager.{AreDrawn, GivesMaterials, GivesNone, IsNew, ManagerNow, Went, request_refusal}
+use Rattle.keyring_trait.specs.Manager.{GivesMaterials, GivesNone, ManagerNow, Went, request_refusal}
 use Rattle.keyring_trait.specs.Materials.{EncMaterialsValue}
 use Rattle.keyring_trait.specs.Requests.{EncRequestValue}
-use Rattle.keyring_trait.specs.Wrapping.{ivs_of, made}
-use Rattle.cmm_default.specs.DefaultCmm.{default_now, default_tells}
+use Rattle.cmm_default.specs.DefaultCmm.{default_now}
 use Rattle.esdk_decrypt.specs.Decrypt.{answering_of}
 use Rattle.esdk_decrypt.proofs.Told.{Allows}
 use Rattle.reseal_core.specs.declared.errors.InputError.{InputError}
@@ -28,35 +25,26 @@ use Rattle.esdk_report.specs.declared.failure.Failure.{Failure}
 use Rattle.esdk_report.specs.declared.failure.Failure.TheVariants as failures
 use Rattle.esdk_run.specs.Failures.{resealing_failure}
 use Rattle.esdk_run.specs.FileReading.{FileFails}
+use Rattle.esdk_run.specs.Giving.{TreeGives, refusal_over}
 use Rattle.esdk_run.specs.Objects.{Objects, Unchanged, same_streams}
 use Rattle.esdk_run.specs.Prepared.{IsNotPrepared}
-use Rattle.esdk_run.specs.Reseal.{HasFirst, HasSecond, ResealFails, ResealingFails, TreeSeals, TreeSealsNone, limits_of, refusal_sealing, reseal_asked, untouched}
+use Rattle.esdk_run.specs.Reseal.{HasFirst, HasSecond, ResealFails, ResealingFails, TreeSealsNone, limits_of, reseal_asked, untouched}
 use Rattle.esdk_run.specs.Run.{ResealRuns, TellsOrLacksMemory}
 use Rattle.esdk_run.specs.Trees.{IsUntouched, TreeGoes, Trees}
-use Rattle.esdk_run.proofs.Chain.{same_keys, where_some}
+use Rattle.esdk_run.proofs.Chain.{gives_drawn, same_keys}
 use Rattle.esdk_run.proofs.Preparing.{by_cause}
 
 -- ---- the second tree
 
-pub seal_refusal : (context : List KeyValue) (tree : KeyringMeaning) → request_refusal (default_now tree).meaning context ≡ refusal_sealing context tree
-unfolding request_refusal refusal_sealing
+pub seal_refusal : (context : List KeyValue) (tree : KeyringMeaning) → request_refusal (default_now tree).meaning context ≡ refusal_over context tree
+unfolding request_refusal refusal_over
 seal_refusal context tree = refl
 
 seals : (tree : KeyringMeaning) (request : EncRequestValue) (random : List ℕ) (m : EncMaterialsValue)
-    → GivesMaterials (default_now tree) request random m → TreeSeals tree request random m
+    → GivesMaterials (default_now tree) request random m → TreeGives (refusal_over request.context tree) tree request random m
 seals tree request random m given =
-    let direct : m.served ≡ Direct = given.plain refl in
-    let drawn : AreDrawn tree.wraps (default_tells tree) random m = given.fresh refl (subst (λ (s : Served). IsNew s) (sym direct) tt) in
-    record {
-      unrefused = sym (seal_refusal request.context tree) ∙ given.unrefused tt;
-      whole = given.context;
-      required = given.demanded tt;
-      key = drawn.key;
-      count = given.count;
-      wrapped = where_some tree.keys (λ keys. m.entries ≡ made keys request.context (take 32 random) (ivs_of tree.wraps (drop 32 random)))
-          (λ keys told. drawn.entries keys told ∙ (λ i. made keys (given.context i) (drawn.key i) (ivs_of tree.wraps (drop 32 random))));
-      served = direct;
-    }
+    gives_drawn (refusal_over request.context tree) tree request random m (sym (seal_refusal request.context tree) ∙ given.unrefused tt)
+    given.context (given.demanded tt) given.count (given.plain refl) (given.fresh refl)
 
 -- a tree that didn't fail gives nothing only where it refuses
 seals_none : (tree later : KeyringMeaning) (request : EncRequestValue) (error : ManagerError) → Stayed tree.faults later.faults → GivesNone (default_now tree) (default_now later) request error
@@ -75,7 +63,7 @@ giving old new = record {
 }
 
 abbrev pub tree_giving : KeyringMeaning → Giving
-tree_giving tree = record { wraps = tree.wraps; gives = TreeSeals tree; gives_none = TreeSealsNone tree }
+tree_giving tree = record { wraps = tree.wraps; gives = λ request. TreeGives (refusal_over request.context tree) tree request; gives_none = TreeSealsNone tree }
 
 tree_gives : (tree later : KeyringMeaning) → Stayed tree.faults later.faults → GivesMore (giving (default_now tree) (default_now later)) (tree_giving tree)
 tree_gives tree later stayed = record {

@@ -29,7 +29,8 @@ use Rattle.esdk_batch.specs.Batch.{RunsBatch}
 use Rattle.esdk_batch.specs.Failures.{CountsFailures, tally_of}
 use Rattle.esdk_encrypt.specs.Told.{NoneFor}
 use Rattle.esdk_run.specs.Batch.{RunsWithin}
-use Rattle.esdk_run.specs.Serving.{IsSteadyIfCached, TreeOutlasts, TreeServes, TreeServesHeader, TreeServesNone, managing_over, refusal_over}
+use Rattle.esdk_run.specs.Giving.{refusal_over}
+use Rattle.esdk_run.specs.Serving.{IsSteadyIfCached, TreeOutlasts, TreeServes, TreeServesHeader, TreeServesNone, managing_over}
 use Rattle.esdk_run.proofs.BatchMore.{runs_more}
 use Rattle.esdk_run.proofs.Chain.{same_keys, where_some}
 

@@ -1,11 +1,18 @@
 -- Which failure a status stands for.
-use Rattle.std.proofs.Common.{◌≡◌, ℕ, inl, inr, refl, subst, arith}
+use Rattle.std.proofs.Common.{◌≡◌, ℕ, Bool, true, false, inl, inr, refl, ap, subst, arith}
+use Rattle.std.specs.Prelude.{if◌then◌else◌}
 use Rattle.esdk_base.specs.Streams.{SinkState}
 use Rattle.esdk_fields.specs.declared.faults.Fault.{Fault}
 use Rattle.esdk_report.specs.Lines.{fault_line, printed_line}
 use Rattle.esdk_report.specs.declared.failure.Failure.{Failure}
 use Rattle.esdk_report.specs.declared.failure.Failure.TheVariants as failures
 use Rattle.esdk_report.specs.Report.{Gains, Reports}
+use Rattle.esdk_run.specs.Run.{is_status}
+
+-- that of jobs or of messages
+pub jobs_status : (all : Bool) (code : ℕ) → code ≡ (if all then 0 else 7) → is_status code ≡ true
+jobs_status true code is = ap is_status is
+jobs_status false code is = ap is_status is
 
 -- want of memory
 pub memory_status : (failure : Failure) (code : ℕ) (old new : SinkState) → failure ≡ failures.Memory → Reports failure code old new → code ≡ 5

@@ -1,32 +1,28 @@
 -- What the command `audit` comes to.
-use Rattle.std.specs.Prelude.{◌≡◌, ◌⊎◌, ℕ, List, length, Some, None, Ok, if◌then◌else◌}
+use Rattle.std.specs.Prelude.{◌≡◌, ◌⊎◌, ℕ, List, length, Some, None, if◌then◌else◌}
 use Rattle.std.specs.List.{list_all}
 use Rattle.std.specs.Io.KnownBytes.{Appends}
-use Rattle.esdk_base.specs.Sink.{AppendsFront}
+use Rattle.esdk_base.specs.Receiver.{SinkFails}
 use Rattle.esdk_base.specs.Streams.{ShelfState, SinkState}
-use Rattle.esdk_fields.specs.Counts.{Rose}
 use Rattle.esdk_fields.specs.declared.refusals.Outside.TheVariants as outsides
 use Rattle.keyring_trait.specs.Keyring.{KeyringMeaning}
 use Rattle.multi_keyring.specs.Tree.{all_faults}
 use Rattle.job_file.specs.AuditFile.{AuditFile}
 use Rattle.job_file.specs.Audit.{audit_of}
-use Rattle.whole_input.specs.File.{IsFile}
 use Rattle.audit_core.specs.declared.audited.Audited.{Audited}
 use Rattle.audit_core.specs.Lines.{audit_lines}
 use Rattle.audit_core.specs.MessageFiles.{FindsEach, FindsNotEach}
 use Rattle.audit_core.specs.Openers.{has_opener}
 use Rattle.esdk_report.specs.declared.failure.Failure.{Failure}
 use Rattle.esdk_report.specs.declared.failure.Failure.TheVariants as failures
-use Rattle.esdk_run.specs.FileReading.{FileFails}
+use Rattle.esdk_run.specs.FileReading.{FileFails, FileIs}
 use Rattle.esdk_run.specs.Trees.{TreeGoes, TreeHas, Trees}
 
 -- ---- what is read
 
--- The file of the audit was read without a failure, and means this.
+-- The file of the audit was read without a failure, and means this. The files of the shelf stayed.
 pub record AuditIs (old new : ShelfState) (name : List ℕ) (file : AuditFile) : Type 0 where
-  pub bytes : List ℕ
-  pub read : IsFile old new name bytes
-  pub is : audit_of bytes ≡ Ok file
+  pub read : FileIs audit_of old new name file
   pub stay : new.files ≡ old.files
 
 -- It means this, and then the keyring file that it names was read as this tree, whose leaves mean
@@ -107,27 +103,13 @@ pub record WritesLines (count : ℕ) (found : List Audited) (before after : Sink
   pub gained : Appends before.written after.written (audit_lines count found)
   pub status : code ≡ audit_status found
 
--- The output failed, and gained a front of the lines.
-pub record WritesLinesFront (count : ℕ) (found : List Audited) (before after : SinkState)
-    : Type 0 where
-  pub front : AppendsFront before.written after.written (audit_lines count found)
-  pub rose : Rose before.faults after.faults
-
--- why the lines weren't written; want of memory leaves the output as it was, which `unwritten` says
-abbrev pub LinesFail : (count : ℕ) → List Audited → SinkState → SinkState → (unwritten : Type 0)
-    → Failure → Type 0
-LinesFail count found before after unwritten (failures.Outside outsides.SinkFault) =
-    WritesLinesFront count found before after
-LinesFail count found before after unwritten failures.Memory = unwritten
-LinesFail count found before after unwritten failure = ⊥
-
--- It was found of each message, and the output failed at the lines.
+-- It was found of each message, and the output failed at the lines, of which it gained a front.
 pub record LosesLines (trees : Trees) (name : List ℕ) (old new : ShelfState)
     (before after : SinkState) : Type 0 where
   pub count : ℕ
   pub found : List Audited
   pub all : FindsAll trees name old new count found
-  pub front : WritesLinesFront count found before after
+  pub front : SinkFails before after (audit_lines count found)
 
 -- Why it wasn't found of each message.
 abbrev pub AuditFails : Trees → (name : List ℕ) → ShelfState → ShelfState → Failure → Type 0

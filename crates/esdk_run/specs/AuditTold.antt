@@ -15,7 +15,8 @@ use Rattle.audit_core.specs.MessageFiles.{AreHeld}
 use Rattle.audit_core.specs.Messages.{Message, audited}
 use Rattle.esdk_run.specs.Audit.{audit_status}
 use Rattle.esdk_run.specs.Objects.{Objects}
-use Rattle.esdk_run.specs.Trees.{TreeGoes, Trees}
+use Rattle.esdk_run.specs.Told.{WhereNoneFailed}
+use Rattle.esdk_run.specs.Trees.{Trees}
 
 -- The shelf tells the file of the audit, its keyring file, and the files of its messages. These are
 -- the wrapping keys of each leaf of the tree, and the messages with the pairs that are given.
@@ -40,14 +41,6 @@ pub record ShowsOpeners (leaves : List (List WrapKeyValue)) (messages : List Mes
   pub gained : Appends before.output.written after.output.written
       (audit_lines (length leaves) (map (audited leaves) messages))
   pub status : code ≡ audit_status (map (audited leaves) messages)
-
--- What is left of this tree is given back, and this is so where no keyring of it failed. (None does
--- of a steady tree.)
-pub record WhereNoneFailed (trees : Trees) (tree : KeyringMeaning) (So : Type 0) : Type 0 where
-  pub left : KeyringMeaning
-  pub kept : trees.kept ≡ Some left
-  pub goes : TreeGoes tree left
-  pub so : Stayed tree.faults left.faults → So
 
 -- At status 0 and 7 the output gained exactly the lines of what the files' bytes say, and the
 -- status is 0 where each message has an opener, else 7.

@@ -1,10 +1,9 @@
 -- What the command `batch` comes to.
-use Rattle.std.specs.Prelude.{◌≡◌, ◌⊎◌, ℕ, List, [], Some, is_some, Result, Ok, if◌then◌else◌}
+use Rattle.std.specs.Prelude.{◌≡◌, ◌⊎◌, ℕ, List, [], Some, is_some, Result, if◌then◌else◌}
 use Rattle.std.specs.List.{list_all}
 use Rattle.std.specs.Io.KnownBytes.{Appends}
-use Rattle.esdk_base.specs.Sink.{AppendsFront}
+use Rattle.esdk_base.specs.Receiver.{SinkFails}
 use Rattle.esdk_base.specs.Streams.{EntropyState, ShelfState, SinkState}
-use Rattle.esdk_fields.specs.Counts.{Rose}
 use Rattle.esdk_fields.specs.declared.refusals.FileRefusal.{FileRefusal}
 use Rattle.esdk_fields.specs.declared.refusals.Outside.TheVariants as outsides
 use Rattle.keyring_trait.specs.declared.journal.JournalLine.{JournalLine}
@@ -12,7 +11,6 @@ use Rattle.keyring_trait.specs.Keyring.{KeyringMeaning}
 use Rattle.cmm_caching.specs.Journal.{KeepsWithin}
 use Rattle.job_file.specs.JobFile.{JobFile}
 use Rattle.job_file.specs.Jobs.{jobs_of}
-use Rattle.whole_input.specs.File.{IsFile}
 use Rattle.batch_report.specs.declared.job_lines.JobLine.{JobLine}
 use Rattle.batch_report.specs.BatchReport.{is_done, report_of}
 use Rattle.esdk_batch.specs.Batch.{OnlyWritten, RunsBatch}
@@ -20,7 +18,7 @@ use Rattle.esdk_batch.specs.Failures.{CountsFailures, tally_of}
 use Rattle.keyring_trait.specs.Saying.{Saying}
 use Rattle.esdk_report.specs.declared.failure.Failure.{Failure}
 use Rattle.esdk_report.specs.declared.failure.Failure.TheVariants as failures
-use Rattle.esdk_run.specs.FileReading.{FileFails}
+use Rattle.esdk_run.specs.FileReading.{FileFails, FileIs}
 use Rattle.esdk_run.specs.Objects.{Objects}
 use Rattle.esdk_run.specs.Serving.{TreeOutlasts, managing_over}
 use Rattle.esdk_run.specs.Trees.{IsLawful, IsUntouched, TreeIs, Trees}
@@ -33,9 +31,7 @@ jobs_in name bytes = jobs_of bytes name
 
 -- The job file was read without a failure, and means this. The files of the shelf stayed.
 pub record JobsAre (old new : ShelfState) (name : List ℕ) (file : JobFile) : Type 0 where
-  pub bytes : List ℕ
-  pub read : IsFile old new name bytes
-  pub is : jobs_in name bytes ≡ Ok file
+  pub read : FileIs (jobs_in name) old new name file
   pub stay : new.files ≡ old.files
 
 -- The job file means this, and then the keyring file that it names was read as this tree. The files
@@ -113,23 +109,11 @@ pub record WritesReport (lines : List JobLine) (before after : SinkState) (code 
   pub gained : Appends before.written after.written (report_of lines)
   pub status : code ≡ status_of lines
 
--- The output failed, and gained a front of the report.
-pub record WritesReportFront (lines : List JobLine) (before after : SinkState) : Type 0 where
-  pub front : AppendsFront before.written after.written (report_of lines)
-  pub rose : Rose before.faults after.faults
-
--- why the report wasn't written; want of memory is free
-abbrev pub ReportFails : List JobLine → SinkState → SinkState → Type 0 → Failure → Type 0
-ReportFails lines before after unwritten (failures.Outside outsides.SinkFault) =
-    WritesReportFront lines before after
-ReportFails lines before after unwritten failures.Memory = unwritten
-ReportFails lines before after unwritten failure = ⊥
-
--- The jobs had their turns, and the output failed at their report.
+-- The jobs had their turns, and the output failed at their report, of which it gained a front.
 pub record LosesReport (trees : Trees) (name : List ℕ) (before after : Objects) : Type 0 where
   pub lines : List JobLine
   pub runs : RunsJobFile trees name before.shelf after.shelf before.entropy after.entropy lines
-  pub front : WritesReportFront lines before.output after.output
+  pub front : SinkFails before.output after.output (report_of lines)
 
 -- Why the jobs weren't run; `undrawn` says that the entropy is as before. Where memory ran out,
 -- what is given back, if something is, is what is left of the tree that was read; and the shelf

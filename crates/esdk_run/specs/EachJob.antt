@@ -30,7 +30,8 @@ use Rattle.esdk_batch.specs.SealStory.{SealAsked, Seen, held, most_sealed}
 use Rattle.esdk_run.specs.Batch.{HasJobs}
 use Rattle.esdk_run.specs.Objects.{Objects}
 use Rattle.esdk_run.specs.Served.{HoldsJobs}
-use Rattle.esdk_run.specs.Serving.{IsSteadyIfCached, refusal_over}
+use Rattle.esdk_run.specs.Giving.{refusal_over}
+use Rattle.esdk_run.specs.Serving.{IsSteadyIfCached}
 use Rattle.esdk_run.specs.Trees.{Trees}
 
 -- ---- what is read for a decrypt job

@@ -1,15 +1,13 @@
 -- What the command `encrypt` comes to.
-use Rattle.std.specs.Prelude.{◌≡◌, ◌⊎◌, ℕ, List, [], ◌∷◌, length, take, drop, ⊤, Option, option_map, None, IfSome}
+use Rattle.std.specs.Prelude.{◌⊎◌, List, ⊤, Option, None}
+use Rattle.std.specs.Option.{option_or}
 use Rattle.esdk_args.specs.declared.request.EncryptWords.{EncryptWords}
 use Rattle.esdk_fields.specs.declared.refusals.Outside.TheVariants as outsides
 use Rattle.esdk_fields.specs.declared.refusals.Refusal.{Refusal}
 use Rattle.context_codec.specs.Context.{KeyValue}
-use Rattle.keyring_trait.specs.declared.served.Served.TheVariants.{Direct}
 use Rattle.keyring_trait.specs.Keyring.{KeyringMeaning}
-use Rattle.keyring_trait.specs.Manager.{refusal_named, reserved_used}
-use Rattle.keyring_trait.specs.Materials.{EncMaterialsValue}
-use Rattle.keyring_trait.specs.Requests.{required_absent}
-use Rattle.keyring_trait.specs.Wrapping.{WrapKeyValue, first_some, ivs_of, made}
+use Rattle.keyring_trait.specs.Requests.{EncRequestValue, required_absent}
+use Rattle.keyring_trait.specs.Wrapping.{WrapKeyValue}
 use Rattle.esdk_encrypt.specs.declared.errors.EncryptError.{EncryptError}
 use Rattle.esdk_encrypt.specs.declared.errors.EncryptError.TheVariants as errors
 use Rattle.esdk_encrypt.specs.Encrypt.{Asked, Encrypts, EncryptEnds}
@@ -17,33 +15,26 @@ use Rattle.esdk_encrypt.specs.Told.{NoneFor, Writer}
 use Rattle.esdk_report.specs.declared.failure.Failure.{Failure}
 use Rattle.esdk_report.specs.declared.failure.Failure.TheVariants as failures
 use Rattle.esdk_run.specs.ArmouredMessage.{output_gains}
+use Rattle.esdk_run.specs.Giving.{TreeGives, refusal_over}
 use Rattle.esdk_run.specs.Objects.{Objects, Unchanged, same_streams}
 use Rattle.esdk_run.specs.Pairs.{RefusesWordPairs, required_in}
 use Rattle.esdk_run.specs.Trees.{HasNoTree, HasTree, IsUntouched, Trees}
 
 -- ---- what is asked for
 
+-- the request: it is for the context, and requires the keys that the words require
+abbrev pub request_asked : EncryptWords → List KeyValue → EncRequestValue
+request_asked asked context = record { context = context; required = required_in asked.pairs; declared = None }
+
 -- Q4, where a required key has no pair; else Q1, where a key has the reserved prefix; else Q5 or Q6, where the tree refuses to make a data key
 unfoldable pub refusal_asked : EncryptWords → List KeyValue → KeyringMeaning → Option Refusal
-refusal_asked asked context tree =
-    first_some (λ o. o) (required_absent context (required_in asked.pairs) ∷ reserved_used context ∷ option_map refusal_named tree.refuses_none ∷ [])
-
--- What is given for these random bytes, where nothing is refused: the words' context and required keys; the first 32 bytes as data key; and an entry for each wrap of
--- the tree. Where the tree tells its keys, the entries are their wraps of the data key, in order, with the bytes behind it as IVs.
-pub record TreeGives (asked : EncryptWords) (context : List KeyValue) (tree : KeyringMeaning) (random : List ℕ) (materials : EncMaterialsValue) : Type 0 where
-  pub unrefused : refusal_asked asked context tree ≡ None
-  pub whole : materials.context ≡ context
-  pub required : materials.required ≡ required_in asked.pairs
-  pub key : materials.key ≡ take 32 random
-  pub count : length materials.entries ≡ tree.wraps
-  pub wrapped : IfSome tree.keys (λ keys. materials.entries ≡ made keys context (take 32 random) (ivs_of tree.wraps (drop 32 random)))
-  pub served : materials.served ≡ Direct
+refusal_asked asked context tree = option_or (required_absent context (required_in asked.pairs)) (refusal_over context tree)
 
 -- what is asked for, of a tree that means this before and that after the run
 abbrev pub encrypt_asked : EncryptWords → List KeyValue → KeyringMeaning → KeyringMeaning → Asked
 encrypt_asked asked context tree left = record {
   wraps = tree.wraps;
-  gives = TreeGives asked context tree;
+  gives = TreeGives (refusal_asked asked context tree) tree (request_asked asked context);
   gives_none = NoneFor (refusal_asked asked context tree) tree.faults left.faults;
   size = asked.frame;
   max_keys = asked.max_keys;

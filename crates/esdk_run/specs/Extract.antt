@@ -5,9 +5,9 @@ use Rattle.esdk_args.specs.declared.request.ExtractWords.{ExtractWords}
 use Rattle.esdk_base.specs.Streams.{ShelfState}
 use Rattle.esdk_fields.specs.declared.refusals.Outside.TheVariants as outsides
 use Rattle.context_codec.specs.Context.{KeyValue}
-use Rattle.header_codec.specs.declared.settings.Settings.{Settings}
 use Rattle.keyring_trait.specs.Keyring.{KeyringMeaning}
 use Rattle.keyring_trait.specs.Wrapping.{WrapKeyValue}
+use Rattle.esdk_batch.specs.Answering.{no_limits}
 use Rattle.esdk_decrypt.specs.Decrypt.{Asked}
 use Rattle.esdk_decrypt.specs.Told.{Reader}
 use Rattle.extract_core.specs.declared.errors.ExtractError.{ExtractError}
@@ -21,7 +21,8 @@ use Rattle.esdk_run.specs.Objects.{Objects, Unchanged}
 use Rattle.esdk_run.specs.Pairs.{RefusesWordPairs}
 use Rattle.esdk_run.specs.Trees.{HasNoTree, HasTree, IsUntouched, Trees}
 
--- the decryption with the same keyring file and the same pairs, without limits
+-- The decryption with the same keyring file and the same pairs, without limits; only messages that
+-- commit to their data key are read.
 abbrev pub as_decryption : ExtractWords → DecryptWords
 as_decryption asked = record {
   keyring = asked.keyring;
@@ -31,10 +32,6 @@ as_decryption asked = record {
   armour = false;
   pairs = asked.pairs;
 }
-
--- its limits: there are none, and only messages that commit to their data key are read
-abbrev pub no_limits : Settings
-no_limits = record { max_keys = None; max_unit = None; uncommitted = false }
 
 -- the range that the words name
 abbrev pub range_asked : ExtractWords → ByteRange

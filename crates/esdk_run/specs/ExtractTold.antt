@@ -1,5 +1,5 @@
 -- What `extract` says over the tree that it gives back, where the shelf tells the message's file.
-use Rattle.std.specs.Prelude.{◌≡◌, ◌≢◌, ℕ, ◌+◌, ◌≤◌, ◌⊎◌, List, None, Some, Ok}
+use Rattle.std.specs.Prelude.{◌≡◌, ◌≢◌, ℕ, ◌+◌, ◌≤◌, List, None, Some}
 use Rattle.std.specs.Io.KnownBytes.{Appends}
 use Rattle.esdk_args.specs.declared.request.ExtractWords.{ExtractWords}
 use Rattle.esdk_fields.specs.Bytes.{AreBytes}
@@ -10,11 +10,11 @@ use Rattle.esdk_base.specs.Shelf.{Holds}
 use Rattle.esdk_base.specs.Streams.{ShelfState}
 use Rattle.context_codec.specs.Context.{KeyValue}
 use Rattle.header_codec.specs.Header.{HeaderValue}
-use Rattle.keyring_trait.specs.Keyring.{KeyringMeaning}
 use Rattle.keyring_trait.specs.Wrapping.{WrapKeyValue}
 use Rattle.body_format.specs.declared.verdicts.Verdict.TheVariants.{Whole}
 use Rattle.message_format.specs.Judgement.{content}
 use Rattle.message_format.specs.Reading.{unlocking}
+use Rattle.esdk_batch.specs.Answering.{no_limits}
 use Rattle.esdk_decrypt.specs.Told.{Reader, judged_by}
 use Rattle.extract_core.specs.Extracted.{ByteRange, Extraction, extracted, in_range}
 use Rattle.extract_core.specs.Extract.{IsHeaderOf, most_read, most_taken}
@@ -23,10 +23,9 @@ use Rattle.whole_input.specs.File.{most_file}
 use Rattle.whole_input.specs.Pieces.{most_piece}
 use Rattle.esdk_report.specs.Lines.{fault_line, printed_line}
 use Rattle.esdk_report.specs.Report.{Gains}
-use Rattle.esdk_run.specs.Extract.{as_decryption, extract_reader, no_limits, range_asked}
+use Rattle.esdk_run.specs.Extract.{as_decryption, extract_reader, range_asked}
 use Rattle.esdk_run.specs.Objects.{Objects}
-use Rattle.esdk_run.specs.Pairs.{context_in}
-use Rattle.esdk_run.specs.Told.{GivesTree, HoldsTree, IfNoneFailed, IsDoneOrMemory, IsLeft, Reads}
+use Rattle.esdk_run.specs.Told.{IfNoneFailedBefore, IsDoneOrMemory, Reads}
 use Rattle.esdk_run.specs.Trees.{Trees}
 
 -- what this reader extracts of a message
@@ -41,19 +40,6 @@ ReadsTaken reader bytes range old new = new.given ≤ old.given + most_file + mo
     + most_taken bytes reader.settings
     (unlocking bytes reader.settings reader.given reader.required reader.keys) range
 
--- ---- the tree that is given back
-
--- A tree is given back only where the keyring file was read as one, before the message's file was
--- read. Where a shelf tells that it holds one, and doesn't fail, that is given back, unless memory
--- runs out.
-pub record ComesBackBefore (trees : Trees) (asked : ExtractWords) (old new : ShelfState) (code : ℕ)
-    : Type 0 where
-  pub read : (left : KeyringMeaning) → trees.kept ≡ Some left
-      → (middle : ShelfState) × IsLeft trees asked.keyring old middle left
-  pub held : (context : List KeyValue) (tree : KeyringMeaning) → context_in asked.pairs ≡ Ok context
-      → HoldsTree trees old.files asked.keyring tree → Stayed old.faults new.faults
-      → (code ≡ 5) ⊎ GivesTree trees tree
-
 -- ---- what is written
 
 -- The words give these pairs, a tree is given back that tells these keys, and the shelf tells that
@@ -62,11 +48,6 @@ pub record ReadsFile (trees : Trees) (asked : ExtractWords) (before : Objects)
     (given : List KeyValue) (keys : List WrapKeyValue) (bytes : List ℕ) : Type 0 where
   pub reads : Reads trees (as_decryption asked) given keys
   pub held : Holds before.shelf.files asked.from bytes
-
--- This is so where no keyring of the tree failed in the run, and its count isn't at its end.
-abbrev pub IfNoneFailedBefore : Trees → ExtractWords → ShelfState → Type 0 → Type 0
-IfNoneFailedBefore trees asked old So =
-    (middle : ShelfState) × IfNoneFailed trees asked.keyring old middle So
 
 -- The output gained what is extracted, which no fault ends, and no slot was read behind those that
 -- are taken.
@@ -94,7 +75,7 @@ abbrev pub SaysWhatItExtracts : Trees → ExtractWords → Objects → Objects �
 SaysWhatItExtracts trees asked before after code =
     (given : List KeyValue) (keys : List WrapKeyValue) (bytes : List ℕ)
     → ReadsFile trees asked before given keys bytes
-    → IfNoneFailedBefore trees asked before.shelf
+    → IfNoneFailedBefore trees asked.keyring before.shelf
     ((code ≡ 0 → GainsRange (extract_reader asked given keys) asked bytes before after)
     × (code ≡ 1 → NamesExtractFault (extract_reader asked given keys) asked bytes before after))
 
@@ -111,7 +92,7 @@ ExtractsSoundRanges trees asked before after code =
     → ReadsFile trees asked before given keys bytes
     → (extracted_by (extract_reader asked given keys) bytes (range_asked asked)).fault ≡ None
     → NothingFailsOf before after
-    → IfNoneFailedBefore trees asked before.shelf (IsDoneOrMemory code)
+    → IfNoneFailedBefore trees asked.keyring before.shelf (IsDoneOrMemory code)
 
 -- This fault of a range that begins behind the slots of a whole message is named.
 pub record NamesRangeBehind (content : Content) (range : ByteRange) (units : List (List ℕ))
@@ -143,7 +124,7 @@ ExtractsOfContent trees asked before after code =
     (given : List KeyValue) (keys : List WrapKeyValue) (bytes : List ℕ)
     → ReadsFile trees asked before given keys bytes → AreBytes bytes
     → (judged_by (extract_reader asked given keys) bytes).verdict ≡ Whole
-    → IfNoneFailedBefore trees asked before.shelf
+    → IfNoneFailedBefore trees asked.keyring before.shelf
     (WritesOfContent (extract_reader asked given keys) asked bytes before after code)
 
 -- ---- how much is read

@@ -38,7 +38,7 @@ file_failure files.Shelf = failures.Outside ShelfFault
 file_failure files.TooLong = failures.File FileTooLong
 file_failure files.Memory = failures.Memory
 
--- of a keyring file or a job file that is refused
+-- of a file that was taken and is refused: a keyring file, a job file, or the file of an audit
 abbrev pub tree_failure : TreeError → Failure
 tree_failure (trees.File refusal) = failures.File refusal
 tree_failure trees.Memory = failures.Memory

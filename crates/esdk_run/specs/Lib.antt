@@ -7,6 +7,7 @@ pub mod FileReading
 pub mod Migrate
 pub mod Objects
 pub mod Run
+pub mod TextPut
 pub mod Told
 pub mod Pairs
 pub mod Prepared
@@ -16,6 +17,7 @@ pub mod Serving
 pub mod Audit
 pub mod Batch
 pub mod Generate
+pub mod Giving
 pub mod Extract
 pub mod ExtractTold
 pub mod Served

@@ -3,16 +3,14 @@ use Rattle.std.specs.Prelude.{◌≡◌, ℕ, List, Result, Ok}
 use Rattle.std.specs.Io.KnownBytes.{Appends}
 use Rattle.serde_json.specs.Data.{Data}
 use Rattle.esdk_args.specs.declared.request.MigrateWords.{MigrateWords}
-use Rattle.esdk_base.specs.Sink.{AppendsFront}
+use Rattle.esdk_base.specs.Receiver.{SinkFails}
 use Rattle.esdk_base.specs.Streams.{ShelfState, SinkState}
-use Rattle.esdk_fields.specs.Counts.{Rose}
 use Rattle.esdk_fields.specs.declared.refusals.FileRefusal.{FileRefusal}
 use Rattle.esdk_fields.specs.declared.refusals.Outside.TheVariants as outsides
 use Rattle.keyring_file.specs.Migrate.{IsFileOf, migration}
-use Rattle.whole_input.specs.File.{IsFile}
 use Rattle.esdk_report.specs.declared.failure.Failure.{Failure}
 use Rattle.esdk_report.specs.declared.failure.Failure.TheVariants as failures
-use Rattle.esdk_run.specs.FileReading.{FileFails}
+use Rattle.esdk_run.specs.FileReading.{FileFails, FileIs}
 
 -- the value in version 2 of a keyring file that has these bytes, with the key retired that the words name
 abbrev pub value_asked : MigrateWords → List ℕ → Result Data FileRefusal
@@ -26,9 +24,9 @@ pub record IsTextOf (asked : MigrateWords) (bytes text : List ℕ) : Type 0 wher
 
 -- The keyring file was read without a failure, and this is its text in version 2.
 pub record IsMigrated (asked : MigrateWords) (old new : ShelfState) (text : List ℕ) : Type 0 where
-  pub bytes : List ℕ
-  pub file : IsFile old new asked.keyring bytes
-  pub is : IsTextOf asked bytes text
+  pub value : Data
+  pub is : FileIs (value_asked asked) old new asked.keyring value
+  pub file : IsFileOf text value
 
 -- The output gained the text of the keyring file in version 2.
 pub record WritesMigrated (asked : MigrateWords) (old new : ShelfState) (before after : SinkState) : Type 0 where
@@ -40,8 +38,7 @@ pub record WritesMigrated (asked : MigrateWords) (old new : ShelfState) (before 
 pub record WritesFront (asked : MigrateWords) (old new : ShelfState) (before after : SinkState) : Type 0 where
   pub text : List ℕ
   pub is : IsMigrated asked old new text
-  pub gained : AppendsFront before.written after.written text
-  pub rose : Rose before.faults after.faults
+  pub failed : SinkFails before after text
 
 -- Why the text wasn't written. `unwritten` says that the output is as before, as it is but where it failed. Want of memory is free.
 abbrev pub MigrateFails : MigrateWords → ShelfState → ShelfState → SinkState → SinkState → Type 0 → Failure → Type 0

@@ -1,7 +1,7 @@
 -- What a run of the program promises, command by command. The whole course of a run, with each
 -- failure and what it leaves, is `RunsAs` of Run.antt; what stands here follows from that and says
 -- it in a user's words.
-use Rattle.std.specs.Prelude.{◌≡◌, ℕ, ◌+◌, ◌≤◌, ◌^◌, false, Option, Result, Ok, IfSome}
+use Rattle.std.specs.Prelude.{◌≡◌, ℕ, ◌+◌, ◌≤◌, ◌^◌, false, Option, Result, Ok}
 use Rattle.esdk_args.specs.declared.request.Request.{Request}
 use Rattle.esdk_args.specs.declared.request.Request.TheVariants as requests
 use Rattle.esdk_args.specs.declared.request.WordsFault.{WordsFault}
@@ -9,20 +9,20 @@ use Rattle.esdk_base.specs.Clock.{Moments}
 use Rattle.esdk_base.specs.Streams.{OnTold}
 use Rattle.esdk_list.specs.List.{input_fault}
 use Rattle.esdk_run.specs.Ages.{KeepsAges}
-use Rattle.esdk_run.specs.ExtractTold.{ComesBackBefore, ExtractsOfContent, ExtractsSoundRanges, ReadsNoMore}
+use Rattle.esdk_run.specs.ExtractTold.{ExtractsOfContent, ExtractsSoundRanges, ReadsNoMore}
 use Rattle.esdk_run.specs.ExtractTold.{SaysWhatItExtracts}
 use Rattle.esdk_run.specs.AuditTold.{AuditsWhatIsHeld, SaysTheOpeners}
 use Rattle.esdk_run.specs.EachJob.{DoesWhatItMust, SaysEachJudgement}
 use Rattle.esdk_run.specs.EarlyEnd.{LeavesAFront}
 use Rattle.esdk_run.specs.Objects.{Objects, Unchanged}
-use Rattle.esdk_run.specs.ResealTold.{GivesBackFirst, ResealsWholeMessages, RotatesWhatIsWritten}
+use Rattle.esdk_run.specs.ResealTold.{ResealsWholeMessages, RotatesWhatIsWritten}
 use Rattle.esdk_run.specs.ResealTold.{SaysWhatItReseals}
 use Rattle.esdk_run.specs.Run.{AgreesWith, draws, reads_clock, reads_input, reads_shelf}
 use Rattle.esdk_run.specs.Run.{writes_shelf}
 use Rattle.esdk_run.specs.Served.{Generates, KeepsLimits, KeepsOtherFiles, RunsWhatIsHeld}
-use Rattle.esdk_run.specs.Told.{ComesBack, DecryptsWholeMessages, EncryptsWhatFits}
-use Rattle.esdk_run.specs.Told.{MigratesWhatIsHeld, ReadsBack, SaysTheJudgement, SaysWhatItReads}
-use Rattle.esdk_run.specs.Told.{WritesTheMessage, keyring_asked}
+use Rattle.esdk_run.specs.Told.{ComesBack, ComesBackBefore, DecryptsWholeMessages}
+use Rattle.esdk_run.specs.Told.{EncryptsWhatFits, MigratesWhatIsHeld, ReadsBack}
+use Rattle.esdk_run.specs.Told.{SaysTheJudgement, SaysWhatItReads, WritesTheMessage}
 use Rattle.esdk_run.specs.Trees.{Trees}
 use Rattle.esdk_run.specs.Unarmoured.{outlook_of}
 
@@ -61,15 +61,15 @@ pub record Promises (trees : Trees) (words : Words) (before after : Objects)
   pub clock : reads_clock words ≡ false → time.same
   -- At most 2^62 bytes of the input are taken.
   pub taken : after.input.given ≤ before.input.given + 2 ^ 62
-  -- A tree is given back only where the keyring file was read as one; and where a shelf tells that
-  -- it holds one, and doesn't fail, that is given back, unless memory runs out.
-  pub tree : IfSome (keyring_asked words)
-      (λ asked. ComesBack trees asked.0 asked.1 before.shelf after.shelf code)
   -- `list`: no input that begins with a header and its tag is refused for a fault, and no other is
   -- done. Of an armoured input that is said of the bytes that its text gives.
   pub judged : On requests.List words (λ asked. OnTold before.input.left
       (λ bytes. AgreesWith code
       (input_fault asked.uncommitted (outlook_of asked.armour bytes).bytes)))
+  -- `encrypt`: a tree is given back only where the keyring file was read as one; and where a shelf
+  -- tells that it holds one, and doesn't fail, that is given back, unless memory runs out.
+  pub encrypt_tree : On requests.Encrypt words
+      (λ asked. ComesBack trees asked.pairs asked.keyring before.shelf after.shelf code)
   -- `encrypt`: the output gains the message of the input, as it is or as armour text.
   pub message : On requests.Encrypt words
       (λ asked. WritesTheMessage trees asked before after code)
@@ -80,6 +80,9 @@ pub record Promises (trees : Trees) (words : Words) (before after : Objects)
   -- taken, in the same form.
   pub front : On requests.Encrypt words
       (λ asked. LeavesAFront trees asked before after unchanged code)
+  -- `decrypt`: the same is so of its tree.
+  pub decrypt_tree : On requests.Decrypt words
+      (λ asked. ComesBack trees asked.pairs asked.keyring before.shelf after.shelf code)
   -- `decrypt`: of the bytes taken, what the keys of the tree read of them decides, whatever the
   -- objects tell.
   pub reads : On requests.Decrypt words (λ asked. SaysWhatItReads trees asked before after code)
@@ -119,7 +122,7 @@ pub record Promises (trees : Trees) (words : Words) (before after : Objects)
   -- `extract`: a tree is given back only where the keyring file was read as one; and where a shelf
   -- tells that it holds one, and doesn't fail, that is given back, unless memory runs out.
   pub extract_tree : On requests.Extract words
-      (λ asked. ComesBackBefore trees asked before.shelf after.shelf code)
+      (λ asked. ComesBackBefore trees asked.pairs asked.keyring before.shelf after.shelf code)
   -- `extract`: of a file that the shelf tells the range is written, and the fault that ends it is
   -- named; no slot behind those that are taken is read.
   pub extraction : On requests.Extract words
@@ -135,7 +138,7 @@ pub record Promises (trees : Trees) (words : Words) (before after : Objects)
   -- `reseal`: the first tree is given back, only where its keyring file was read as one; and where
   -- a shelf tells that it holds one, and doesn't fail, that is given back, unless memory runs out.
   pub reseal_tree : On requests.Reseal words
-      (λ asked. GivesBackFirst trees asked before.shelf after.shelf code)
+      (λ asked. ComesBackBefore trees asked.pairs asked.keyring before.shelf after.shelf code)
   -- `reseal`: the judgement of all bytes of the input is said. Of a whole message the output gains
   -- the new one, under the second tree's keys and over the same whole context; of one with a fault
   -- all frames but the last of what is released before it.

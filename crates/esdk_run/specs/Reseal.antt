@@ -1,20 +1,15 @@
 -- What the command `reseal` comes to.
-use Rattle.std.specs.Prelude.{◌≡◌, ◌⊎◌, ℕ, List, [], ◌∷◌, length, take, drop, ⊤, true}
-use Rattle.std.specs.Prelude.{Option, option_map, None, Some, IfSome}
+use Rattle.std.specs.Prelude.{◌≡◌, ◌⊎◌, List, ⊤, true, None, Some}
 use Rattle.esdk_args.specs.declared.request.ResealWords.{ResealWords}
 use Rattle.esdk_base.specs.Streams.{ShelfState}
 use Rattle.esdk_fields.specs.declared.refusals.Outside.TheVariants as outsides
-use Rattle.esdk_fields.specs.declared.refusals.Refusal.{Refusal}
 use Rattle.context_codec.specs.Context.{KeyValue}
 use Rattle.header_codec.specs.declared.settings.Settings.{Settings}
 use Rattle.keyring_trait.specs.declared.manager_errors.ManagerError.{ManagerError}
 use Rattle.keyring_trait.specs.declared.manager_errors.ManagerError.TheVariants as managers
-use Rattle.keyring_trait.specs.declared.served.Served.TheVariants.{Direct}
 use Rattle.keyring_trait.specs.Keyring.{KeyringMeaning}
-use Rattle.keyring_trait.specs.Manager.{refusal_named, reserved_used}
-use Rattle.keyring_trait.specs.Materials.{EncMaterialsValue}
 use Rattle.keyring_trait.specs.Requests.{EncRequestValue}
-use Rattle.keyring_trait.specs.Wrapping.{WrapKeyValue, first_some, ivs_of, made}
+use Rattle.keyring_trait.specs.Wrapping.{WrapKeyValue}
 use Rattle.reseal_core.specs.declared.errors.InputError.{InputError}
 use Rattle.reseal_core.specs.declared.errors.InputError.TheVariants as errors
 use Rattle.reseal_core.specs.Reseal.{ResealEnds, Resealing, ResealsInput}
@@ -22,6 +17,7 @@ use Rattle.esdk_report.specs.declared.failure.Failure.{Failure}
 use Rattle.esdk_report.specs.declared.failure.Failure.TheVariants as failures
 use Rattle.esdk_run.specs.Decrypt.{TreeFinds, TreeFindsNone}
 use Rattle.esdk_run.specs.FileReading.{FileFails}
+use Rattle.esdk_run.specs.Giving.{TreeGives, refusal_over}
 use Rattle.esdk_run.specs.Objects.{Objects, Unchanged, same_streams}
 use Rattle.esdk_run.specs.Pairs.{RefusesWordPairs, required_in}
 use Rattle.esdk_run.specs.Trees.{HasNoTree, HasTree, IsLawful, IsUntouched, TreeGoes, TreeIs, Trees}
@@ -33,31 +29,10 @@ limits_of asked = record
 
 -- ---- what the second tree gives
 
--- Q1, where a key has the reserved prefix; else Q5 or Q6, where the tree refuses to make a data key
-unfoldable pub refusal_sealing : List KeyValue → KeyringMeaning → Option Refusal
-refusal_sealing context tree = first_some (λ o. o)
-    (reserved_used context ∷ option_map refusal_named tree.refuses_none ∷ [])
-
--- What is given for a request and these random bytes, where nothing is refused: its context and its
--- required keys, no more and no others; the first 32 bytes as data key; and an entry for each wrap
--- of the tree. Where the tree tells its keys, the entries are their wraps of the data key, in
--- order, with the bytes behind it as IVs.
-pub record TreeSeals (tree : KeyringMeaning) (request : EncRequestValue) (random : List ℕ)
-    (materials : EncMaterialsValue) : Type 0 where
-  pub unrefused : refusal_sealing request.context tree ≡ None
-  pub whole : materials.context ≡ request.context
-  pub required : materials.required ≡ request.required
-  pub key : materials.key ≡ take 32 random
-  pub count : length materials.entries ≡ tree.wraps
-  pub wrapped : IfSome tree.keys
-      (λ keys. materials.entries ≡ made keys request.context (take 32 random)
-      (ivs_of tree.wraps (drop 32 random)))
-  pub served : materials.served ≡ Direct
-
 -- Why nothing is given: the tree refuses the request. It doesn't fail. Want of memory is free.
 abbrev pub TreeSealsNone : KeyringMeaning → EncRequestValue → ManagerError → Type 0
 TreeSealsNone tree request (managers.Refusal refusal) =
-    refusal_sealing request.context tree ≡ Some refusal
+    refusal_over request.context tree ≡ Some refusal
 TreeSealsNone tree request managers.Memory = ⊤
 TreeSealsNone tree request error = ⊥
 
@@ -76,7 +51,7 @@ reseal_asked asked given tree left second = record {
     given = given;
   };
   wraps = second.wraps;
-  gives = TreeSeals second;
+  gives = λ request. TreeGives (refusal_over request.context second) second request;
   gives_none = TreeSealsNone second;
   size = asked.frame;
 }

@@ -1,12 +1,12 @@
 -- What `reseal` says over the tree that it gives back, where the shelf tells the second keyring
 -- file.
-use Rattle.std.specs.Prelude.{◌≡◌, ℕ, ◌^◌, ◌<◌, ◌≤◌, ◌⊎◌, List, [], length}
+use Rattle.std.specs.Prelude.{◌≡◌, ℕ, ◌^◌, ◌<◌, ◌≤◌, List, [], length}
 use Rattle.std.specs.Prelude.{None, Some, Ok}
 use Rattle.std.specs.Io.KnownBytes.{Appends}
 use Rattle.esdk_args.specs.declared.request.ResealWords.{ResealWords}
 use Rattle.esdk_fields.specs.Counts.{Stayed}
 use Rattle.esdk_fields.specs.declared.faults.Fault.{Fault}
-use Rattle.esdk_base.specs.Streams.{ShelfState, SourceState}
+use Rattle.esdk_base.specs.Streams.{SourceState}
 use Rattle.context_codec.specs.Context.{KeyValue}
 use Rattle.context_codec.specs.Parts.{keys_of}
 use Rattle.keyring_trait.specs.Keyring.{KeyringMeaning}
@@ -22,25 +22,12 @@ use Rattle.esdk_decrypt.specs.Told.{Reader, judged_by}
 use Rattle.reseal_core.specs.Laws.{HasRoom, IsNoMessage, IsRotated, front_by, unlocked_to}
 use Rattle.esdk_report.specs.Lines.{fault_line, printed_line}
 use Rattle.esdk_report.specs.Report.{Gains, ShowsContext}
+use Rattle.esdk_run.specs.Giving.{refusal_over}
 use Rattle.esdk_run.specs.Objects.{Objects}
 use Rattle.esdk_run.specs.Pairs.{context_in, required_in}
-use Rattle.esdk_run.specs.Reseal.{limits_of, refusal_sealing}
-use Rattle.esdk_run.specs.Told.{GivesTree, HoldsTree, IfNoneFailed, IsDoneOrMemory, IsLeft}
-use Rattle.esdk_run.specs.Told.{NothingFails}
+use Rattle.esdk_run.specs.Reseal.{limits_of}
+use Rattle.esdk_run.specs.Told.{HoldsTree, IfNoneFailedBefore, IsDoneOrMemory, NothingFails}
 use Rattle.esdk_run.specs.Trees.{Trees}
-
--- ---- the tree that is given back
-
--- A tree is given back only where the first keyring file was read as one, before the second was
--- read. Where a shelf tells that it holds one, and doesn't fail, that is given back, unless memory
--- runs out; also where the second file is refused.
-pub record GivesBackFirst (trees : Trees) (asked : ResealWords) (old new : ShelfState) (code : ℕ)
-    : Type 0 where
-  pub read : (left : KeyringMeaning) → trees.kept ≡ Some left
-      → (middle : ShelfState) × IsLeft trees asked.keyring old middle left
-  pub held : (context : List KeyValue) (tree : KeyringMeaning) → context_in asked.pairs ≡ Ok context
-      → HoldsTree trees old.files asked.keyring tree → Stayed old.faults new.faults
-      → (code ≡ 5) ⊎ GivesTree trees tree
 
 -- ---- who reads, and who writes
 
@@ -85,11 +72,6 @@ pub record OfItsKeys (tree : KeyringMeaning) (So : List WrapKeyValue → Type 0)
   pub told : tree.keys ≡ Some keys
   pub so : So keys
 
--- This is so where no keyring of the first tree failed in the run, and its count isn't at its end.
-abbrev pub IfNoneFailedFirst : Trees → ResealWords → ShelfState → Type 0 → Type 0
-IfNoneFailedFirst trees asked old So =
-    (middle : ShelfState) × IfNoneFailed trees asked.keyring old middle So
-
 -- ---- what is written
 
 -- All of the input's bytes are a whole message, unlocked with this whole context. The output gained
@@ -133,7 +115,7 @@ abbrev pub SaysWhatItReseals : Trees → ResealWords → Objects → Objects →
 SaysWhatItReseals trees asked before after code =
     (given : List KeyValue) (keys : List WrapKeyValue) (bytes : List ℕ)
     (both : ReadsBoth trees asked before given keys) → before.input.left ≡ Some bytes
-    → IfNoneFailedFirst trees asked before.shelf
+    → IfNoneFailedBefore trees asked.keyring before.shelf
     ((code ≡ 0 → OfItsKeys both.second
     (λ others. ShowsResealed (reseal_reader asked given keys) (reseal_writer asked others) others
     bytes before after code))
@@ -152,7 +134,7 @@ pub record CanBeResealed (reader : Reader) (second : KeyringMeaning) (size : ℕ
   pub key : List ℕ
   pub input_whole : IsWholeInput reader input bytes
   pub unlocked : unlocked_to reader bytes ≡ Unlocks whole only key
-  pub unrefused : refusal_sealing whole second ≡ None
+  pub unrefused : refusal_over whole second ≡ None
   pub room : HasRoom size (content (judged_by reader bytes))
 
 -- Nor does a count of faults of the shelf or the entropy rise, and none is at its end.
@@ -167,7 +149,7 @@ ResealsWholeMessages trees asked before after code =
     (both : ReadsBoth trees asked before given keys)
     → CanBeResealed (reseal_reader asked given keys) both.second asked.frame before.input bytes
     → NothingFails before after → NothingElseFails before after
-    → IfNoneFailedFirst trees asked before.shelf (IsDoneOrMemory code)
+    → IfNoneFailedBefore trees asked.keyring before.shelf (IsDoneOrMemory code)
 
 -- ---- rotation
 
@@ -188,6 +170,6 @@ RotatesWhatIsWritten trees asked before after code =
     (both : ReadsBoth trees asked before given keys)
     → IsWrittenFor (reseal_reader asked given keys) writers m
     → 1 ≤ asked.frame → asked.frame < 2 ^ 32 → before.input.left ≡ Some (written_message m)
-    → IfNoneFailedFirst trees asked before.shelf
+    → IfNoneFailedBefore trees asked.keyring before.shelf
     (code ≡ 0 → OfItsKeys both.second
     (λ others. ShowsRotated m others asked.frame before after code))

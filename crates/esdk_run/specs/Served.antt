@@ -1,6 +1,7 @@
 -- What a batch's report shows of the limits of its cache, and what a batch and a generation leave.
 use Rattle.std.specs.Prelude.{◌≡◌, ◌≢◌, ◌⊎◌, ◌≤◌, ℕ, Bool, false, ◌&&◌, List, length, zip, sum_by, All, Option, Some, None, IfSome, Ok, if◌then◌else◌}
 use Rattle.std.specs.Io.KnownBytes.{Appends}
+use Rattle.esdk_base.specs.Receiver.{SinkFails}
 use Rattle.esdk_base.specs.Shelf.{Files, Holds}
 use Rattle.esdk_base.specs.Streams.{ShelfState, SinkState}
 use Rattle.esdk_fields.specs.Counts.{Stayed}
@@ -16,8 +17,9 @@ use Rattle.whole_input.specs.File.{most_file}
 use Rattle.batch_report.specs.declared.job_lines.JobLine.{JobLine}
 use Rattle.batch_report.specs.BatchReport.{report_of}
 use Rattle.esdk_batch.specs.Batch.{length_of}
+use Rattle.esdk_gen.specs.Generator.{gen_line}
 use Rattle.esdk_run.specs.Batch.{ChangesOnlyWritten, JobsAre, jobs_in}
-use Rattle.esdk_run.specs.Generate.{WritesLine, WritesLineFront}
+use Rattle.esdk_run.specs.Generate.{WritesLine}
 use Rattle.esdk_run.specs.Objects.{Objects}
 use Rattle.esdk_run.specs.Told.{HoldsTree, IsDoneOrMemory}
 use Rattle.esdk_run.specs.Trees.{Trees}
@@ -98,6 +100,6 @@ RunsWhatIsHeld trees name old new before after code =
 -- nothing. All is done unless the output fails or memory runs out.
 pub record Generates (seed size : ℕ) (before after : SinkState) (unwritten : Type 0) (code : ℕ) : Type 0 where
   pub done : code ≡ 0 → WritesLine seed size before after
-  pub failed : code ≡ 4 → WritesLineFront seed size before after
+  pub failed : code ≡ 4 → SinkFails before after (gen_line seed size)
   pub otherwise : code ≢ 0 → code ≢ 4 → unwritten
   pub must : Stayed before.faults after.faults → IsDoneOrMemory code

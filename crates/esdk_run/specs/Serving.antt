@@ -1,23 +1,22 @@
 -- What the manager of a batch may say, by the tree that its keyring file is read as.
-use Rattle.std.specs.Prelude.{◌≡◌, ◌≤◌, ℕ, List, [], ◌∷◌, length, take, drop, true, ⊤, Option, option_map, Some, None, IfSome}
+use Rattle.std.specs.Prelude.{◌≡◌, ◌≤◌, ℕ, List, [], length, take, drop, true, ⊤, Option, Some, None, IfSome}
 use Rattle.esdk_fields.specs.Counts.{Rose, Stayed}
 use Rattle.esdk_fields.specs.declared.faults.Fault.TheVariants.{NoKeyOpens}
-use Rattle.esdk_fields.specs.declared.refusals.Refusal.{Refusal}
-use Rattle.context_codec.specs.Context.{KeyValue}
 use Rattle.context_codec.specs.Parts.{only_given, whole_of}
 use Rattle.keyring_trait.specs.declared.manager_errors.ManagerError.{ManagerError}
 use Rattle.keyring_trait.specs.declared.manager_errors.ManagerError.TheVariants as managers
 use Rattle.keyring_trait.specs.declared.served.Served.TheVariants.{Direct}
 use Rattle.keyring_trait.specs.Keyring.{KeyringMeaning, Opens}
-use Rattle.keyring_trait.specs.Manager.{AreWraps, IsNew, refusal_named, reserved_used}
+use Rattle.keyring_trait.specs.Manager.{AreWraps, IsNew}
 use Rattle.keyring_trait.specs.Materials.{DecMaterialsValue, EncMaterialsValue}
 use Rattle.keyring_trait.specs.Requests.{DecRequestValue, EncRequestValue}
 use Rattle.keyring_trait.specs.Unlocking.{pair_offence}
-use Rattle.keyring_trait.specs.Wrapping.{first_some, ivs_of, made}
+use Rattle.keyring_trait.specs.Wrapping.{ivs_of, made}
 use Rattle.cmm_caching.specs.Limits.{LimitsValue}
 use Rattle.esdk_encrypt.specs.Told.{NoneFor}
 use Rattle.keyring_trait.specs.Saying.{Saying}
 use Rattle.esdk_run.specs.Decrypt.{OpensNone}
+use Rattle.esdk_run.specs.Giving.{refusal_over}
 
 -- What is served from a cache was found earlier, maybe when a keyring failed. So with a cache the
 -- keys of the tree are known of what is served where the tree is steady; without one, always.
@@ -26,11 +25,6 @@ IsSteadyIfCached None tree = ⊤
 IsSteadyIfCached (Some limits) tree = tree.steady ≡ true
 
 -- ---- to encrypt with
-
--- Q1, where a key has the reserved prefix; else Q5 or Q6, where the tree refuses to make a data key
-unfoldable pub refusal_over : List KeyValue → KeyringMeaning → Option Refusal
-refusal_over context tree =
-    first_some (λ o. o) (reserved_used context ∷ option_map refusal_named tree.refuses_none ∷ [])
 
 -- the entries are the tree's wraps of the data key, in order, with these bytes as IVs
 abbrev pub WrappedBy : KeyringMeaning → List ℕ → EncMaterialsValue → Type 0

@@ -1,14 +1,11 @@
 -- What a run comes to over the tree that it gives back, where its objects tell what they hold: when it must be done, and what of the input's bytes it says.
-use Rattle.std.specs.Prelude.{◌≡◌, ◌⊎◌, ℕ, ◌≤◌, List, [], ◌∷◌, length, None, Option, Some, Result, Ok, Err, IfSome}
+use Rattle.std.specs.Prelude.{◌≡◌, ◌⊎◌, ℕ, ◌≤◌, List, [], ◌∷◌, length, None, Option, Some, Ok, IfSome}
 use Rattle.std.specs.Io.KnownBytes.{Appends}
 use Rattle.serde_json.specs.Data.{Data}
 use Rattle.esdk_args.specs.declared.pair_words.PairWord.{PairWord}
 use Rattle.esdk_args.specs.declared.request.DecryptWords.{DecryptWords}
 use Rattle.esdk_args.specs.declared.request.EncryptWords.{EncryptWords}
 use Rattle.esdk_args.specs.declared.request.MigrateWords.{MigrateWords}
-use Rattle.esdk_args.specs.declared.request.Request.{Request}
-use Rattle.esdk_args.specs.declared.request.Request.TheVariants as requests
-use Rattle.esdk_args.specs.declared.request.WordsFault.{WordsFault}
 use Rattle.esdk_fields.specs.Counts.{Stayed}
 use Rattle.esdk_base.specs.Shelf.{Files, Holds}
 use Rattle.esdk_base.specs.Streams.{ShelfState, SinkState}
@@ -44,12 +41,20 @@ pub record IsLeft (trees : Trees) (name : List ℕ) (old new : ShelfState) (left
   pub file : TreeIs trees.read old new name tree
   pub goes : TreeGoes tree left
 
--- A tree is given back, and this is so, too, where none of its keyrings failed in the run, and its count isn't at its end.
-pub record IfNoneFailed (trees : Trees) (name : List ℕ) (old new : ShelfState) (So : Type 0) : Type 0 where
+-- What is left of this tree is given back, and this is so, too, where none of its keyrings failed in the run, and its count isn't at its end. (None fails of a steady tree.)
+pub record WhereNoneFailed (trees : Trees) (tree : KeyringMeaning) (So : Type 0) : Type 0 where
   pub left : KeyringMeaning
   pub kept : trees.kept ≡ Some left
-  pub is : IsLeft trees name old new left
-  pub so : Stayed is.tree.faults left.faults → So
+  pub goes : TreeGoes tree left
+  pub so : Stayed tree.faults left.faults → So
+
+-- The keyring file was read as a tree, of which that is so.
+abbrev pub IfNoneFailed : Trees → (name : List ℕ) → (old new : ShelfState) → Type 0 → Type 0
+IfNoneFailed trees name old new So = (tree : KeyringMeaning) × TreeIs trees.read old new name tree × WhereNoneFailed trees tree So
+
+-- The same of a command that reads another file of the shelf behind the keyring file.
+abbrev pub IfNoneFailedBefore : Trees → (name : List ℕ) → (old : ShelfState) → Type 0 → Type 0
+IfNoneFailedBefore trees name old So = (middle : ShelfState) × IfNoneFailed trees name old middle So
 
 -- The shelf tells that the file of this name holds this tree. (A file of more than 1,048,576 bytes holds none.)
 pub record HoldsTree (trees : Trees) (files : Option Files) (name : List ℕ) (tree : KeyringMeaning) : Type 0 where
@@ -62,18 +67,20 @@ pub record HoldsTree (trees : Trees) (files : Option Files) (name : List ℕ) (t
 abbrev pub GivesTree : Trees → KeyringMeaning → Type 0
 GivesTree trees tree = (left : KeyringMeaning) × (trees.kept ≡ Some left) × TreeGoes tree left
 
--- A tree is given back only where the keyring file was read as one. Where a shelf tells that it holds one, and doesn't fail, that is given back, unless memory runs out.
+-- Where a shelf tells that it holds a tree, and doesn't fail, that is given back, unless the words' pairs are refused or memory runs out.
+abbrev pub GivesWhatIsHeld : Trees → List PairWord → (name : List ℕ) → (old new : ShelfState) → ℕ → Type 0
+GivesWhatIsHeld trees words name old new code = (context : List KeyValue) (tree : KeyringMeaning)
+    → context_in words ≡ Ok context → HoldsTree trees old.files name tree → Stayed old.faults new.faults → (code ≡ 5) ⊎ GivesTree trees tree
+
+-- A tree is given back only where the keyring file was read as one, and one that is held is given back.
 pub record ComesBack (trees : Trees) (words : List PairWord) (name : List ℕ) (old new : ShelfState) (code : ℕ) : Type 0 where
   pub read : (left : KeyringMeaning) → trees.kept ≡ Some left → IsLeft trees name old new left
-  pub held : (context : List KeyValue) (tree : KeyringMeaning) → context_in words ≡ Ok context → HoldsTree trees old.files name tree → Stayed old.faults new.faults
-      → (code ≡ 5) ⊎ GivesTree trees tree
+  pub held : GivesWhatIsHeld trees words name old new code
 
--- the pair words, and the name of the keyring file, of words that name one (that of a batch stands in its job file)
-abbrev pub keyring_asked : Result Request WordsFault → Option (List PairWord × List ℕ)
-keyring_asked (Ok (requests.Encrypt asked)) = Some (asked.pairs, asked.keyring)
-keyring_asked (Ok (requests.Decrypt asked)) = Some (asked.pairs, asked.keyring)
-keyring_asked (Ok request) = None
-keyring_asked (Err fault) = None
+-- The same of a command that reads another file of the shelf behind the keyring file, also where that file is refused.
+pub record ComesBackBefore (trees : Trees) (words : List PairWord) (name : List ℕ) (old new : ShelfState) (code : ℕ) : Type 0 where
+  pub read : (left : KeyringMeaning) → trees.kept ≡ Some left → (middle : ShelfState) × IsLeft trees name old middle left
+  pub held : GivesWhatIsHeld trees words name old new code
 
 -- No count of faults of the input, the output and the report rose, and none is at its end.
 pub record NothingFails (before after : Objects) : Type 0 where

@@ -15,7 +15,7 @@ use Rattle.keyring_file.specs.Found.{wraps_of}
 use Rattle.keyring_file.specs.KeyFile.{tree_of}
 use Rattle.whole_input.specs.File.{IsFile}
 use Rattle.esdk_report.specs.declared.failure.Failure.{Failure}
-use Rattle.esdk_run.specs.FileReading.{FileFails}
+use Rattle.esdk_run.specs.FileReading.{FileFails, FileIs}
 use Rattle.esdk_run.specs.Pairs.{GivesContext}
 
 -- how a file's bytes are read: as one tree, of which what it means to its callers stands alone in a list; or as a refusal
@@ -32,11 +32,9 @@ pub record Trees : Type 0 where
 
 -- ---- what a file is
 
--- The file was read without a failure, and is read as this tree.
-pub record TreeIs (read : TreeReading) (old new : ShelfState) (name : List ℕ) (tree : KeyringMeaning) : Type 0 where
-  pub bytes : List ℕ
-  pub file : IsFile old new name bytes
-  pub is : read bytes ≡ Ok (tree ∷ [])
+-- the file was read without a failure, and is read as this tree
+abbrev pub TreeIs : TreeReading → ShelfState → ShelfState → (name : List ℕ) → KeyringMeaning → Type 0
+TreeIs read old new name tree = FileIs read old new name (tree ∷ [])
 
 -- The same, and its leaves mean this.
 pub record TreeHas (trees : Trees) (old new : ShelfState) (name : List ℕ) (tree : KeyringMeaning) (leaves : List KeyringMeaning) : Type 0 where

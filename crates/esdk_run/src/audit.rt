@@ -1,25 +1,28 @@
 //! The command `audit`.
 ghost use Rattle.std.specs.Prelude.{◌≡◌, ◌<◌, ◌^◌, true, length, IfErr, IfOk, Ok};
+ghost use Rattle.audit_core.specs.Lines.{audit_lines};
 ghost use Rattle.job_file.specs.Audit.{audit_of};
-ghost use Rattle.esdk_run.specs.Audit.{AuditEnds, AuditFails, AuditIs, FindsAll, LinesFail};
+ghost use Rattle.esdk_run.specs.Audit.{AuditEnds, AuditFails, AuditIs, FindsAll};
 ghost use Rattle.esdk_run.specs.Audit.{WritesAudit, WritesLines, audit_status};
 ghost use Rattle.esdk_run.specs.FileReading.{FileFails, ReadCause};
 ghost use Rattle.esdk_run.specs.Run.{AuditsBy, is_status};
+ghost use Rattle.esdk_run.specs.TextPut.{TextFails};
 ghost use Rattle.esdk_run.specs.Trees.{trees_of};
 
-use crate::failures::{file_failure, tree_failure};
+use crate::failures::tree_failure;
+use crate::file_input::taken;
 use crate::keyring_input::read_keyring;
 use crate::outcome::{Ended, Outcome, without_tree};
+use crate::text_put::put_text;
 use audit_core::{Audited, all_opened, audit_messages, audit_text};
 use esdk_base::{Shelf, Sink};
-use esdk_fields::{Outside, Text};
+use esdk_fields::Text;
 use esdk_report::{Failure, Status, report_failure};
 use job_file::{Audit, read_audit};
 use keyring_file::Plug;
 use keyring_trait::Keyring;
 use multi_keyring::Node;
 use std::alloc::Global;
-use whole_input::take_file;
 
 /// What was found of each message, and how many leaves the tree has.
 #[derive(Drop)]
@@ -103,14 +106,13 @@ fn write_lines<O: Sink>(
     requires { length findings.now.messages.items < 2 ^ 32 }
     ensures done { IfOk result (λ status. WritesLines findings.now.leaves
         findings.now.messages.items (O.state output.old) (O.state output.new) status.code) }
-    ensures fails { IfErr result (LinesFail findings.now.leaves findings.now.messages.items
+    ensures fails { IfErr result
+        (TextFails (audit_lines findings.now.leaves findings.now.messages.items)
         (O.state output.old) (O.state output.new) (output.new ≡ output.old)) }
 {
     let text = audit_text(alloc, findings.leaves, findings.messages.as_slice())?;
-    match output.put(text.bytes()) {
-        Ok(()) => Ok(status_of(findings.messages.as_slice())),
-        Err(_) => Err(Failure::Outside(Outside::SinkFault)),
-    }
+    put_text(&text, output)?;
+    Ok(status_of(findings.messages.as_slice()))
 }
 
 /// The status of a run that found this.
@@ -163,18 +165,15 @@ fn audit_file<P: Keyring, F: Shelf>(
 
 /// The audit that the file of this name asks for. The shelf keeps its files.
 ///
-/// `ShelfFault` where a read failed or the file isn't there; then `FileTooLong` where the file has
-/// more than 1,048,576 bytes; then what its bytes are refused for.
+/// The file is taken first, as `taken` says; then its bytes are judged.
 fn read_audit_file<F: Shelf>(alloc: Global, shelf: &mut F, name: &str) -> Result<Audit, Failure>
     ensures audit { IfOk result (AuditIs (F.state shelf.old) (F.state shelf.new) name.now) }
     ensures cause { IfErr result
         (FileFails audit_of (F.state shelf.old) (F.state shelf.new) name.now) }
     ensures stays { (F.state shelf.new).files ≡ (F.state shelf.old).files }
 {
-    match take_file(alloc, shelf, name) {
-        Ok(bytes) => audit_in(alloc, bytes.bytes()),
-        Err(error) => Err(file_failure(error)),
-    }
+    let bytes = taken(alloc, shelf, name)?;
+    audit_in(alloc, bytes.bytes())
 }
 
 /// The audit that the bytes of a file ask for.

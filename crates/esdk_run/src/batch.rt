@@ -1,32 +1,35 @@
 //! The command `batch`.
 ghost use Rattle.std.specs.Prelude.{◌≡◌, ◌<◌, ◌^◌, ⊤, is_some, true, length, IfErr, IfOk, Ok};
 ghost use Rattle.esdk_base.specs.Streams.{SinkState, SourceState};
+ghost use Rattle.batch_report.specs.BatchReport.{report_of};
 ghost use Rattle.esdk_batch.specs.Batch.{OnlyWritten};
 ghost use Rattle.esdk_batch.specs.Failures.{CountsFailures, tally_of};
 ghost use Rattle.esdk_run.specs.Ages.{KeepsAges, ServesFileInTime, ServesInTime, ShowsAges};
-ghost use Rattle.esdk_run.specs.Batch.{BatchFails, JobsAre, JobsFail, ReportFails, RunsJobFile, RunsWithin, WritesReport, jobs_in, status_of};
+ghost use Rattle.esdk_run.specs.Batch.{BatchFails, JobsAre, JobsFail, RunsJobFile, RunsWithin, WritesReport, jobs_in, status_of};
 ghost use Rattle.esdk_run.specs.FileReading.{FileFails, ReadCause};
 ghost use Rattle.esdk_run.specs.Objects.{as_before, objects};
 ghost use Rattle.esdk_run.specs.Run.{BatchRuns, RunsAllJobs, is_status};
 ghost use Rattle.esdk_run.specs.Serving.{TreeOutlasts, managing_over};
+ghost use Rattle.esdk_run.specs.TextPut.{TextFails};
 ghost use Rattle.esdk_run.specs.Trees.{trees_of};
 
-use crate::failures::{file_failure, tree_failure};
+use crate::failures::tree_failure;
+use crate::file_input::taken;
 use crate::keyring_input::read_keyring;
 use crate::outcome::{Ended, Outcome, without_tree};
+use crate::text_put::put_text;
 use batch_report::{BatchReport, report_text};
 use cmm_caching::CachingCmm;
 use cmm_default::DefaultCmm;
 use desk_core::Desk;
 use esdk_base::{Clock, Entropy, Shelf, Sink};
-use esdk_fields::{Outside, Text};
+use esdk_fields::Text;
 use esdk_report::{Failure, Status, report_failure};
 use job_file::{Jobs, read_jobs};
 use keyring_file::Plug;
 use keyring_trait::{Keyring, Manager};
 use multi_keyring::Node;
 use std::alloc::{AllocError, Global};
-use whole_input::take_file;
 
 /// Runs the jobs of the job file of this name over the tree that its keyring file is read as, and
 /// writes the report of what they came to. The status says whether all are done. The tree is given
@@ -126,14 +129,12 @@ fn write_report<O: Sink>(
 ) -> Result<Status, Failure>
     ensures done { IfOk result (λ status.
         WritesReport report.now (O.state output.old) (O.state output.new) status.code) }
-    ensures fails { IfErr result (ReportFails report.now (O.state output.old) (O.state output.new)
-        (output.new ≡ output.old)) }
+    ensures fails { IfErr result (TextFails (report_of report.now)
+        (O.state output.old) (O.state output.new) (output.new ≡ output.old)) }
 {
     let text = report_text(alloc, report)?;
-    match output.put(text.bytes()) {
-        Ok(()) => Ok(status_of(report)),
-        Err(_) => Err(Failure::Outside(Outside::SinkFault)),
-    }
+    put_text(&text, output)?;
+    Ok(status_of(report))
 }
 
 /// The status of a run with this report.
@@ -192,18 +193,15 @@ fn run_job_file<P: Keyring, F: Shelf, W: Entropy, C: Clock>(
 
 /// The jobs of the job file of this name. The shelf keeps its files.
 ///
-/// `ShelfFault` where a read failed or the file isn't there; then `FileTooLong` where the file has
-/// more than 1,048,576 bytes; then what its bytes are refused for.
+/// The file is taken first, as `taken` says; then its bytes are judged.
 fn read_job_file<F: Shelf>(alloc: Global, shelf: &mut F, name: &str) -> Result<Jobs, Failure>
     ensures jobs { IfOk result (JobsAre (F.state shelf.old) (F.state shelf.new) name.now) }
     ensures cause { IfErr result
         (FileFails (jobs_in name.now) (F.state shelf.old) (F.state shelf.new) name.now) }
     ensures stays { (F.state shelf.new).files ≡ (F.state shelf.old).files }
 {
-    match take_file(alloc, shelf, name) {
-        Ok(bytes) => jobs_in(alloc, bytes.bytes(), name),
-        Err(error) => Err(file_failure(error)),
-    }
+    let bytes = taken(alloc, shelf, name)?;
+    jobs_in(alloc, bytes.bytes(), name)
 }
 
 /// The jobs that the bytes of a job file of this name mean.

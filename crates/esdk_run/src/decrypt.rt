@@ -10,6 +10,7 @@ ghost use Rattle.esdk_run.specs.Trees.{trees_of};
 ghost use Rattle.esdk_run.specs.UnarmouredDecrypt.{DecryptsAs, DecryptEndsAs, is_open};
 ghost use Rattle.keyring_trait.specs.Manager.{Went};
 
+use crate::context_told::tell_context;
 use crate::failures::decryption_failure;
 use crate::outcome::{Ended, not_begun};
 use crate::prepared::{Prepared, prepare};
@@ -19,7 +20,7 @@ use context_codec::Context;
 use esdk_args::DecryptWords;
 use esdk_base::{Shelf, Sink, Source};
 use esdk_decrypt::{DecryptError, decrypt};
-use esdk_report::{Failure, Status, line_of_context, report_context, report_failure};
+use esdk_report::{Status, report_failure};
 use header_codec::Settings;
 use keyring_file::Plug;
 use keyring_trait::{Keyring, Manager};
@@ -150,17 +151,5 @@ fn report_end<R: Sink>(
     match ended {
         Ok(context) => tell_context(alloc, &context, report),
         Err(error) => report_failure(alloc, &decryption_failure(error), report),
-    }
-}
-
-/// Puts the line of the whole context on the report, and answers the status.
-pub(crate) fn tell_context<R: Sink>(alloc: Global, context: &Context, report: &mut R) -> Status
-    ensures status { is_status result.code ≡ true }
-    ensures told { TellsOrLacksMemory context.now result.code
-        (R.state report.old) (R.state report.new) }
-{
-    match line_of_context(alloc, context) {
-        Ok(line) => report_context(&line, report),
-        Err(_) => report_failure(alloc, &Failure::Memory, report),
     }
 }

@@ -46,7 +46,8 @@ pub fn file_failure(error: FileError) -> Failure
     }
 }
 
-/// The failure of a keyring file or a job file that is refused.
+/// The failure of a file that was taken and is refused: a keyring file, a job file, or the file of
+/// an audit.
 pub fn tree_failure(error: TreeError) -> Failure
     ensures { result ≡ tree_failure error }
 {

@@ -3,8 +3,8 @@ ghost use Rattle.std.specs.Prelude.{◌≤◌, ◌≡◌, true, IfErr, OnOk};
 ghost use Rattle.esdk_run.specs.Generate.{GenFails, WritesLine};
 ghost use Rattle.esdk_run.specs.Run.{EndsBy, is_status};
 
+use crate::text_put::put_text;
 use esdk_base::Sink;
-use esdk_fields::Outside;
 use esdk_gen::gen_text;
 use esdk_report::{Failure, Status, report_failure};
 use std::alloc::Global;
@@ -42,8 +42,5 @@ fn generate_line<O: Sink>(
         (GenFails seed size (O.state output.old) (O.state output.new) (output.new ≡ output.old)) }
 {
     let text = gen_text(alloc, seed, size)?;
-    match output.put(text.bytes()) {
-        Ok(()) => Ok(()),
-        Err(_) => Err(Failure::Outside(Outside::SinkFault)),
-    }
+    put_text(&text, output)
 }

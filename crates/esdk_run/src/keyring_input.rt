@@ -4,20 +4,19 @@ ghost use Rattle.multi_keyring.specs.Tree.{node_leaves, tree_meaning};
 ghost use Rattle.esdk_run.specs.FileReading.{FileFails, ReadCause};
 ghost use Rattle.esdk_run.specs.Trees.{IsLawful, TreeHas, TreeIs, leaf_reading, reading, trees_of};
 
-use crate::failures::{file_failure, tree_failure};
+use crate::failures::tree_failure;
+use crate::file_input::taken;
 use esdk_base::Shelf;
 use esdk_report::Failure;
 use keyring_file::{Plug, leaves_are_few, read_tree};
 use keyring_trait::Keyring;
 use multi_keyring::Node;
 use std::alloc::Global;
-use whole_input::take_file;
 
 /// The keyring tree that the file of this name is read as, in which the plugs stand where the file
 /// names them. The shelf's files stay as they are.
 ///
-/// `ShelfFault` where a read failed or the file isn't there; then `FileTooLong` where the file has
-/// more than 1,048,576 bytes; then what its bytes are refused for.
+/// The file is taken first, as `taken` says; then its bytes are judged.
 pub fn read_keyring<P: Keyring, F: Shelf>(
     alloc: Global,
     shelf: &mut F,
@@ -36,10 +35,8 @@ pub fn read_keyring<P: Keyring, F: Shelf>(
         (F.state shelf.new) name.now) }
     ensures stays { (F.state shelf.new).files ≡ (F.state shelf.old).files }
 {
-    match take_file(alloc, shelf, name) {
-        Ok(bytes) => tree_in(alloc, bytes.bytes(), plugs),
-        Err(error) => Err(file_failure(error)),
-    }
+    let bytes = taken(alloc, shelf, name)?;
+    tree_in(alloc, bytes.bytes(), plugs)
 }
 
 /// The keyring tree that these bytes of a file are read as.

@@ -5,10 +5,12 @@
 mod armoured_message;
 mod audit;
 mod batch;
+mod context_told;
 mod decrypt;
 mod encrypt;
 mod extract;
 mod failures;
+mod file_input;
 mod generate;
 mod keyring_input;
 mod list;
@@ -17,6 +19,7 @@ mod outcome;
 mod pair_input;
 mod prepared;
 mod reseal;
+mod text_put;
 mod top_call;
 mod unarmoured;
 

@@ -4,14 +4,15 @@ ghost use Rattle.esdk_run.specs.FileReading.{FileFails, ReadCause};
 ghost use Rattle.esdk_run.specs.Migrate.{IsMigrated, IsTextOf, MigrateFails, WritesMigrated, value_asked};
 ghost use Rattle.esdk_run.specs.Run.{EndsBy, is_status};
 
-use crate::failures::{file_failure, tree_failure};
+use crate::failures::tree_failure;
+use crate::file_input::taken;
+use crate::text_put::put_text;
 use esdk_args::MigrateWords;
 use esdk_base::{Shelf, Sink};
-use esdk_fields::{Blob, Outside};
+use esdk_fields::Blob;
 use esdk_report::{Failure, Status, report_failure};
 use keyring_file::migrate;
 use std::alloc::Global;
-use whole_input::take_file;
 
 /// Writes the keyring file in version 2, with the key retired whose number the words give. The
 /// shelf stays as it is.
@@ -54,10 +55,7 @@ fn migrate_file<O: Sink, F: Shelf>(
     ensures stays { (F.state shelf.new).files ≡ (F.state shelf.old).files }
 {
     let text = file_text(alloc, asked, shelf)?;
-    match output.put(text.bytes()) {
-        Ok(()) => Ok(()),
-        Err(_) => Err(Failure::Outside(Outside::SinkFault)),
-    }
+    put_text(&text, output)
 }
 
 /// The text of the keyring file in version 2.
@@ -67,10 +65,8 @@ fn file_text<F: Shelf>(alloc: Global, asked: &MigrateWords, shelf: &mut F) -> Re
         (F.state shelf.new) asked.now.keyring) }
     ensures stays { (F.state shelf.new).files ≡ (F.state shelf.old).files }
 {
-    match take_file(alloc, shelf, asked.keyring.as_str()) {
-        Ok(bytes) => text_of(alloc, asked, bytes.bytes()),
-        Err(error) => Err(file_failure(error)),
-    }
+    let bytes = taken(alloc, shelf, asked.keyring.as_str())?;
+    text_of(alloc, asked, bytes.bytes())
 }
 
 /// The text in version 2 of a keyring file that has these bytes.

@@ -6,7 +6,7 @@ ghost use Rattle.esdk_run.specs.Objects.{as_before, objects};
 ghost use Rattle.esdk_run.specs.Run.{ResealRuns, TellsOrLacksMemory, is_status};
 ghost use Rattle.esdk_run.specs.Trees.{trees_of};
 
-use crate::decrypt::tell_context;
+use crate::context_told::tell_context;
 use crate::failures::resealing_failure;
 use crate::keyring_input::read_keyring;
 use crate::outcome::{Ended, not_begun};

@@ -15,18 +15,19 @@ use std::{fs, io};
 /// content.
 ///
 /// Only regular files are read and written. A read from a file's front opens the file that has the
-/// name then, and the reads behind it go on with that file, whatever becomes of the name: at most
-/// 64 files are open at a time, and one that was closed for others is read no further. A name that
-/// was given to another file meanwhile has no new readers until those of the first have ended.
+/// name then, and the reads behind it go on with that file, whatever becomes of the name. At most 64
+/// files are open for reading at a time, beside those that are written, each until it is in its
+/// place; one that was closed for others is read no further. A name that was given to another file
+/// meanwhile has no new readers until those of the first have ended.
 ///
 /// What is written under a name is a new file in the same folder, `.esdk-PID-N.part`, that only its
 /// owner may open. Until `finish` renames it, what stands under the name stays, and is what is read
 /// there; a process that is killed leaves such files and nothing else. A link is followed once, by
 /// `create`, and one that leads to nothing is refused. What stood there lends the new file its
 /// rights; where nothing did, a file for its owner has mode 600, and another the mode that the
-/// process gives its files. Its owner and its other names aren't taken over. Nothing is put in the
-/// place of a file that was read or announced, that this shelf put in its place, or that nobody may
-/// write.
+/// process's new files get in its folder. Its owner and its other names aren't taken over. Nothing
+/// is put in the place of a file that was read or announced, that this shelf put in its place, or
+/// that nobody may write.
 ///
 /// The system may tell only behind `finish` that it couldn't keep what was written, when a file is
 /// closed or later: neither is seen here.

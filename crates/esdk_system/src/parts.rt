@@ -61,7 +61,7 @@ pub(crate) struct Parts {
     rt: HostRuntime,
     underway: NamedValues<Part>,
     names: PartNames,
-    rights_of_new: Option<u32>,
+    rights_of_new: Option<Named<u32>>,
 }
 
 impl Parts {
@@ -165,18 +165,23 @@ impl Parts {
         }
     }
 
-    /// The rights that the system gives a new file of this process. A file of its own, which is
-    /// made and taken away at once, tells them: nothing is written to it, since others may open it.
+    /// The rights that the system gives a new file of this process in the folder of this path. A
+    /// file of its own, which is made there and taken away at once, tells them: nothing is written
+    /// to it, since others may open it. What one folder told last is kept.
     fn rights_of_new(&mut self, target: &PathBuf) -> io::Result<u32> {
-        if let Some(rights) = self.rights_of_new {
-            return Ok(rights);
+        let folder = target.parent().map_or("", |folder| folder.as_str());
+        if let Some(told) = &self.rights_of_new {
+            if told.name.as_str() == folder {
+                return Ok(told.value);
+            }
         }
         let (path, file) = self.new_file(target, ANYONE)?;
         let metadata = file.metadata();
         fs::remove_file(&self.rt, &path)?;
-        let rights = metadata?.mode() & RIGHTS;
-        self.rights_of_new = Some(rights);
-        Ok(rights)
+        let value = metadata?.mode() & RIGHTS;
+        let name = Text::new(self.rt.alloc(), folder)?;
+        self.rights_of_new = Some(Named { name, value });
+        Ok(value)
     }
 
     /// Makes a new file beside a path, with at most these rights.

@@ -42,8 +42,27 @@ fn without_a_generator_each_fill_fails(rt: HostRuntime) {
     assert!(rt; entropy.fill(&mut [0; 2]).is_err() && entropy.fill(&mut []).is_err());
 }
 
+/// How often the clock is asked at the most until it moves on.
+const MOST_ASKED: u32 = 200_000_000;
+
+/// Whether the clock comes to a later second.
+fn moves_on(clock: &mut SystemClock) -> bool {
+    let first = clock.now();
+    for _ in 0..MOST_ASKED {
+        if first < clock.now() {
+            return true;
+        }
+    }
+    false
+}
+
 #[test]
 fn the_present_is_in_this_century_in_seconds(rt: HostRuntime) {
     let now = SystemClock::new(rt).now();
     assert!(rt; START_OF_2020 < now && now < START_OF_2100);
+}
+
+#[test]
+fn the_present_moves_on(rt: HostRuntime) {
+    assert!(rt; moves_on(&mut SystemClock::new(rt)));
 }

@@ -10,8 +10,8 @@ use std::alloc::AllocError;
 /// The name that it can't finish.
 const STUCK: &str = "d";
 
-/// A shelf in memory that can't finish one name, and counts how often that name was finished and
-/// how often others were, each for anyone.
+/// A shelf in memory that can't finish one name for anyone, and counts how often that name was
+/// finished so and how often others were, and how often a name was finished for its owner alone.
 #[derive(Drop)]
 pub(crate) struct PlacingShelf {
     shelf: MemShelf,
@@ -19,6 +19,7 @@ pub(crate) struct PlacingShelf {
     faults: u64,
     stuck: u32,
     placed: u32,
+    owned: u32,
 }
 
 impl PlacingShelf {
@@ -30,12 +31,18 @@ impl PlacingShelf {
             faults: 0,
             stuck: 0,
             placed: 0,
+            owned: 0,
         }
     }
 
     /// Whether the name that it can't finish was finished once, and so was one other.
     pub(crate) fn finished_each_once(&self) -> bool {
-        self.stuck == 1 && self.placed == 1
+        self.stuck == 1 && self.placed == 1 && self.owned == 0
+    }
+
+    /// Whether one name was finished once, for its owner alone, and no other was.
+    pub(crate) fn finished_for_its_owner(&self) -> bool {
+        self.stuck == 0 && self.placed == 0 && self.owned == 1
     }
 
     /// Counts a fault.
@@ -82,6 +89,7 @@ impl Shelf for PlacingShelf {
 
     fn finish(&mut self, name: &str, readers: Readers) -> Result<(), Failed> {
         let Readers::Anyone = readers else {
+            self.owned = self.owned.saturating_add(1);
             return Ok(());
         };
         if name != STUCK {

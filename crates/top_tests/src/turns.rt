@@ -2,7 +2,7 @@
 //! the program.
 
 use crate::base_memory::{blob, numbers};
-use crate::opening::known_manager;
+use crate::opening::{NINE_BYTES, known_manager};
 use crate::placing_shelf::PlacingShelf;
 use desk_core::Desk;
 use esdk_base::{Entropy, Shelf};
@@ -17,9 +17,13 @@ const JOBS: &str = "{\"version\":1,\"keyring\":\"ring\",\"jobs\":[
     {\"do\":\"encrypt\",\"from\":\"a\",\"to\":\"c\"},
     {\"do\":\"encrypt\",\"from\":\"b\",\"to\":\"d\"}]}";
 
-/// Its jobs.
-fn two_jobs(alloc: Global) -> Option<Jobs> {
-    match read_jobs(alloc, JOBS.as_bytes(), "jobs") {
+/// A job file of one job that opens.
+const OPENING: &str = "{\"version\":1,\"keyring\":\"ring\",\"jobs\":[
+    {\"do\":\"decrypt\",\"from\":\"m\",\"to\":\"t\"}]}";
+
+/// The jobs of a job file.
+fn jobs_of(alloc: Global, file: &str) -> Option<Jobs> {
+    match read_jobs(alloc, file.as_bytes(), "jobs") {
         Ok(jobs) => Some(jobs),
         Err(_) => None,
     }
@@ -36,10 +40,13 @@ fn takes_files(alloc: Global, shelf: &mut MemShelf) -> bool {
 /// What is told of them where the second one fails alone.
 const SECOND_FAILED: &str = "job 1 encrypt done direct\njob 2 encrypt X3 ShelfFault direct\n";
 
-/// Whether a report tells that.
-fn tells_of_the_second(alloc: Global, report: &BatchReport) -> bool {
+/// What is told of the one that opens.
+const OPENED: &str = "job 1 decrypt done direct\n";
+
+/// Whether a report is told so.
+fn is_told(alloc: Global, report: &BatchReport, lines: &str) -> bool {
     match report_text(alloc, report) {
-        Ok(told) => told.bytes() == SECOND_FAILED.as_bytes(),
+        Ok(told) => told.bytes() == lines.as_bytes(),
         Err(_) => false,
     }
 }
@@ -69,7 +76,7 @@ fn second_fails_over<M: Manager, F: Shelf, W: Entropy>(
     entropy: &mut W,
 ) -> bool {
     match report_over(alloc, jobs, manager, shelf, entropy) {
-        Some(report) => tells_of_the_second(alloc, &report),
+        Some(report) => is_told(alloc, &report, SECOND_FAILED),
         None => false,
     }
 }
@@ -99,7 +106,7 @@ fn second_fails_with<W: Entropy>(
 
 /// Whether the second of the two jobs does.
 fn second_of_two_fails<W: Entropy>(alloc: Global, shelf: &mut MemShelf, entropy: &mut W) -> bool {
-    match two_jobs(alloc) {
+    match jobs_of(alloc, JOBS) {
         Some(jobs) => second_fails_with(alloc, &jobs, shelf, entropy),
         None => false,
     }
@@ -140,7 +147,7 @@ fn second_is_unplaced(alloc: Global) -> bool {
     if !takes_files(alloc, &mut files) {
         return false;
     }
-    match (two_jobs(alloc), blob(alloc, &[0x22; 152])) {
+    match (jobs_of(alloc, JOBS), blob(alloc, &[0x22; 152])) {
         (Some(jobs), Some(bytes)) => second_stays_out(alloc, &jobs, files, bytes),
         _ => false,
     }
@@ -150,4 +157,38 @@ fn second_is_unplaced(alloc: Global) -> bool {
 #[test]
 fn what_a_job_wrote_is_finished_once(rt: HostRuntime) {
     assert!(rt; second_is_unplaced(rt.alloc()));
+}
+
+/// Whether the job that opens is done over a desk of this manager, and its file is finished once,
+/// for its owner alone.
+fn opens_for_its_owner<M: Manager>(
+    alloc: Global,
+    jobs: &Jobs,
+    manager: M,
+    files: MemShelf,
+) -> bool {
+    let mut shelf = PlacingShelf::new(files);
+    let mut entropy = ListEntropy::new(Blob::new(alloc), Vec::new(alloc));
+    match report_over(alloc, jobs, manager, &mut shelf, &mut entropy) {
+        Some(report) => is_told(alloc, &report, OPENED) && shelf.finished_for_its_owner(),
+        None => false,
+    }
+}
+
+/// Whether it is with the known message on a shelf in memory.
+fn known_text_is_its_owners(alloc: Global) -> bool {
+    let mut files = MemShelf::new(alloc, Vec::new(alloc));
+    if files.place(alloc, "m", NINE_BYTES).is_err() || files.room(alloc, "t", 9).is_err() {
+        return false;
+    }
+    match (jobs_of(alloc, OPENING), known_manager(alloc)) {
+        (Some(jobs), Some(manager)) => opens_for_its_owner(alloc, &jobs, manager, files),
+        _ => false,
+    }
+}
+
+/// A text that a job opened is put in its place for its owner alone.
+#[test]
+fn an_opened_text_is_for_its_owner_alone(rt: HostRuntime) {
+    assert!(rt; known_text_is_its_owners(rt.alloc()));
 }

@@ -1,8 +1,9 @@
+use Rattle.esdk_decrypt.proofs.Concluding.{passed_on}
 use Rattle.esdk_run.specs.Batch.{jobs_in}
 use Rattle.esdk_run.proofs.Preparing.{file_not_taken}
 use Rattle.esdk_run.proofs.batch.read_job_file.Goals as goal
 
-pub returns-in-Err-clause-cause : goal.returns-in-Err-clause-cause
-returns-in-Err-clause-cause g c =
-    file_not_taken (jobs_in c.args.name.now) _ _ _ c.in-Err.error c.file_failure.result c.file_failure.ensures
-    c.in-Err.ensures.cause
+pub returns-in_err-bytes-clause-cause : goal.returns-in_err-bytes-clause-cause
+returns-in_err-bytes-clause-cause g c =
+    passed_on _ c.from_residual.result c.in_err-bytes.field-0.0 c.from_residual.ensures.1
+    (file_not_taken (jobs_in c.args.name.now) _ _ _ _ c.in_err-bytes.ensures.cause)

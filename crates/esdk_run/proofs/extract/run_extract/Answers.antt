@@ -3,7 +3,8 @@ use Rattle.std.specs.Prelude.{⊤}
 use Rattle.esdk_base.specs.Streams.{ShelfState, SinkState}
 use Rattle.multi_keyring.specs.Tree.{tree_meaning}
 use Rattle.extract_core.proofs.Allowed.{extract_stops_more, extracts_more}
-use Rattle.esdk_run.specs.Extract.{no_limits, range_asked}
+use Rattle.esdk_batch.specs.Answering.{no_limits}
+use Rattle.esdk_run.specs.Extract.{range_asked}
 use Rattle.esdk_run.specs.Objects.{as_before}
 use Rattle.esdk_run.specs.Pairs.{required_in}
 use Rattle.esdk_run.specs.Trees.{trees_of}

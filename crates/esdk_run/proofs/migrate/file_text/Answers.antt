@@ -1,15 +1,9 @@
-use Rattle.std.proofs.Common.{List, ℕ, subst}
-use Rattle.esdk_base.specs.Streams.{ShelfState}
-use Rattle.esdk_run.specs.FileReading.{FileFails}
+use Rattle.esdk_decrypt.proofs.Concluding.{passed_on}
 use Rattle.esdk_run.specs.Migrate.{value_asked}
 use Rattle.esdk_run.proofs.Preparing.{file_not_taken}
 use Rattle.esdk_run.proofs.migrate.file_text.Goals as goal
 
-pub returns-in-Err-clause-cause : goal.returns-in-Err-clause-cause
-returns-in-Err-clause-cause g c =
-    let old : ShelfState = g.F.Shelf.state c.args.shelf.now in
-    let new : ShelfState = g.F.Shelf.state c.take_file.new.shelf in
-    subst (λ (name : List ℕ). FileFails (value_asked c.args.asked.now) old new name c.file_failure.result)
-    c.as_str.ensures.text
-    (file_not_taken (value_asked c.args.asked.now) old new c.as_str.result.now c.in-Err.error c.file_failure.result
-    c.file_failure.ensures c.in-Err.ensures.cause)
+pub returns-in_err-bytes-clause-cause : goal.returns-in_err-bytes-clause-cause
+returns-in_err-bytes-clause-cause g c =
+    passed_on _ c.from_residual.result c.in_err-bytes.field-0.0 c.from_residual.ensures.1
+    (file_not_taken (value_asked c.args.asked.now) _ _ _ _ (rw c.as_str.ensures.text at c.in_err-bytes.ensures.cause))

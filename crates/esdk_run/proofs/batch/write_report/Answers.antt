@@ -1,4 +1,0 @@
-use Rattle.esdk_run.proofs.batch.write_report.Goals as goal
-
-pub returns-in-Ok-clause-fails : goal.returns-in-Ok-clause-fails
-returns-in-Ok-clause-fails g c = tt
