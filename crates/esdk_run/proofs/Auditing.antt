@@ -17,8 +17,8 @@ use Rattle.job_file.specs.declared.audit.AuditMessage.{AuditMessage}
 use Rattle.job_file.specs.AuditFile.{AuditFile}
 use Rattle.job_file.specs.Audit.{audit_of}
 use Rattle.job_file.specs.Found.{Reads}
-use Rattle.keyring_file.specs.declared.key_file.TreeError.{TreeError}
-use Rattle.keyring_file.specs.declared.key_file.TreeError.TheVariants as trees
+use Rattle.json_values.specs.declared.errors.ReadError.{ReadError}
+use Rattle.json_values.specs.declared.errors.ReadError.TheVariants as trees
 use Rattle.keyring_file.specs.declared.plugs.Plug.{Plug}
 use Rattle.whole_input.specs.File.{IsFile}
 use Rattle.audit_core.specs.declared.audited.Audited.{Audited}
@@ -45,7 +45,7 @@ use Rattle.esdk_run.proofs.TreesBack.{one_left}
 -- ---- the file
 
 -- a file of an audit that is refused
-pub audit_refused : (bytes : List ℕ) (error : TreeError) (failure : Failure) → failure ≡ tree_failure error
+pub audit_refused : (bytes : List ℕ) (error : ReadError) (failure : Failure) → failure ≡ tree_failure error
     → Reads {A = AuditFile} (λ audit. audit) (Err error) (audit_of bytes) → ReadCause audit_of bytes failure
 audit_refused bytes (trees.File refusal) failure is reads = subst (λ (f : Failure). ReadCause audit_of bytes f) (sym is) reads
 audit_refused bytes trees.Memory failure is reads = subst (λ (f : Failure). ReadCause audit_of bytes f) (sym is) tt

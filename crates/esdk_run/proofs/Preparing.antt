@@ -15,8 +15,8 @@ use Rattle.esdk_fields.specs.declared.refusals.Refusal.{Refusal}
 use Rattle.job_file.specs.Found.{Reads}
 use Rattle.job_file.specs.JobFile.{JobFile}
 use Rattle.job_file.specs.Jobs.{jobs_of}
-use Rattle.keyring_file.specs.declared.key_file.TreeError.{TreeError}
-use Rattle.keyring_file.specs.declared.key_file.TreeError.TheVariants as trees
+use Rattle.json_values.specs.declared.errors.ReadError.{ReadError}
+use Rattle.json_values.specs.declared.errors.ReadError.TheVariants as trees
 use Rattle.keyring_file.specs.declared.plugs.Plug.{Plug}
 use Rattle.keyring_file.specs.Found.{wraps_of}
 use Rattle.keyring_file.specs.KeyFile.{FileAnswers, tree_of}
@@ -54,7 +54,7 @@ file_not_taken read old new name failure (files.Memory, is, cause) =
 
 -- a keyring file that is refused
 pub tree_refused : {P : Type 0} (meaning : P → KeyringMeaning) (plugs : List (Plug P)) (bytes : List ℕ)
-    (error : TreeError) (failure : Failure) → failure ≡ tree_failure error
+    (error : ReadError) (failure : Failure) → failure ≡ tree_failure error
     → FileAnswers (Err error) (tree_of (wraps_of meaning) bytes plugs) → ReadCause (reading meaning plugs) bytes failure
 tree_refused meaning plugs bytes (trees.File refusal) failure is answers =
     subst (λ (f : Failure). ReadCause (reading meaning plugs) bytes f) (sym is) (ap (means meaning) answers)
@@ -62,7 +62,7 @@ tree_refused meaning plugs bytes trees.Memory failure is answers =
     subst (λ (f : Failure). ReadCause (reading meaning plugs) bytes f) (sym is) tt
 
 -- a job file that is refused
-pub jobs_refused : (name bytes : List ℕ) (error : TreeError) (failure : Failure) → failure ≡ tree_failure error
+pub jobs_refused : (name bytes : List ℕ) (error : ReadError) (failure : Failure) → failure ≡ tree_failure error
     → Reads {A = JobFile} (λ jobs. jobs) (Err error) (jobs_of bytes name) → ReadCause (jobs_in name) bytes failure
 jobs_refused name bytes (trees.File refusal) failure is reads =
     subst (λ (f : Failure). ReadCause (jobs_in name) bytes f) (sym is) reads
@@ -70,7 +70,7 @@ jobs_refused name bytes trees.Memory failure is reads =
     subst (λ (f : Failure). ReadCause (jobs_in name) bytes f) (sym is) tt
 
 -- a keyring file that is refused in version 2
-pub migration_refused : (asked : MigrateWords) (bytes : List ℕ) (error : TreeError) (failure : Failure)
+pub migration_refused : (asked : MigrateWords) (bytes : List ℕ) (error : ReadError) (failure : Failure)
     → failure ≡ tree_failure error → Migrates (Err error) (migration asked.retire bytes)
     → ReadCause (value_asked asked) bytes failure
 migration_refused asked bytes (trees.File refusal) failure is refuses =

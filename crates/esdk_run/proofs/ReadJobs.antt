@@ -13,7 +13,6 @@ use Rattle.esdk_fields.specs.declared.refusals.FileRefusal.TheVariants.{BadShape
 use Rattle.context_codec.specs.Context.{KeyValue}
 use Rattle.context_codec.specs.KeySet.{has, with_key}
 use Rattle.context_codec.specs.Parts.{holds}
-use Rattle.keyring_file.specs.JsonValues.{◌>>=◌, ◌>>◌, member_count, present, provided, text_at, value_of}
 use Rattle.job_file.specs.declared.job.Job.{Job}
 use Rattle.job_file.specs.declared.job.Work.{Work}
 use Rattle.job_file.specs.declared.job.Work.TheVariants.{Encrypt, Decrypt}
@@ -22,6 +21,7 @@ use Rattle.job_file.specs.JobForm.{Head, context_at, decryption_of, encryption_o
 use Rattle.job_file.specs.Jobs.{clash_among, each_from, file_of, jobs_from, jobs_of, or_refuse, read_names, then_read, unless_clash}
 use Rattle.job_file.proofs.Apart.{reads_apart}
 use Rattle.job_file.proofs.Held.{one_more_passes}
+use Rattle.json_values.specs.Values.{◌>>=◌, ◌>>◌, member_count, present, provided, text_at, value_of}
 use Rattle.esdk_run.specs.Batch.{jobs_in}
 
 -- ---- what is so of whatever is found

@@ -13,11 +13,11 @@ use Rattle.multi_keyring.specs.declared.tree.Node.{Node}
 use Rattle.multi_keyring.specs.Forest.{Forest, Nil, RawThen, HandedThen, MultiThen}
 use Rattle.multi_keyring.specs.Tree.{all_faults, all_keys, all_steady, all_wraps, both_keys, meanings}
 use Rattle.multi_keyring.proofs.Going.{first_true}
+use Rattle.json_values.specs.Values.{value_of}
 use Rattle.keyring_file.specs.declared.plugs.Plug.{Plug}
 use Rattle.keyring_file.specs.Counts.{leaves_of}
 use Rattle.keyring_file.specs.Form.{Form, RawForm, PlugForm, MultiForm, form_of, ring_of}
 use Rattle.keyring_file.specs.Found.{wraps_of}
-use Rattle.keyring_file.specs.JsonValues.{value_of}
 use Rattle.keyring_file.specs.KeyFile.{is_json, json_tree, line_tree, node_tree, only_tree, start, tree_of}
 use Rattle.keyring_file.specs.KeyLine.{key_line}
 use Rattle.keyring_file.specs.Leaves.{plug_leaf, raw_key, raw_leaf, wrap_key}

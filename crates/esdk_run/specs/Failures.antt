@@ -13,8 +13,8 @@ use Rattle.esdk_fields.specs.declared.refusals.FileRefusal.TheVariants.{FileTooL
 use Rattle.esdk_fields.specs.declared.refusals.Outside.TheVariants.{ShelfFault}
 use Rattle.esdk_report.specs.declared.failure.Failure.{Failure}
 use Rattle.esdk_report.specs.declared.failure.Failure.TheVariants as failures
-use Rattle.keyring_file.specs.declared.key_file.TreeError.{TreeError}
-use Rattle.keyring_file.specs.declared.key_file.TreeError.TheVariants as trees
+use Rattle.json_values.specs.declared.errors.ReadError.{ReadError}
+use Rattle.json_values.specs.declared.errors.ReadError.TheVariants as trees
 use Rattle.reseal_core.specs.declared.errors.InputError.{InputError}
 use Rattle.reseal_core.specs.declared.errors.InputError.TheVariants as resealing
 use Rattle.whole_input.specs.declared.file.FileError.{FileError}
@@ -39,7 +39,7 @@ file_failure files.TooLong = failures.File FileTooLong
 file_failure files.Memory = failures.Memory
 
 -- of a file that was taken and is refused: a keyring file, a job file, or the file of an audit
-abbrev pub tree_failure : TreeError → Failure
+abbrev pub tree_failure : ReadError → Failure
 tree_failure (trees.File refusal) = failures.File refusal
 tree_failure trees.Memory = failures.Memory
 

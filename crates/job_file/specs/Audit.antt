@@ -4,7 +4,7 @@ use Rattle.esdk_fields.specs.declared.refusals.FileRefusal.{FileRefusal}
 use Rattle.esdk_fields.specs.declared.refusals.FileRefusal.TheVariants.{NotJson, BadShape}
 use Rattle.serde_json.specs.Data.{Items}
 use Rattle.serde_json.specs.View.{items_view}
-use Rattle.keyring_file.specs.JsonValues.{value_of}
+use Rattle.json_values.specs.Values.{value_of}
 use Rattle.job_file.specs.declared.audit.AuditMessage.{AuditMessage}
 use Rattle.job_file.specs.declared.audit_reading.AuditHead as found
 use Rattle.job_file.specs.AuditFile.{AuditFile}

@@ -2,7 +2,7 @@
 -- stands twice counts as it stands last.
 use Rattle.std.specs.Prelude.{ℕ, ◌+◌, ◌==◌, List, codes, Option, Some}
 use Rattle.serde_json.specs.Data.{Data, Items}
-use Rattle.keyring_file.specs.JsonValues.{◌>>=◌, ◌>>◌, provided, member_count, present, text_at}
+use Rattle.json_values.specs.Values.{◌>>=◌, ◌>>◌, provided, member_count, present, text_at}
 use Rattle.job_file.specs.declared.audit.AuditMessage.{AuditMessage}
 use Rattle.job_file.specs.JobForm.{context_at, items_at, number_from}
 

@@ -6,10 +6,10 @@ use Rattle.std.specs.BTreeSet.{BTreeSet, contains}
 use Rattle.std.specs.Cmp.Lexicographic.{slice_cmp}
 use Rattle.std.specs.Ordering.{nat_cmp}
 use Rattle.esdk_fields.specs.declared.refusals.FileRefusal.{FileRefusal}
-use Rattle.keyring_file.specs.declared.key_file.TreeError.{TreeError}
-use Rattle.keyring_file.specs.declared.key_file.TreeError.TheVariants.{File, Memory}
 use Rattle.serde_json.specs.View.{items_view}
 use Rattle.cmm_caching.specs.Limits.{AreLimits}
+use Rattle.json_values.specs.declared.errors.ReadError.{ReadError}
+use Rattle.json_values.specs.declared.errors.ReadError.TheVariants.{File, Memory}
 use Rattle.job_file.specs.declared.head.Head as head
 use Rattle.job_file.specs.JobForm.{Head}
 
@@ -39,7 +39,7 @@ pub record IsHead (h : head.Head) : Type 0 where
   pub few : length h.jobs.now ≤ 1000
 
 -- What this value means, or this refusal; want of memory may come at any time.
-abbrev pub Reads : {A B : Type 0} → (A → B) → Result A TreeError → Result B FileRefusal → Type 0
+abbrev pub Reads : {A B : Type 0} → (A → B) → Result A ReadError → Result B FileRefusal → Type 0
 Reads means (Ok x) reading = reading ≡ Ok (means x)
 Reads means (Err (File refusal)) reading = reading ≡ Err refusal
 Reads means (Err Memory) reading = Unit {0}

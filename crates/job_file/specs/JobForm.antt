@@ -13,8 +13,7 @@ use Rattle.context_codec.specs.Context.{KeyValue}
 use Rattle.context_codec.specs.Insert.{refusal_of}
 use Rattle.context_codec.specs.KeySet.{has, with_key}
 use Rattle.context_codec.specs.Parts.{holds}
-use Rattle.keyring_file.specs.JsonValues.{◌>>=◌, ◌>>◌, provided, member_count, present, text_at}
-use Rattle.keyring_file.specs.Form.{number_at}
+use Rattle.json_values.specs.Values.{◌>>=◌, ◌>>◌, provided, member_count, number_at, present, text_at}
 use Rattle.job_file.specs.declared.job.Job.{Job}
 use Rattle.job_file.specs.declared.job.Work.{Work}
 use Rattle.job_file.specs.declared.job.Work.TheVariants.{Encrypt, Decrypt}

@@ -6,7 +6,7 @@ use Rattle.esdk_fields.specs.declared.refusals.FileRefusal.TheVariants.{NotJson,
 use Rattle.esdk_fields.specs.declared.refusals.FileRefusal.TheVariants.{NamesClash}
 use Rattle.serde_json.specs.Data.{Data, Items, no_items, item}
 use Rattle.context_codec.specs.KeySet.{has}
-use Rattle.keyring_file.specs.JsonValues.{value_of}
+use Rattle.json_values.specs.Values.{value_of}
 use Rattle.job_file.specs.declared.job.Job.{Job}
 use Rattle.job_file.specs.JobFile.{JobFile, is_written}
 use Rattle.job_file.specs.JobForm.{Head, head_of, job_of}

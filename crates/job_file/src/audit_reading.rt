@@ -11,8 +11,7 @@ use crate::contexts::context_at;
 use crate::head::items_at;
 use crate::numbers::number_from;
 use esdk_fields::{FileRefusal, Text};
-use keyring_file::TreeError;
-use keyring_file::json_values::{member_count, present, text_at, value_of};
+use json_values::{ReadError, member_count, present, text_at, value_of};
 use serde_json::Value;
 use std::alloc::{AllocError, Global};
 
@@ -32,12 +31,12 @@ struct AuditHead<'a> {
 /// K1 `NotJson`; K2 `BadShape` with 0, where the file's own members have another form; K2 with the
 /// number of the first message that has another form. `Memory` where memory runs out.
 #[tactic(auto, unfolding(crate::specs::Audit::audit_of))]
-pub fn read_audit(alloc: Global, bytes: &[u8]) -> Result<Audit, TreeError>
+pub fn read_audit(alloc: Global, bytes: &[u8]) -> Result<Audit, ReadError>
     ensures { Reads (λ audit. audit) result (audit_of bytes.now) }
 {
     let file = value_of(alloc, bytes)?;
     let Some(head) = audit_head_of(&file) else {
-        return Err(TreeError::File(FileRefusal::BadShape(0)));
+        return Err(ReadError::File(FileRefusal::BadShape(0)));
     };
     let messages = messages_in(alloc, head.messages)?;
     let keyring = Text::new(alloc, head.keyring)?;
@@ -63,7 +62,7 @@ fn audit_head_of(file: &Value) -> Option<AuditHead<'_>>
 
 /// The messages of these values, which have numbers from 1. K2 `BadShape` at the first that has
 /// another form.
-fn messages_in(alloc: Global, values: &[Value]) -> Result<Vec<AuditMessage>, TreeError>
+fn messages_in(alloc: Global, values: &[Value]) -> Result<Vec<AuditMessage>, ReadError>
     requires { length values.now ≤ 1000 }
     ensures value { Reads (λ messages. messages.items) result
         (messages_from 1 (items_view values.now)) }
@@ -74,7 +73,7 @@ fn messages_in(alloc: Global, values: &[Value]) -> Result<Vec<AuditMessage>, Tre
     for value in values {
         number += 1;
         let Some(message) = audit_message_of(alloc, value)? else {
-            return Err(TreeError::File(FileRefusal::BadShape(number)));
+            return Err(ReadError::File(FileRefusal::BadShape(number)));
         };
         messages.push(message)?;
     }

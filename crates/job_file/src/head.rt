@@ -8,7 +8,7 @@ ghost use Rattle.job_file.specs.Found.{IsHead, head_value};
 
 use crate::numbers::{number_from, number_or};
 use cmm_caching::CacheLimits;
-use keyring_file::json_values::{member_count, present, text_at};
+use json_values::{member_count, present, text_at};
 use serde_json::Value;
 
 /// The most items that a file may list.

@@ -9,7 +9,7 @@ use crate::contexts::{context_at, required_at};
 use crate::job::{Job, Work};
 use crate::numbers::{length_at, number_or};
 use esdk_fields::Text;
-use keyring_file::json_values::{member_count, present, text_at};
+use json_values::{member_count, present, text_at};
 use serde_json::Value;
 use std::alloc::{AllocError, Global};
 

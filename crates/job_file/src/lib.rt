@@ -24,4 +24,5 @@ pub use audit::{Audit, AuditMessage};
 pub use audit_reading::read_audit;
 pub use job::{Job, Work};
 pub use jobs::Jobs;
+pub use json_values::ReadError;
 pub use reading::read_jobs;

@@ -12,8 +12,7 @@ use crate::job_forms::job_of;
 use crate::jobs::Jobs;
 use crate::names::clash_among;
 use esdk_fields::{FileRefusal, Text};
-use keyring_file::TreeError;
-use keyring_file::json_values::value_of;
+use json_values::{ReadError, value_of};
 use serde_json::Value;
 use std::alloc::Global;
 
@@ -34,18 +33,18 @@ use std::alloc::Global;
 /// of the jobs, that a job is to write although it is the job file's own, the keyring's, one that
 /// is read or one that an earlier job is to write. `Memory` where memory runs out.
 #[tactic(auto, unfolding(crate::specs::Jobs::jobs_of))]
-pub fn read_jobs(alloc: Global, bytes: &[u8], own_name: &str) -> Result<Jobs, TreeError>
+pub fn read_jobs(alloc: Global, bytes: &[u8], own_name: &str) -> Result<Jobs, ReadError>
     ensures { Reads (λ jobs. jobs) result (jobs_of bytes.now own_name.now) }
 {
     let file = value_of(alloc, bytes)?;
     let Some(head) = head_of(&file) else {
-        return Err(TreeError::File(FileRefusal::BadShape(0)));
+        return Err(ReadError::File(FileRefusal::BadShape(0)));
     };
     let jobs = jobs_in(alloc, head.jobs)?;
     match clash_among(alloc, own_name, head.keyring, &jobs)? {
         Some(name) => {
             let name = Text::new(alloc, name)?;
-            return Err(TreeError::File(FileRefusal::NamesClash(name)));
+            return Err(ReadError::File(FileRefusal::NamesClash(name)));
         }
         None => {}
     }
@@ -55,7 +54,7 @@ pub fn read_jobs(alloc: Global, bytes: &[u8], own_name: &str) -> Result<Jobs, Tr
 
 /// The jobs of these values, which have numbers from 1. K2 `BadShape` at the first that has none of
 /// the two forms.
-fn jobs_in(alloc: Global, values: &[Value]) -> Result<Vec<Job>, TreeError>
+fn jobs_in(alloc: Global, values: &[Value]) -> Result<Vec<Job>, ReadError>
     requires { length values.now ≤ 1000 }
     ensures value { Reads (λ jobs. jobs.items) result (jobs_from 1 (items_view values.now)) }
     ensures count { IfOk result (λ jobs. length jobs.items ≡ length values.now) }
@@ -66,7 +65,7 @@ fn jobs_in(alloc: Global, values: &[Value]) -> Result<Vec<Job>, TreeError>
     for value in values {
         number += 1;
         let Some(job) = job_of(alloc, value)? else {
-            return Err(TreeError::File(FileRefusal::BadShape(number)));
+            return Err(ReadError::File(FileRefusal::BadShape(number)));
         };
         jobs.push(job)?;
     }

@@ -18,10 +18,10 @@ use Rattle.json.specs.Json as json
 use Rattle.serde_json.specs.Read.{read, max_depth, of_json}
 use Rattle.serde_json.specs.Written.{compact_text, outline, IsInOrder}
 use Rattle.serde_json.proofs.Texts.{tokens_from_order}
+use Rattle.json_values.proofs.Texts.{text_value}
 use Rattle.keyring_file.specs.KeyFile.{is_json}
 use Rattle.keyring_file.specs.Plain.{IsPlain}
 use Rattle.keyring_file.specs.Migrate.{IsFileOf}
-use Rattle.keyring_file.proofs.Values.{text_value}
 
 abbrev token_lexemes : Token → List Lexeme
 token_lexemes begin_object = token begin_object ∷ []

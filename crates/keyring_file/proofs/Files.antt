@@ -11,11 +11,11 @@ use Rattle.multi_keyring.specs.declared.tree.Node.TheVariants.{Raw, Handed, Mult
 use Rattle.multi_keyring.specs.Forest.{Forest, Nil, RawThen, HandedThen, MultiThen, tallest}
 use Rattle.multi_keyring.specs.Nodes.{forest}
 use Rattle.multi_keyring.specs.Tree.{leaves, node_leaves}
+use Rattle.json_values.specs.Values.{value_of}
 use Rattle.keyring_file.specs.declared.plugs.Plug.{Plug}
 use Rattle.keyring_file.specs.declared.form.Version.{Version}
 use Rattle.keyring_file.specs.KeyLine.{key_line}
 use Rattle.keyring_file.specs.KeyFile.{is_json, line_tree, only_tree, start, node_tree, json_tree, tree_of}
-use Rattle.keyring_file.specs.JsonValues.{value_of}
 use Rattle.keyring_file.specs.Form.{ring_of}
 use Rattle.keyring_file.specs.Walk.{Met}
 use Rattle.keyring_file.specs.Tree.{tree}

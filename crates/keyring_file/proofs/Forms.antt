@@ -4,9 +4,9 @@ use Rattle.std.specs.Prelude.{◌==◌, nat_le, codes, is_some, Option, Some, No
 use Rattle.std.proofs.lemmas.Bool.{leb-true, le-leb}
 use Rattle.serde_json.specs.Data.{Data, Items, no_items}
 use Rattle.serde_json.specs.Find.{get, as_str}
+use Rattle.json_values.specs.Values.{provided, member_count, text_at, count}
 use Rattle.keyring_file.specs.declared.form.Version.{Version}
 use Rattle.keyring_file.specs.declared.form.Version.TheVariants.{Two}
-use Rattle.keyring_file.specs.JsonValues.{provided, member_count, text_at, count}
 use Rattle.keyring_file.specs.Form.{Form, RawForm, PlugForm, MultiForm, IsFit, short, short_text_at, raw_form, multi_form, only_form, form_of, has_node, children_of, retired_member, is_retired, lists_children}
 use Rattle.keyring_file.specs.Migrate.{raw_node, plug_node, multi_node, list_if}
 

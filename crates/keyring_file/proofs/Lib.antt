@@ -21,5 +21,4 @@ pub mod Spaces
 pub mod Splitting
 pub mod Steps
 pub mod Taken
-pub mod Values
 pub mod WrittenLines

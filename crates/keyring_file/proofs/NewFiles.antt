@@ -14,14 +14,15 @@ use Rattle.esdk_fields.specs.declared.refusals.FileRefusal.{FileRefusal}
 use Rattle.keyring_trait.specs.Wrapping.{WrapKeyValue}
 use Rattle.raw_aes_keyring.specs.RawKey.{reserved_namespace}
 use Rattle.multi_keyring.specs.Forest.{Forest, Nil, RawThen}
+use Rattle.json_values.specs.Values.{value_of, member_count}
 use Rattle.keyring_file.specs.declared.plugs.Plug.{Plug}
 use Rattle.keyring_file.specs.declared.form.Version.{Version}
 use Rattle.keyring_file.specs.declared.form.Version.TheVariants.{Two}
 use Rattle.keyring_file.specs.Base64Key.{base64_key}
 use Rattle.keyring_file.specs.KeyLine.{key_line}
 use Rattle.keyring_file.specs.KeyFile.{is_json, line_tree, only_tree, start, node_tree, json_tree, tree_of}
-use Rattle.keyring_file.specs.JsonValues.{value_of, member_count}
-use Rattle.keyring_file.specs.Form.{ring_of, number_at, RawForm}
+use Rattle.json_values.specs.Values.{number_at}
+use Rattle.keyring_file.specs.Form.{ring_of, RawForm}
 use Rattle.keyring_file.specs.Walk.{Met, counted, kept}
 use Rattle.keyring_file.specs.Leaves.{wrap_key, raw_key}
 use Rattle.keyring_file.specs.Tree.{tree}

@@ -8,8 +8,8 @@ use Rattle.esdk_fields.specs.declared.refusals.FileRefusal.TheVariants.{BadShape
 use Rattle.keyring_trait.specs.Wrapping.{WrapKeyValue}
 use Rattle.base64.specs.GeneralPurpose.{encode_of}
 use Rattle.base64.specs.Engines.{standard}
+use Rattle.json_values.specs.Values.{value_of}
 use Rattle.keyring_file.specs.declared.form.Version.{Version}
-use Rattle.keyring_file.specs.JsonValues.{value_of}
 use Rattle.keyring_file.specs.KeyLine.{key_line}
 use Rattle.keyring_file.specs.KeyFile.{is_json, start}
 use Rattle.keyring_file.specs.Form.{Form, RawForm, PlugForm, MultiForm, form_of, ring_of, lists_children}

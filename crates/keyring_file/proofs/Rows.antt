@@ -10,8 +10,8 @@ use Rattle.esdk_fields.specs.declared.refusals.FileRefusal.TheVariants.{BadShape
 use Rattle.multi_keyring.specs.declared.tree.Node.{Node}
 use Rattle.multi_keyring.specs.Forest.{Forest, Nil}
 use Rattle.multi_keyring.specs.Nodes.{forest}
-use Rattle.keyring_file.specs.declared.key_file.TreeError.{TreeError}
-use Rattle.keyring_file.specs.declared.key_file.TreeError.TheVariants.{File, Memory}
+use Rattle.json_values.specs.declared.errors.ReadError.{ReadError}
+use Rattle.json_values.specs.declared.errors.ReadError.TheVariants.{File, Memory}
 use Rattle.keyring_file.specs.declared.walk.Walk as walk
 use Rattle.keyring_file.specs.declared.form.Version.{Version}
 use Rattle.keyring_file.specs.Found.{Gives}
@@ -95,7 +95,7 @@ tree_formed wraps version (suc levels) d met form is some =
 -- ---- where the walk stops
 
 -- where a part of a walk stops, the whole stops
-pub stops : {P A B C D : Type 0} (one : A → B) (two : C → D) (r : Result C TreeError) (e : TreeError) (now : walk.Walk P)
+pub stops : {P A B C D : Type 0} (one : A → B) (two : C → D) (r : Result C ReadError) (e : ReadError) (now : walk.Walk P)
     (part : Result (B × Met P) FileRefusal) (whole : Result (D × Met P) FileRefusal) → r ≡ Err e → ((refusal : FileRefusal) → part ≡ Err refusal → whole ≡ Err refusal)
     → Gives one (Err e) now part → Gives two r now whole
 stops one two r (File refusal) now part whole is so g = subst (λ r. Gives two r now whole) (sym is) (so refusal g)

@@ -2,10 +2,10 @@
 use Rattle.std.specs.Prelude.{◌≡◌, ◌≤◌, ℕ, Bool, true, false, ◌+◌, ◌||◌, ◌==◌, not, nat_le, List}
 use Rattle.std.specs.Prelude.{length, codes, Option, Some, None, is_some, option_map, if◌then◌else◌}
 use Rattle.serde_json.specs.Data.{Data, Items, no_items, item}
-use Rattle.serde_json.specs.Find.{get, as_bool, as_str, as_array, as_number, as_u64}
+use Rattle.serde_json.specs.Find.{get, as_bool, as_str, as_array}
+use Rattle.json_values.specs.Values.{◌>>=◌, ◌>>◌, provided, count, member_count, number_at, text_at}
 use Rattle.keyring_file.specs.declared.form.Version.{Version}
 use Rattle.keyring_file.specs.declared.form.Version.TheVariants.{One, Two}
-use Rattle.keyring_file.specs.JsonValues.{◌>>=◌, ◌>>◌, provided, count, member_count, text_at}
 
 -- A node: a raw key by its namespace, its name, its key in base64 and whether it is retired; a
 -- keyring that is handed over under a name; or a multi-keyring of nodes.
@@ -83,10 +83,6 @@ form_of version d = do
 -- the multi-keyring of a node has a list of children
 abbrev pub lists_children : Data → Bool
 lists_children d = is_some (get (codes "multi") d >>= get (codes "children"))
-
--- the number that a member is, where it is one of 64 bits without a point or an exponent
-abbrev pub number_at : List ℕ → Data → Option ℕ
-number_at name d = get name d >>= as_number >>= as_u64
 
 abbrev pub version_of : ℕ → Option Version
 version_of n = if n == 1 then Some One else if n == 2 then Some Two else None

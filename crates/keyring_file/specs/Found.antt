@@ -4,17 +4,14 @@ use Rattle.std.specs.Prelude.{Option, Some, None, option_map, Result, Ok, Err}
 use Rattle.std.specs.Borrow.{Bor}
 use Rattle.std.specs.List.{remove}
 use Rattle.esdk_fields.specs.declared.refusals.FileRefusal.{FileRefusal}
-use Rattle.esdk_fields.specs.declared.refusals.FileRefusal.TheVariants.{NotJson}
 use Rattle.keyring_trait.specs.Wrapping.{WrapKeyValue}
 use Rattle.keyring_trait.specs.Keyring.{KeyringMeaning}
-use Rattle.serde_json.specs.declared.value.Value.{Value}
-use Rattle.serde_json.specs.Data.{Data}
 use Rattle.serde_json.specs.View.{view, items_view}
+use Rattle.json_values.specs.declared.errors.ReadError.{ReadError}
+use Rattle.json_values.specs.declared.errors.ReadError.TheVariants.{File, Memory}
 use Rattle.keyring_file.specs.KeyLine.{space_parts}
 use Rattle.keyring_file.specs.declared.key_line.Parts.{Parts}
 use Rattle.keyring_file.specs.declared.key_line.KeyLine.{KeyLine}
-use Rattle.keyring_file.specs.declared.key_file.TreeError.{TreeError}
-use Rattle.keyring_file.specs.declared.key_file.TreeError.TheVariants.{File, Memory}
 use Rattle.keyring_file.specs.declared.form.Form as form
 use Rattle.keyring_file.specs.declared.form.Form.TheVariants as forms
 use Rattle.keyring_file.specs.declared.plugs.Plug.{Plug}
@@ -45,12 +42,6 @@ FindsKey (Ok line) reading = reading ≡ Ok (key_value line)
 FindsKey (Err refusal) reading = reading ≡ Err refusal
 
 -- ---- JSON
-
--- this value; or the bytes are no JSON, and only then are they refused
-abbrev pub ReadsValue : Result Value TreeError → Option Data → Type 0
-ReadsValue (Ok value) found = found ≡ Some (view value)
-ReadsValue (Err (File refusal)) found = (refusal ≡ NotJson) × (found ≡ None)
-ReadsValue (Err Memory) found = Unit {0}
 
 -- a node's form, where its parts stand in the file
 abbrev pub form_value : form.Form → Form
@@ -91,19 +82,19 @@ met walk = record {
 }
 
 -- this value, and what is met then; or this refusal. Want of memory may come at any time.
-abbrev pub Gives : {P A B : Type 0} → (A → B) → Result A TreeError → Walk P
+abbrev pub Gives : {P A B : Type 0} → (A → B) → Result A ReadError → Walk P
     → Result (B × Met P) FileRefusal → Type 0
 Gives means (Ok x) now reading = reading ≡ Ok (means x, met now)
 Gives means (Err (File refusal)) now reading = reading ≡ Err refusal
 Gives means (Err Memory) now reading = Unit {0}
 
 -- the same without a value
-abbrev pub GivesNothing : {P A : Type 0} → Result A TreeError → Walk P
+abbrev pub GivesNothing : {P A : Type 0} → Result A ReadError → Walk P
     → Result (Unit {0} × Met P) FileRefusal → Type 0
 GivesNothing result now reading = Gives (λ _. tt) result now reading
 
 -- the keyring of this key; only memory may be wanting
-abbrev pub IsKeyring : WrapKeyValue → Result WrapKeyValue TreeError → Type 0
+abbrev pub IsKeyring : WrapKeyValue → Result WrapKeyValue ReadError → Type 0
 IsKeyring w (Ok made) = made ≡ w
 IsKeyring w (Err (File refusal)) = ⊥
 IsKeyring w (Err Memory) = Unit {0}

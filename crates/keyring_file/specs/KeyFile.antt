@@ -1,25 +1,23 @@
 -- A keyring file. A JSON file is one whose first byte is a brace, but for blanks; any other file is
 -- a key line. The form is this library's.
-use Rattle.std.specs.Prelude.{◌≡◌, ℕ, Bool, false, ◌||◌, ◌==◌, List, [], ◌∷◌, Option, Some, None, codes}
+use Rattle.std.specs.Prelude.{◌≡◌, ℕ, Bool, false, ◌||◌, ◌==◌, List, [], ◌∷◌, Option, Some, None}
 use Rattle.std.specs.Prelude.{Result, Ok, Err, if◌then◌else◌}
 use Rattle.esdk_fields.specs.declared.refusals.FileRefusal.{FileRefusal}
 use Rattle.esdk_fields.specs.declared.refusals.FileRefusal.TheVariants.{NotJson, BadShape}
 use Rattle.keyring_trait.specs.Wrapping.{WrapKeyValue}
-use Rattle.keyring_file.specs.declared.key_file.TreeError.{TreeError}
-use Rattle.keyring_file.specs.declared.key_file.TreeError.TheVariants.{File, Memory}
 use Rattle.serde_json.specs.Data.{Data}
 use Rattle.multi_keyring.specs.declared.tree.Node.{Node}
 use Rattle.multi_keyring.specs.Forest.{Forest, Nil, RawThen}
 use Rattle.multi_keyring.specs.Nodes.{forest}
+use Rattle.json_values.specs.declared.errors.ReadError.{ReadError}
+use Rattle.json_values.specs.declared.errors.ReadError.TheVariants.{File, Memory}
+use Rattle.json_values.specs.Values.{value_of}
 use Rattle.keyring_file.specs.declared.plugs.Plug.{Plug}
 use Rattle.keyring_file.specs.declared.form.Version.{Version}
 use Rattle.keyring_file.specs.KeyLine.{key_line}
-use Rattle.keyring_file.specs.JsonValues.{value_of}
 use Rattle.keyring_file.specs.Form.{ring_of}
 use Rattle.keyring_file.specs.Walk.{Met}
 use Rattle.keyring_file.specs.Tree.{tree}
-use Rattle.esdk_fields.specs.Names.{file_name}
-use Rattle.keyring_file.specs.declared.key_file.TreeError.TheVariants as errors
 
 -- a space, a tab, a line feed or a carriage return
 abbrev pub is_blank : ℕ → Bool
@@ -67,19 +65,14 @@ tree_of wraps bytes plugs =
     if is_json bytes then json_tree wraps plugs (value_of bytes) else line_tree (key_line bytes)
 
 -- This tree, or this refusal; want of memory may come at any time.
-abbrev pub FileAnswers : {P : Type 0} → Result (Node P) TreeError → Result (Forest P) FileRefusal
+abbrev pub FileAnswers : {P : Type 0} → Result (Node P) ReadError → Result (Forest P) FileRefusal
     → Type 0
 FileAnswers (Ok node) reading = reading ≡ Ok (forest (node ∷ []))
 FileAnswers (Err (File refusal)) reading = reading ≡ Err refusal
 FileAnswers (Err Memory) reading = Unit {0}
 
 -- the same for a key line
-abbrev pub AnswersKey : Result WrapKeyValue TreeError → Result WrapKeyValue FileRefusal → Type 0
+abbrev pub AnswersKey : Result WrapKeyValue ReadError → Result WrapKeyValue FileRefusal → Type 0
 AnswersKey (Ok key) reading = reading ≡ Ok key
 AnswersKey (Err (File refusal)) reading = reading ≡ Err refusal
 AnswersKey (Err Memory) reading = Unit {0}
-
--- what is shown of why a file's tree isn't made
-unfoldable pub tree_error_text : TreeError → List ℕ
-tree_error_text (errors.File refusal) = file_name refusal
-tree_error_text errors.Memory = codes "memory ran out"

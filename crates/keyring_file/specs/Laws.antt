@@ -16,7 +16,7 @@ use Rattle.multi_keyring.specs.Tree.{node_leaves}
 use Rattle.keyring_file.specs.declared.plugs.Plug.{Plug}
 use Rattle.keyring_file.specs.Counts.{leaves_of, raw_keys, AreOfOneKey}
 use Rattle.keyring_file.specs.KeyFile.{is_json, tree_of}
-use Rattle.keyring_file.specs.Form.{number_at}
+use Rattle.json_values.specs.Values.{number_at}
 use Rattle.keyring_file.specs.Migrate.{migration, IsFileOf}
 use Rattle.keyring_file.specs.Retired.{retired_in}
 use Rattle.keyring_file.specs.RawNodes.{file_nodes, is_raw}

@@ -1,6 +1,5 @@
 pub mod KeyLine
 pub mod Spelling
-pub mod JsonValues
 pub mod Form
 pub mod Base64Key
 pub mod Plugs

@@ -13,10 +13,10 @@ use Rattle.esdk_fields.specs.declared.refusals.FileRefusal.{FileRefusal}
 use Rattle.esdk_fields.specs.declared.refusals.FileRefusal.TheVariants.{NotJson, BadShape, TooDeep}
 use Rattle.esdk_fields.specs.declared.refusals.FileRefusal.TheVariants.{NotRaw}
 use Rattle.keyring_trait.specs.Wrapping.{WrapKeyValue}
-use Rattle.keyring_file.specs.declared.key_file.TreeError.{TreeError}
-use Rattle.keyring_file.specs.declared.key_file.TreeError.TheVariants.{File, Memory}
+use Rattle.json_values.specs.declared.errors.ReadError.{ReadError}
+use Rattle.json_values.specs.declared.errors.ReadError.TheVariants.{File, Memory}
+use Rattle.json_values.specs.Values.{value_of}
 use Rattle.keyring_file.specs.declared.form.Version.{Version}
-use Rattle.keyring_file.specs.JsonValues.{value_of}
 use Rattle.keyring_file.specs.KeyLine.{key_line}
 use Rattle.keyring_file.specs.KeyFile.{is_json, start}
 use Rattle.keyring_file.specs.Form.{Form, RawForm, PlugForm, MultiForm, form_of, ring_of}
@@ -176,13 +176,13 @@ pub record IsFileOf (bytes : List ℕ) (d : Data) : Type 0 where
   pub value : value_of bytes ≡ Some d
 
 -- This value, which can be written, or this refusal; want of memory may come at any time.
-abbrev pub MakesFile : Result Value TreeError → Result Data FileRefusal → Type 0
+abbrev pub MakesFile : Result Value ReadError → Result Data FileRefusal → Type 0
 MakesFile (Ok file) reading = (reading ≡ Ok (view file)) × IsPlainObject (view file)
 MakesFile (Err (File refusal)) reading = reading ≡ Err refusal
 MakesFile (Err Memory) reading = Unit {0}
 
 -- the file of this value, or this refusal
-abbrev pub Migrates : Result (List ℕ) TreeError → Result Data FileRefusal → Type 0
+abbrev pub Migrates : Result (List ℕ) ReadError → Result Data FileRefusal → Type 0
 Migrates (Ok bytes) reading = (d : Data) × (reading ≡ Ok d) × IsFileOf bytes d
 Migrates (Err (File refusal)) reading = reading ≡ Err refusal
 Migrates (Err Memory) reading = Unit {0}

@@ -3,8 +3,8 @@
 use Rattle.std.specs.Prelude.{ℕ, zero, suc, Bool, true, false, List, [], ◌∷◌, ◌++◌, slice_index_or}
 use Rattle.std.specs.Prelude.{Option, Some, None, if◌then◌else◌}
 use Rattle.serde_json.specs.Data.{Data, Items, no_items, item}
+use Rattle.json_values.specs.Values.{value_of}
 use Rattle.keyring_file.specs.declared.form.Version.{Version}
-use Rattle.keyring_file.specs.JsonValues.{value_of}
 use Rattle.keyring_file.specs.Form.{Form, RawForm, PlugForm, MultiForm, form_of, ring_of}
 use Rattle.keyring_file.specs.KeyFile.{is_json}
 

@@ -2,13 +2,13 @@
 
 ghost use Rattle.std.specs.Prelude.{◌≡◌, ◌≤◌, option_map};
 ghost use Rattle.serde_json.specs.View.{view, items_view};
-ghost use Rattle.keyring_file.specs.JsonValues.{count};
+ghost use Rattle.json_values.specs.Values.{count};
 ghost use Rattle.keyring_file.specs.Form.{version_of, ring_of, form_of, short_text_at};
 ghost use Rattle.keyring_file.specs.Form.{retired_member, is_retired, raw_form, plug_form};
 ghost use Rattle.keyring_file.specs.Form.{children_of, has_node, multi_form, lists_children};
 ghost use Rattle.keyring_file.specs.Found.{form_value};
 
-use crate::json_values::{member_count, text_at};
+use json_values::{member_count, text_at};
 use serde_json::Value;
 
 /// The most bytes that a namespace or a name may have.

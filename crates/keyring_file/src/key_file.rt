@@ -6,74 +6,18 @@ ghost use Rattle.keyring_file.specs.KeyFile.{is_blank, is_json, tree_of, FileAns
 ghost use Rattle.keyring_file.specs.Found.{wraps_of};
 
 use crate::form::ring_of;
-use crate::json_values::value_of;
 use crate::key_line::key_line;
 use crate::plugs::Plug;
 use crate::walk::{Walk, raw_keyring};
 use esdk_fields::FileRefusal;
+use json_values::{ReadError, value_of};
 use keyring_trait::Keyring;
 use multi_keyring::Node;
 use raw_aes_keyring::RawAes;
-use std::alloc::{AllocError, AllocFailed, Global};
-use std::error::Error;
-use std::fmt;
+use std::alloc::Global;
 
 /// The most levels that a tree may have.
 pub(crate) const LEVELS: u32 = 8;
-
-/// Why a keyring file gives no tree.
-#[derive(Drop)]
-pub enum TreeError {
-    /// The file is refused.
-    File(FileRefusal),
-    /// Memory ran out.
-    Memory,
-}
-
-impl fmt::Display for TreeError {
-    ghost use Rattle.std.specs.Prelude.{Some};
-    ghost use Rattle.keyring_file.specs.KeyFile.{tree_error_text};
-
-    ghost output = { λ e. Some (tree_error_text e) };
-
-    #[tactic(auto, unfolding(crate::specs::KeyFile::tree_error_text))]
-    fn fmt<W: fmt::Write>(&self, f: &mut fmt::Formatter<W>) -> fmt::Result {
-        match self {
-            TreeError::File(refusal) => fmt::Display::fmt(refusal, f),
-            TreeError::Memory => f.write_str("memory ran out"),
-        }
-    }
-}
-
-impl fmt::Debug for TreeError {
-    fn fmt<W: fmt::Write>(&self, f: &mut fmt::Formatter<W>) -> fmt::Result {
-        fmt::Display::fmt(self, f)
-    }
-}
-
-impl Error for TreeError {}
-
-impl From<AllocError> for TreeError {
-    ghost use Rattle.std.specs.Prelude.{◌≡◌};
-    ghost use Rattle.keyring_file.specs.declared.key_file.TreeError.TheVariants.{Memory};
-
-    ghost from_gives = { λ _ e. e ≡ Memory };
-
-    fn from(_: AllocError) -> TreeError {
-        TreeError::Memory
-    }
-}
-
-impl<T: Drop> From<AllocFailed<T>> for TreeError {
-    ghost use Rattle.std.specs.Prelude.{◌≡◌};
-    ghost use Rattle.keyring_file.specs.declared.key_file.TreeError.TheVariants.{Memory};
-
-    ghost from_gives = { λ _ e. e ≡ Memory };
-
-    fn from(_: AllocFailed<T>) -> TreeError {
-        TreeError::Memory
-    }
-}
 
 /// The tree of a keyring file, over the keyrings that are handed over. A file is a JSON file where
 /// its first byte that is no blank is a brace, else a key line.
@@ -106,7 +50,7 @@ pub fn read_tree<P: Keyring>(
     alloc: Global,
     bytes: &[u8],
     plugs: Vec<Plug<P>>,
-) -> Result<Node<P>, TreeError>
+) -> Result<Node<P>, ReadError>
     requires { length plugs.items < 2 ^ 24 }
     ensures { FileAnswers result (tree_of (wraps_of P.meaning) bytes.now plugs.items) }
 {
@@ -115,18 +59,18 @@ pub fn read_tree<P: Keyring>(
     }
     let file = value_of(alloc, bytes)?;
     let Some((version, node)) = ring_of(&file) else {
-        return Err(TreeError::File(FileRefusal::BadShape(0)));
+        return Err(ReadError::File(FileRefusal::BadShape(0)));
     };
     Walk::new(alloc, plugs).tree(alloc, version, node, LEVELS)
 }
 
 /// The keyring of a key line, or why it has none.
-fn line_keyring(alloc: Global, bytes: &[u8]) -> Result<RawAes, TreeError>
+fn line_keyring(alloc: Global, bytes: &[u8]) -> Result<RawAes, ReadError>
     ensures { AnswersKey result (key_line bytes.now) }
 {
     match key_line(bytes) {
         Ok(line) => raw_keyring(alloc, line.namespace, line.name, line.key, false),
-        Err(refusal) => Err(TreeError::File(refusal)),
+        Err(refusal) => Err(ReadError::File(refusal)),
     }
 }
 

@@ -8,12 +8,11 @@
 //! `specs/Migrate.antt` says how a file is written anew in version 2, `specs/Retired.antt` what its
 //! tree is, and `specs/RawNodes.antt` which nodes may be retired.
 //!
-//! The module `json_values` looks into JSON values, for all files of this library's formats.
+//! `TreeError` is the error of all readers of this library's files, `ReadError` of `json_values`.
 #![tactic(auto)]
 
 mod base64_key;
 mod form;
-pub mod json_values;
 mod key_file;
 mod key_line;
 mod laws;
@@ -24,7 +23,8 @@ mod rewrite;
 mod tree;
 mod walk;
 
-pub use key_file::{TreeError, read_tree};
+pub use json_values::ReadError as TreeError;
+pub use key_file::read_tree;
 pub use laws::{
     key_lines_are_read, leaves_are_few, migration_keeps_trees, migration_retires_raw_keys,
     raw_keys_agree, trees_are_small, written_lines_are_read,

@@ -3,20 +3,20 @@
 ghost use Rattle.std.specs.Prelude.{IfOk};
 ghost use Rattle.serde_json.specs.View.{view};
 ghost use Rattle.keyring_file.specs.KeyLine.{key_line};
-ghost use Rattle.keyring_file.specs.JsonValues.{value_of};
+ghost use Rattle.json_values.specs.Values.{value_of};
 ghost use Rattle.keyring_file.specs.Plain.{IsPlain, IsPlainObject};
 ghost use Rattle.keyring_file.specs.Migrate.{migration, json_migration, line_migration, file_with};
 ghost use Rattle.keyring_file.specs.Migrate.{Migrates, IsFileOf, MakesFile};
 
 use crate::form::ring_of;
-use crate::json_values::value_of;
-use crate::key_file::{LEVELS, TreeError, is_json};
+use crate::key_file::{LEVELS, is_json};
 use crate::key_line::key_line;
 use crate::nodes::{file_of, raw_node};
 use crate::rewrite::{Plan, is_at};
 use crate::walk::Walk;
 use base64::engine::general_purpose::STANDARD;
 use esdk_fields::{Blob, FileRefusal};
+use json_values::{ReadError, value_of};
 use serde_json::Value;
 use std::alloc::{AllocError, Global};
 
@@ -31,7 +31,7 @@ use std::alloc::{AllocError, Global};
 /// The first refusal that applies: those of `read_tree`, but that K8 is not judged, and that a
 /// keyring which is handed over counts as one leaf; then K11 `NotRaw` where the node of the number
 /// `retire` is no raw key, or there is none. `Memory` where memory runs out.
-pub fn migrate(alloc: Global, bytes: &[u8], retire: Option<u32>) -> Result<Blob, TreeError>
+pub fn migrate(alloc: Global, bytes: &[u8], retire: Option<u32>) -> Result<Blob, ReadError>
     ensures { Migrates result (migration retire bytes.now) }
 {
     let file = migrated_file(alloc, bytes, retire)?;
@@ -40,7 +40,7 @@ pub fn migrate(alloc: Global, bytes: &[u8], retire: Option<u32>) -> Result<Blob,
 
 /// The value of a keyring file in version 2.
 #[tactic(auto, unfolding(crate::specs::Migrate::migration))]
-fn migrated_file(alloc: Global, bytes: &[u8], retire: Option<u32>) -> Result<Value, TreeError>
+fn migrated_file(alloc: Global, bytes: &[u8], retire: Option<u32>) -> Result<Value, ReadError>
     ensures { MakesFile result (migration retire bytes.now) }
 {
     if is_json(bytes) {
@@ -51,12 +51,12 @@ fn migrated_file(alloc: Global, bytes: &[u8], retire: Option<u32>) -> Result<Val
 }
 
 /// The value of a JSON file in version 2.
-fn migrated_json(alloc: Global, bytes: &[u8], retire: Option<u32>) -> Result<Value, TreeError>
+fn migrated_json(alloc: Global, bytes: &[u8], retire: Option<u32>) -> Result<Value, ReadError>
     ensures { MakesFile result (json_migration retire (value_of bytes.now)) }
 {
     let file = value_of(alloc, bytes)?;
     let Some((version, node)) = ring_of(&file) else {
-        return Err(TreeError::File(FileRefusal::BadShape(0)));
+        return Err(ReadError::File(FileRefusal::BadShape(0)));
     };
     let mut walk = Walk::<()>::new(alloc, Vec::new(alloc));
     let (node, found) = walk.migrated(alloc, Plan { version, retire }, node, LEVELS)?;
@@ -64,7 +64,7 @@ fn migrated_json(alloc: Global, bytes: &[u8], retire: Option<u32>) -> Result<Val
 }
 
 /// The value of a file of the one raw key of a key line.
-fn migrated_line(alloc: Global, bytes: &[u8], retire: Option<u32>) -> Result<Value, TreeError>
+fn migrated_line(alloc: Global, bytes: &[u8], retire: Option<u32>) -> Result<Value, ReadError>
     ensures { MakesFile result (line_migration retire (key_line bytes.now)) }
 {
     match key_line(bytes) {
@@ -74,7 +74,7 @@ fn migrated_line(alloc: Global, bytes: &[u8], retire: Option<u32>) -> Result<Val
             let node = raw_node(alloc, line.namespace, line.name, key.as_str(), is_meant)?;
             file_with(alloc, retire, node, is_meant)
         }
-        Err(refusal) => Err(TreeError::File(refusal)),
+        Err(refusal) => Err(ReadError::File(refusal)),
     }
 }
 
@@ -84,7 +84,7 @@ fn file_with(
     retire: Option<u32>,
     node: Value,
     found: bool,
-) -> Result<Value, TreeError>
+) -> Result<Value, ReadError>
     requires { IsPlain 126 (view node) }
     ensures { MakesFile result (file_with retire (view node) found) }
 {
@@ -93,7 +93,7 @@ fn file_with(
             if found {
                 Ok(file_of(alloc, node)?)
             } else {
-                Err(TreeError::File(FileRefusal::NotRaw(number)))
+                Err(ReadError::File(FileRefusal::NotRaw(number)))
             }
         }
         None => Ok(file_of(alloc, node)?),

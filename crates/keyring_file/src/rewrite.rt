@@ -9,10 +9,10 @@ ghost use Rattle.keyring_file.specs.Migrate.{migrated_optional, migrated_row, is
 ghost use Rattle.keyring_file.specs.Found.{met, Gives, form_value};
 
 use crate::form::{Form, Version, form_of, lists_children};
-use crate::key_file::TreeError;
 use crate::nodes::{multi_node, plug_node, raw_node};
 use crate::walk::Walk;
 use esdk_fields::FileRefusal;
+use json_values::ReadError;
 use serde_json::Value;
 use std::alloc::Global;
 
@@ -35,17 +35,17 @@ impl<P> Walk<P> {
         plan: Plan,
         node: &Value,
         levels: u32,
-    ) -> Result<(Value, bool), TreeError>
+    ) -> Result<(Value, bool), ReadError>
         requires { HasSpace levels (met self.old) }
         ensures { Gives (λ made. (view made.0, made.1)) result self.new
             (migrated plan.retire plan.version levels (view node.now) (met self.old)) }
     {
         self.nodes += 1;
         let Some(form) = form_of(plan.version, node) else {
-            return Err(TreeError::File(FileRefusal::BadShape(self.nodes)));
+            return Err(ReadError::File(FileRefusal::BadShape(self.nodes)));
         };
         if levels == 0 {
-            return Err(TreeError::File(FileRefusal::TooDeep));
+            return Err(ReadError::File(FileRefusal::TooDeep));
         }
         let listed = lists_children(node);
         self.migrated_form(alloc, plan, form, listed, levels - 1)
@@ -61,7 +61,7 @@ impl<P> Walk<P> {
         form: Form<'_>,
         listed: bool,
         levels: u32,
-    ) -> Result<(Value, bool), TreeError>
+    ) -> Result<(Value, bool), ReadError>
         requires { HasSpace levels (met self.old) }
         ensures { Gives (λ made. (view made.0, made.1)) result self.new
             (migrated_form plan.retire (migrated plan.retire plan.version levels) self.old.nodes
@@ -102,7 +102,7 @@ impl<P> Walk<P> {
         children: &[Value],
         listed: bool,
         levels: u32,
-    ) -> Result<(Value, bool), TreeError>
+    ) -> Result<(Value, bool), ReadError>
         requires { HasSpace levels (met self.old) }
         ensures { Gives (λ made. (view made.0, made.1)) result self.new
             (migrated_multi (migrated plan.retire plan.version levels) listed
@@ -123,7 +123,7 @@ impl<P> Walk<P> {
         plan: Plan,
         node: Option<&Value>,
         levels: u32,
-    ) -> Result<(Option<Value>, bool), TreeError>
+    ) -> Result<(Option<Value>, bool), ReadError>
         requires { HasSpace levels (met self.old) }
         ensures { Gives (λ made. (option_map view made.0, made.1)) result self.new
             (migrated_optional (migrated plan.retire plan.version levels)
@@ -146,7 +146,7 @@ impl<P> Walk<P> {
         plan: Plan,
         nodes: &[Value],
         levels: u32,
-    ) -> Result<(Vec<Value>, bool), TreeError>
+    ) -> Result<(Vec<Value>, bool), ReadError>
         requires { HasSpace levels (met self.old) }
         ensures { Gives (λ made. (items_view made.0.items, made.1)) result self.new
             (migrated_row (migrated plan.retire plan.version levels) (items_view nodes.now)

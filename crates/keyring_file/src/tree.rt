@@ -10,9 +10,9 @@ ghost use Rattle.keyring_file.specs.Tree.{tree, formed, multi, optional, row};
 ghost use Rattle.keyring_file.specs.Found.{met, Gives, wraps_of, form_value};
 
 use crate::form::{Form, Version, form_of};
-use crate::key_file::TreeError;
 use crate::walk::Walk;
 use esdk_fields::FileRefusal;
+use json_values::ReadError;
 use keyring_trait::Keyring;
 use multi_keyring::{Multi, Node};
 use serde_json::Value;
@@ -29,17 +29,17 @@ impl<P: Keyring> Walk<P> {
         version: Version,
         node: &Value,
         levels: u32,
-    ) -> Result<Node<P>, TreeError>
+    ) -> Result<Node<P>, ReadError>
         requires { HasRoom levels (met self.old) }
         ensures { Gives (λ node. forest (node ∷ [])) result self.new
             (tree (wraps_of P.meaning) version levels (view node.now) (met self.old)) }
     {
         self.nodes += 1;
         let Some(form) = form_of(version, node) else {
-            return Err(TreeError::File(FileRefusal::BadShape(self.nodes)));
+            return Err(ReadError::File(FileRefusal::BadShape(self.nodes)));
         };
         if levels == 0 {
-            return Err(TreeError::File(FileRefusal::TooDeep));
+            return Err(ReadError::File(FileRefusal::TooDeep));
         }
         self.formed(alloc, version, form, levels - 1)
     }
@@ -53,7 +53,7 @@ impl<P: Keyring> Walk<P> {
         version: Version,
         form: Form<'_>,
         levels: u32,
-    ) -> Result<Node<P>, TreeError>
+    ) -> Result<Node<P>, ReadError>
         requires room { HasRoom levels (met self.old) }
         requires low { levels ≤ 7 }
         requires fit { IsFit (form_value form) }
@@ -89,7 +89,7 @@ impl<P: Keyring> Walk<P> {
         generator: Option<&Value>,
         children: &[Value],
         levels: u32,
-    ) -> Result<Multi<P>, TreeError>
+    ) -> Result<Multi<P>, ReadError>
         requires room { HasRoom levels (met self.old) }
         requires low { levels ≤ 7 }
         requires member { has_node (option_map (λ node. view node.now) generator)
@@ -115,7 +115,7 @@ impl<P: Keyring> Walk<P> {
         version: Version,
         node: Option<&Value>,
         levels: u32,
-    ) -> Result<Option<Node<P>>, TreeError>
+    ) -> Result<Option<Node<P>>, ReadError>
         requires { HasRoom levels (met self.old) }
         ensures gives { Gives (λ node. forest (option_to_list node)) result self.new
             (optional (tree (wraps_of P.meaning) version levels)
@@ -136,7 +136,7 @@ impl<P: Keyring> Walk<P> {
         version: Version,
         nodes: &[Value],
         levels: u32,
-    ) -> Result<Vec<Node<P>>, TreeError>
+    ) -> Result<Vec<Node<P>>, ReadError>
         requires { HasRoom levels (met self.old) }
         ensures { Gives (λ trees. forest trees.items) result self.new
             (row (tree (wraps_of P.meaning) version levels) (items_view nodes.now) (met self.old)) }

@@ -9,10 +9,10 @@ ghost use Rattle.keyring_file.specs.Leaves.{wrap_key, raw_key, raw_leaf, plug_le
 ghost use Rattle.keyring_file.specs.Found.{met, Gives, GivesNothing, IsKeyring, wraps_of};
 
 use crate::base64_key::base64_key;
-use crate::key_file::TreeError;
 use crate::key_line::RESERVED;
 use crate::plugs::{Plug, take};
 use esdk_fields::{FileRefusal, Text};
+use json_values::ReadError;
 use keyring_trait::{Keyring, WrapKey};
 use raw_aes_keyring::{RawAes, RawError};
 use std::alloc::Global;
@@ -45,13 +45,13 @@ impl<P> Walk<P> {
 
     /// So many leaves more. K7 `TooManyLeaves` exactly where there are over 64 then.
     #[tactic(auto, unfolding(crate::specs::Walk::counted))]
-    pub(crate) fn count(&mut self, leaves: u32) -> Result<(), TreeError>
+    pub(crate) fn count(&mut self, leaves: u32) -> Result<(), ReadError>
         requires before { self.old.leaves ≤ 64 }
         requires more { leaves ≤ 64 }
         ensures { GivesNothing result self.new (counted leaves (met self.old)) }
     {
         if self.leaves + leaves > MOST_LEAVES {
-            return Err(TreeError::File(FileRefusal::TooManyLeaves));
+            return Err(ReadError::File(FileRefusal::TooManyLeaves));
         }
         self.leaves += leaves;
         Ok(())
@@ -60,12 +60,12 @@ impl<P> Walk<P> {
     /// One more raw key. K5 `ClashingKeys` exactly where an earlier one has its namespace and its
     /// name, and is another.
     #[tactic(auto, unfolding(crate::specs::Walk::kept))]
-    fn keep(&mut self, key: WrapKey) -> Result<(), TreeError>
+    fn keep(&mut self, key: WrapKey) -> Result<(), ReadError>
         ensures gives { GivesNothing result self.new (kept key (met self.old)) }
         ensures leaves { self.new.leaves ≡ self.old.leaves }
     {
         if has_clash(&self.keys, &key) {
-            return Err(TreeError::File(FileRefusal::ClashingKeys(key.namespace, key.name)));
+            return Err(ReadError::File(FileRefusal::ClashingKeys(key.namespace, key.name)));
         }
         self.keys.push(key)?;
         Ok(())
@@ -73,13 +73,13 @@ impl<P> Walk<P> {
 
     /// The first keyring of this name that is left. K8 `NoSuchPlug` exactly where there is none.
     #[tactic(auto, unfolding(crate::specs::Walk::used))]
-    fn take(&mut self, alloc: Global, name: &str) -> Result<P, TreeError>
+    fn take(&mut self, alloc: Global, name: &str) -> Result<P, ReadError>
         ensures gives { Gives (λ p. p) result self.new (used name.now (met self.old)) }
         ensures leaves { self.new.leaves ≡ self.old.leaves }
     {
         match take(&mut self.plugs, name) {
             Some(keyring) => Ok(keyring),
-            None => Err(TreeError::File(FileRefusal::NoSuchPlug(Text::new(alloc, name)?))),
+            None => Err(ReadError::File(FileRefusal::NoSuchPlug(Text::new(alloc, name)?))),
         }
     }
 
@@ -93,17 +93,17 @@ impl<P> Walk<P> {
         namespace: &str,
         name: &str,
         text: &str,
-    ) -> Result<[u8; 32], TreeError>
+    ) -> Result<[u8; 32], ReadError>
         requires { self.old.leaves ≤ 64 }
         ensures gives { Gives (λ key. key) result self.new
             (raw_key self.old.nodes namespace.now name.now text.now (met self.old)) }
         ensures unreserved { IfOk result (λ key. namespace.now ≢ reserved_namespace) }
     {
         if namespace == RESERVED {
-            return Err(TreeError::File(FileRefusal::ReservedNamespace));
+            return Err(ReadError::File(FileRefusal::ReservedNamespace));
         }
         let Some(key) = base64_key(alloc, text)? else {
-            return Err(TreeError::File(FileRefusal::BadKey(self.nodes)));
+            return Err(ReadError::File(FileRefusal::BadKey(self.nodes)));
         };
         self.keep(WrapKey {
             namespace: Text::new(alloc, namespace)?,
@@ -125,7 +125,7 @@ impl<P> Walk<P> {
         name: &str,
         text: &str,
         retired: bool,
-    ) -> Result<RawAes, TreeError>
+    ) -> Result<RawAes, ReadError>
         requires namespace { length namespace.now ≤ 1024 }
         requires name { length name.now ≤ 1024 }
         requires leaves { self.old.leaves ≤ 64 }
@@ -141,7 +141,7 @@ impl<P: Keyring> Walk<P> {
     /// A keyring that is handed over. K8 `NoSuchPlug`; then K7 `TooManyLeaves`, where it counts as
     /// many leaves as it wraps.
     #[tactic(auto, unfolding(crate::specs::Leaves::plug_leaf))]
-    pub(crate) fn plug_leaf(&mut self, alloc: Global, name: &str) -> Result<P, TreeError>
+    pub(crate) fn plug_leaf(&mut self, alloc: Global, name: &str) -> Result<P, ReadError>
         requires { self.old.leaves ≤ 64 }
         ensures { Gives (λ p. p) result self.new (plug_leaf (wraps_of P.meaning) name.now
             (met self.old)) }
@@ -178,7 +178,7 @@ pub(crate) fn raw_keyring(
     name: &str,
     key: [u8; 32],
     retired: bool,
-) -> Result<RawAes, TreeError>
+) -> Result<RawAes, ReadError>
     requires namespace { length namespace.now ≤ 1024 }
     requires name { length name.now ≤ 1024 }
     requires unreserved { namespace.now ≢ reserved_namespace }
@@ -187,7 +187,7 @@ pub(crate) fn raw_keyring(
     match raw_aes(alloc, namespace, name, key, retired) {
         Ok(keyring) => Ok(keyring),
         Err(RawError::ReservedNamespace) => unreachable!(),
-        Err(RawError::Memory) => Err(TreeError::Memory),
+        Err(RawError::Memory) => Err(ReadError::Memory),
     }
 }
 

@@ -5,7 +5,7 @@ use Rattle.std.specs.Str.{IsUtf8, is_utf8}
 use Rattle.std.proofs.lemmas.Str.{IsUtf8-from_is_utf8, is_utf8-from_IsUtf8}
 use Rattle.serde_json.specs.Data.{Data}
 use Rattle.serde_json.specs.Read.{read}
-use Rattle.keyring_file.specs.JsonValues.{value_of}
+use Rattle.json_values.specs.Values.{value_of}
 
 pub text_value : (bytes : List ℕ) (found : Option Data) → IsUtf8 bytes → read bytes ≡ found → value_of bytes ≡ found
 unfolding value_of

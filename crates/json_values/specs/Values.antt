@@ -5,7 +5,7 @@ use Rattle.std.specs.Prelude.{if◌then◌else◌}
 use Rattle.std.specs.Str.{is_utf8}
 use Rattle.serde_json.specs.Data.{Data, Members}
 use Rattle.serde_json.specs.Events.{members_len}
-use Rattle.serde_json.specs.Find.{get, as_object, as_str}
+use Rattle.serde_json.specs.Find.{get, as_object, as_str, as_number, as_u64}
 use Rattle.serde_json.specs.Read.{read}
 
 -- what is found in what was found
@@ -46,3 +46,7 @@ present name d = count (get name d)
 -- the text that the member of this name is
 unfoldable pub text_at : List ℕ → Data → Option (List ℕ)
 text_at name d = get name d >>= as_str
+
+-- the number that a member is, where it is one of 64 bits without a point or an exponent
+abbrev pub number_at : List ℕ → Data → Option ℕ
+number_at name d = get name d >>= as_number >>= as_u64

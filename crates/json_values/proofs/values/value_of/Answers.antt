@@ -2,8 +2,8 @@
 use Rattle.std.proofs.Common.{refl}
 use Rattle.std.specs.Prelude.{Some}
 use Rattle.serde_json.specs.View.{view}
-use Rattle.keyring_file.proofs.Values.{text_value, no_value}
-use Rattle.keyring_file.proofs.json_values.value_of.Goals as goal
+use Rattle.json_values.proofs.Texts.{text_value, no_value}
+use Rattle.json_values.proofs.values.value_of.Goals as goal
 
 pub returns-in-Ok : goal.returns-in-Ok
 returns-in-Ok c = text_value c.args.bytes.now (Some (view c.in-Ok.value)) c.in-Ok.ensures.ok.0 c.in-Ok.ensures.ok.1
