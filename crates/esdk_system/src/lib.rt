@@ -1,8 +1,9 @@
 //! The real outside of `esdk`: the system's files, streams, generator and clock, behind the traits
 //! of `esdk_base`.
 //!
-//! What a contract can say of a real file or stream is little: each adapter counts its failures
-//! and tells no content. What it does beyond that is tested over the real system.
+//! What a contract can say of a real file or stream is little: each adapter counts its failures. A
+//! sink tells what its writer took since it was made; the others tell no content. What they do
+//! beyond that is tested over the real system.
 #![tactic(auto)]
 
 mod file_shelf;
