@@ -129,8 +129,9 @@ has_rights() {
     [ "$mode" = "$3" ] || fail "$1" "$2 has mode $mode, and not $3"
 }
 
+# A text that replaces a file has the rights of its group only where all others have them, too; a message has them all.
 rights() {
-    local mask mode
+    local mask mode due
     make_folder one
     cp framed one/message
     job_file one/jobs ring 4 "encrypt nine sealed" "decrypt message opened"
@@ -141,13 +142,20 @@ rights() {
         has_rights "umask $mask" one/opened 600
         rm -f one/sealed one/opened
     done
-    for mode in 600 640 666 755; do
+    while read -r mode due; do
         echo before | tee one/sealed >one/opened
         chmod "$mode" one/sealed one/opened
         (cd one && "$program" batch --jobs jobs >../output 2>../report) || fail "over a file of mode $mode" "$(cat output report)"
         has_rights "over a file of mode $mode" one/sealed "$mode"
-        has_rights "over a file of mode $mode" one/opened "$mode"
-    done
+        has_rights "over a file of mode $mode" one/opened "$due"
+    done <<'MODES'
+600 600
+640 600
+604 600
+664 644
+666 666
+755 755
+MODES
     no_parts rights one
     show_places "the rights of files that a batch writes"
     : >answers
@@ -156,6 +164,121 @@ rights() {
     batch_in one 1
     answered "over a file that nobody may write" 'status 7, encrypt X3 ShelfFault (direct|none)'
     show_places "over a file that nobody may write"
+}
+
+# Writes an ACL: set_acl FILE access|default "TAG:RIGHTS[:ID]".. The tags are those of the system: 1 the owner, 2 a user, 4 the group, 16 the mask, 32 all others.
+set_acl() {
+    python3 -c 'import os, struct, sys
+entries = [tuple(map(int, (entry + ":4294967295").split(":")[:3])) for entry in sys.argv[3:]]
+os.setxattr(sys.argv[1], "system.posix_acl_" + sys.argv[2], struct.pack("<I", 2) + b"".join(struct.pack("<HHI", *entry) for entry in entries))' "$@" 2>/dev/null
+}
+
+# A text that replaces a file with an ACL is its owner's alone: of 660 with the entries of a user and of a group without rights, and of 640 in a folder whose ACL gives
+# a user rights to new files.
+rights_of_acls() {
+    make_folder one
+    cp framed one/message
+    mkdir one/shared
+    echo before | tee one/bobs one/shared/private >/dev/null
+    chmod 640 one/shared/private
+    if ! set_acl one/bobs access 1:6 2:6:1001 4:0 16:6 32:0 || ! set_acl one/shared default 1:7 2:7:1001 4:5 16:7 32:0; then
+        echo "files with an ACL: not tried, since there are none here"
+        return
+    fi
+    : >answers
+    has_rights "before a text replaces a file with an ACL" one/bobs 660
+    job_file one/jobs ring 4 "decrypt message bobs" "decrypt message shared/private"
+    batch_in one 1
+    answered "over a file with an ACL" 'status 0, decrypt done direct'
+    has_rights "over a file with an ACL" one/bobs 600
+    has_rights "in a folder with an ACL" one/shared/private 600
+    show_places "the rights of texts that replace files where there are ACLs"
+}
+
+# Runs a batch in the folder as user and group 65534, who are in no other group: batch_as_nobody FOLDER
+batch_as_nobody() {
+    chown -R 65534:65534 "$1"
+    chgrp 0 "$1/sealed" "$1/opened"
+    (cd "$1" && setpriv --reuid=65534 --regid=65534 --clear-groups "$program" batch --jobs jobs >../output 2>../report) || fail "a batch of another user" "$(cat output report)"
+}
+
+# A file hands on its group where the process may give that, and else a message has no more than a text.
+rights_of_groups() {
+    local mode
+    if [ "$(id -u)" != 0 ] || ! setpriv --reuid=65534 --regid=65534 --clear-groups "$program" gen --seed 1 --size 1 >/dev/null 2>&1; then
+        echo "files of another group: not tried, since they can't be made here, or another user can't run the program"
+        return
+    fi
+    make_folder one
+    cp framed one/message
+    job_file one/jobs ring 4 "encrypt nine sealed" "decrypt message opened"
+    : >answers
+    for mode in 640 664; do
+        echo before | tee one/sealed >one/opened
+        chmod "$mode" one/sealed one/opened
+        chgrp 2000 one/sealed one/opened
+        batch_in one 1
+        has_rights "over a file of another group" one/sealed "$mode"
+        [ "$(stat -c '%g' one/sealed one/opened | sort -u)" = 2000 ] || fail "over a file of another group" "the group isn't handed on"
+    done
+    has_rights "over a file of another group" one/opened 644
+    batch_as_nobody one
+    has_rights "over a file whose group can't be given" one/sealed 644
+    chmod 660 one/sealed one/opened
+    batch_as_nobody one
+    has_rights "over a file whose group can't be given" one/sealed 600
+    has_rights "over a file whose group can't be given" one/opened 600
+    show_places "the rights of files that replace those of another group"
+}
+
+# A name that no file can have is refused at the first turn, so that of a cut message nothing else is said.
+names_of_no_file() {
+    local name
+    make_folder one
+    head -c 300 message >one/cut
+    echo before >one/there
+    : >answers
+    for name in '' nothing/ nothing/. sub/ there/ . ..; do
+        job_file one/jobs ring 4 "decrypt cut $name" "encrypt nine second"
+        batch_in one 1
+        answered "writing '$name'" 'status 7, decrypt X3 ShelfFault none'
+        opens_as "beside writing '$name'" one/second nine
+        no_parts "writing '$name'" one
+        [ ! -e one/nothing ] || fail "writing '$name'" "a file was made"
+    done
+    show_places "a job that writes a name that no file can have"
+}
+
+# Files that killed runs left under all names that begin at 0 are no hindrance for a process of the same number.
+names_that_are_taken() {
+    local status=0
+    make_folder one
+    job_file one/jobs ring 4 "encrypt nine first"
+    # shellcheck disable=SC2016
+    (cd one && sh -c 'i=0; while [ "$i" -lt 1100 ]; do : >".esdk-$$-$i.part"; i=$((i + 1)); done; exec "$0" batch --jobs jobs' "$program" >../output 2>../report) || status=$?
+    ended "a batch where names of parts are taken" "$status" 0 ''
+    same_text "a batch where names of parts are taken" output 'job 1 encrypt done direct'
+    opens_as "a batch where names of parts are taken" one/first nine
+    [ "$(find one -name '.esdk-*.part' -empty | wc -l)" = 1100 ] || fail "a batch where names of parts are taken" "a file of another run is gone"
+}
+
+# Without /proc the program can't tell where its output goes, and replaces nothing.
+no_proc() {
+    local status=0
+    if ! unshare -m sh -c 'mount -t tmpfs none /proc' 2>/dev/null; then
+        echo "a run without /proc: not tried, since it can't be hidden here"
+        return
+    fi
+    make_folder one
+    echo before >one/there
+    job_file one/jobs ring 4 "encrypt nine out" "encrypt nine there" "encrypt nine new"
+    # shellcheck disable=SC2016
+    (cd one && unshare -m sh -c 'mount -t tmpfs none /proc && exec "$0" batch --jobs jobs' "$program" >out 2>../report) || status=$?
+    ended "a batch without /proc" "$status" 7 ''
+    same_text "a batch without /proc" one/out 'job 1 encrypt X3 ShelfFault direct' 'job 2 encrypt X3 ShelfFault direct' 'job 3 encrypt done direct'
+    same_text "a batch without /proc" one/there before
+    opens_as "a batch without /proc" one/new nine
+    no_parts "a batch without /proc" one
 }
 
 # While a batch of 64 jobs side by side runs, other files are renamed over its sources, and an output is replaced by a link: each message that is done is of one file whole.
@@ -227,7 +350,12 @@ files_of_a_batch() {
     two_names_of_an_output
     links_as_outputs
     no_regular_files
+    names_of_no_file
+    names_that_are_taken
+    no_proc
     rights
     rights_of_folders
+    rights_of_acls
+    rights_of_groups
     changing_files
 }

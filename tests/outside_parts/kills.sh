@@ -67,4 +67,16 @@ failing_places() {
     stand_before .
     each_place "batch, a file isn't renamed" '/^rename' EACCES 7 '' placed_or_before /dev/null batch --jobs two_jobs
     rm -f sealed opened_nine
+    left_parts
+}
+
+# Where the empty file can't be taken away that tells what rights a folder gives, it is left, and the job says so.
+left_parts() {
+    local status=0
+    inject '/^unlink' EACCES 1 batch --jobs two_jobs >output 2>report </dev/null || status=$?
+    ended "batch, an empty file isn't taken away" "$status" 7 ''
+    same_text "batch, an empty file isn't taken away" output 'job 1 encrypt X3 ShelfFault direct' 'job 2 decrypt done direct'
+    [ "$(find . -maxdepth 1 -name '.esdk-*.part' -empty -printf x | wc -c)" = 1 ] || fail "batch, an empty file isn't taken away" "it isn't left, or another one is"
+    find . -maxdepth 1 -name '.esdk-*.part' -delete
+    rm -f sealed opened_nine
 }

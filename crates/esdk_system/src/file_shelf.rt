@@ -15,19 +15,25 @@ use std::{fs, io};
 /// content.
 ///
 /// Only regular files are read and written. A read from a file's front opens the file that has the
-/// name then, and the reads behind it go on with that file, whatever becomes of the name. At most 64
-/// files are open for reading at a time, beside those that are written, each until it is in its
+/// name then, and the reads behind it go on with that file, whatever becomes of the name. At most
+/// 64 files are open for reading at a time, beside those that are written, each until it is in its
 /// place; one that was closed for others is read no further. A name that was given to another file
 /// meanwhile has no new readers until those of the first have ended.
 ///
 /// What is written under a name is a new file in the same folder, `.esdk-PID-N.part`, that only its
 /// owner may open. Until `finish` renames it, what stands under the name stays, and is what is read
 /// there; a process that is killed leaves such files and nothing else. A link is followed once, by
-/// `create`, and one that leads to nothing is refused. What stood there lends the new file its
-/// rights; where nothing did, a file for its owner has mode 600, and another the mode that the
-/// process's new files get in its folder. Its owner and its other names aren't taken over. Nothing
-/// is put in the place of a file that was read or announced, that this shelf put in its place, or
-/// that nobody may write.
+/// `create`. One that leads to nothing is refused, and so is a name that no file can have.
+///
+/// Where nothing stood there, a file for its owner has mode 600, and another the mode that the
+/// process's new files get in its folder. What stood there lends the new file its group, where that
+/// can be given, and its rights: those that its group alone had only to a file for anyone that has
+/// the same group. For a mode may say of the group what an ACL gives others, and no ACL is seen
+/// here. Its owner, its ACL and its other names aren't taken over.
+///
+/// Nothing is put in the place of a file that was read or announced, that this shelf put in its
+/// place, that standard output or standard error goes to, or that nobody may write. Where the
+/// system doesn't tell what those two go to, nothing is replaced.
 ///
 /// The system may tell only behind `finish` that it couldn't keep what was written, when a file is
 /// closed or later: neither is seen here.
@@ -119,6 +125,7 @@ impl Shelf for FileShelf {
     fn will_read(&mut self, name: &str) -> Result<(), AllocError> {
         match fs::metadata(&self.rt, name) {
             Ok(metadata) => self.known.remember(Identity::of(&metadata)),
+            // What can't be looked at now is known once it is read.
             Err(_) => Ok(()),
         }
     }

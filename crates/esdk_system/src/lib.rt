@@ -16,6 +16,7 @@ mod parts;
 mod places;
 mod read_files;
 mod regular;
+mod rights;
 mod rng_entropy;
 mod std_sink;
 mod std_source;

@@ -1,16 +1,17 @@
 //! The names of files that aren't whole yet.
 
-ghost use Rattle.std.specs.Prelude.{◌≡◌, ◌++◌, IfOk, codes, string_bytes};
+ghost use Rattle.std.specs.Prelude.{◌≡◌, ◌++◌, ◌<◌, ◌^◌, IfOk, codes, string_bytes};
 ghost use Rattle.std.specs.Fmt.{decimal};
 ghost use Rattle.std.specs.Path.{path_buf_bytes, path_with_file_name};
 ghost use Rattle.esdk_system.specs.PartNames.{part_name};
 
 use std::alloc::{AllocError, Global};
+use std::hash::{BuildHasher, Hasher, RandomState};
 use std::path::{Path, PathBuf};
 use std::process;
 
 /// Names for the files that one process makes: `.esdk-PID-N.part`, with the number of the process,
-/// and N that counts up from 0.
+/// and N that counts up from some number on.
 #[derive(Drop)]
 pub(crate) struct PartNames {
     alloc: Global,
@@ -19,14 +20,14 @@ pub(crate) struct PartNames {
 }
 
 impl PartNames {
-    /// The names of this process, from the first on.
-    pub(crate) fn new(rt: HostRuntime) -> PartNames
-        ensures { result.next ≡ 0 }
+    /// The names of this process, from this number on.
+    pub(crate) fn new(rt: HostRuntime, first: u64) -> PartNames
+        ensures { result.next ≡ first }
     {
         PartNames {
             alloc: rt.alloc(),
             process: process::id(rt.process()),
-            next: 0,
+            next: first,
         }
     }
 
@@ -38,6 +39,17 @@ impl PartNames {
         let name = part_name(self.alloc, self.process, self.next)?;
         self.next = self.next.saturating_add(1);
         Path::new(path).with_file_name(self.alloc, name.as_str())
+    }
+}
+
+/// A number to count up from, which the system draws: in a container each process may have the same
+/// number, and the files that killed ones left are no hindrance then. Where it draws none, it is 0.
+pub(crate) fn drawn_number(rt: HostRuntime) -> u64
+    ensures { result < 2 ^ 48 }
+{
+    match RandomState::new(&rt) {
+        Ok(state) => state.build_hasher().finish() >> 16,
+        Err(_) => 0,
     }
 }
 

@@ -2,27 +2,20 @@
 
 use crate::identity::{Identity, KnownFiles};
 use crate::named::{Named, NamedValues};
-use crate::part_names::PartNames;
+use crate::part_names::{PartNames, drawn_number};
 use crate::places::{Place, target_of};
+use crate::rights::{ANYONE, OWNER, rights_in_place_of, rights_of};
 use esdk_base::Readers;
 use esdk_fields::Text;
+use std::alloc::AllocError;
 use std::fs::{File, Metadata, OpenOptions, Permissions};
 use std::io::{Error, ErrorKind, Write};
-use std::os::unix::fs::{MetadataExt, OpenOptionsExt, PermissionsExt};
+use std::os::unix::fs::{OpenOptionsExt, PermissionsExt};
 use std::path::PathBuf;
 use std::{fs, io};
 
 /// How many names for a new file are tried at the most, where those before are taken.
 const MOST_TRIES: u32 = 1000;
-
-/// The rights of a file that its owner alone reads and writes.
-const OWNER: u32 = 0o600;
-
-/// The rights of which the process takes away what its umask says.
-const ANYONE: u32 = 0o666;
-
-/// The part of a file's mode that says who reads and writes it.
-const RIGHTS: u32 = 0o777;
 
 /// A file that isn't whole yet, and the place where it will stand.
 #[derive(Drop)]
@@ -60,7 +53,7 @@ impl Part {
 pub(crate) struct Parts {
     rt: HostRuntime,
     underway: NamedValues<Part>,
-    names: PartNames,
+    names: Option<PartNames>,
     rights_of_new: Option<Named<u32>>,
 }
 
@@ -70,7 +63,7 @@ impl Parts {
         Parts {
             rt,
             underway: NamedValues::new(rt.alloc()),
-            names: PartNames::new(rt),
+            names: None,
             rights_of_new: None,
         }
     }
@@ -135,11 +128,11 @@ impl Parts {
         readers: Readers,
     ) -> io::Result<()> {
         let rights = match Place::of(self.rt, known, part.target.as_str())? {
-            Place::Taken(stands) => stands.mode() & RIGHTS,
+            Place::Taken(stands) => rights_in_place_of(&part.file, &stands, readers),
             Place::Free => self.rights_for(readers, &part.target)?,
         };
         let own = part.own_metadata(self.rt)?;
-        if own.mode() & RIGHTS != rights {
+        if rights_of(&own) != rights {
             part.file.set_permissions(Permissions::from_mode(rights))?;
         }
         known.remember(Identity::of(&own))?;
@@ -167,7 +160,8 @@ impl Parts {
 
     /// The rights that the system gives a new file of this process in the folder of this path. A
     /// file of its own, which is made there and taken away at once, tells them: nothing is written
-    /// to it, since others may open it. What one folder told last is kept.
+    /// to it, since others may open it. What one folder told last is kept. Where that file can't be
+    /// taken away, it is left, empty, and this fails.
     fn rights_of_new(&mut self, target: &PathBuf) -> io::Result<u32> {
         let folder = target.parent().map_or("", |folder| folder.as_str());
         if let Some(told) = &self.rights_of_new {
@@ -178,7 +172,7 @@ impl Parts {
         let (path, file) = self.new_file(target, ANYONE)?;
         let metadata = file.metadata();
         fs::remove_file(&self.rt, &path)?;
-        let value = metadata?.mode() & RIGHTS;
+        let value = rights_of(&metadata?);
         let name = Text::new(self.rt.alloc(), folder)?;
         self.rights_of_new = Some(Named { name, value });
         Ok(value)
@@ -189,7 +183,7 @@ impl Parts {
         let mut options = OpenOptions::new();
         options.write(true).create_new(true).mode(rights);
         for _ in 0..MOST_TRIES {
-            let path = self.names.next_beside(beside.as_str())?;
+            let path = self.next_beside(beside.as_str())?;
             match options.open(&self.rt, &path) {
                 Ok(file) => return Ok((path, file)),
                 Err(error) if error.kind() == ErrorKind::AlreadyExists => {}
@@ -197,5 +191,17 @@ impl Parts {
             }
         }
         Err(Error::from(ErrorKind::AlreadyExists))
+    }
+
+    /// The next name for a new file, in the folder in which this path lies. The number of the first
+    /// is drawn.
+    fn next_beside(&mut self, path: &str) -> Result<PathBuf, AllocError> {
+        let mut names = match self.names.take() {
+            Some(names) => names,
+            None => PartNames::new(self.rt, drawn_number(self.rt)),
+        };
+        let beside = names.next_beside(path);
+        self.names = Some(names);
+        beside
     }
 }

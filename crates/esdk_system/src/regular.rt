@@ -23,6 +23,8 @@ pub(crate) fn require_regular(metadata: &Metadata) -> io::Result<()>
 ///
 /// The name is asked for first, since opening a named pipe waits until somebody writes to it, and
 /// opening a device may change it; and then the open file, since the name may have changed between.
+/// A named pipe that takes the name just between the look and the opening is waited for: no call
+/// that there is here opens a file without waiting.
 pub(crate) fn open_regular(rt: HostRuntime, name: &str) -> io::Result<(File, Identity)> {
     require_regular(&fs::metadata(&rt, name)?)?;
     let file = File::open(&rt, name)?;

@@ -233,12 +233,15 @@ fn a_file_is_read_on_while_it_is_open(rt: HostRuntime) {
     assert!(rt; new_file_is_read_on(rt));
 }
 
-/// Whether what is no regular file is neither read nor written.
+/// Whether what is no regular file is neither read nor written, and what can be none isn't made.
 fn others_are_refused(shelf: &mut FileShelf) -> bool {
     refuses(shelf, "/tmp", 0)
         && refuses(shelf, "/dev/null", 0)
         && shelf.create("/tmp").is_err()
         && shelf.create("/dev/null").is_err()
+        && shelf.create("").is_err()
+        && shelf.create("/tmp/top_tests_nothing/").is_err()
+        && shelf.create("/tmp/top_tests_nothing/.").is_err()
 }
 
 #[test]
@@ -288,14 +291,25 @@ fn has_rights(rt: HostRuntime, path: &str, rights: u32) -> bool {
     fs::metadata(&rt, path).is_ok_and(|file| file.mode() & 0o777 == rights)
 }
 
-/// Whether a file for its owner is for its owner alone, and one that takes the place of another has
-/// its rights; and one that nobody may write stays.
+/// Whether a file for these readers that takes the place of one with these rights has those due.
+fn is_replaced(rt: HostRuntime, path: &str, readers: Readers, before: u32, due: u32) -> bool {
+    let mut shelf = FileShelf::new(rt);
+    fs::set_permissions(&rt, path, Permissions::from_mode(before)).is_ok()
+        && shelf.create(path).is_ok()
+        && shelf.finish(path, readers).is_ok()
+        && has_rights(rt, path, due)
+}
+
+/// Whether a file for its owner is for its owner alone. One that takes the place of another has of
+/// that one's rights for its group only what all others have, too; a file for anyone has them all.
+/// One that nobody may write stays.
 fn has_the_rights_due(rt: HostRuntime, path: &str) -> bool {
     is_there(rt, path)
         && has_rights(rt, path, 0o600)
-        && fs::set_permissions(&rt, path, Permissions::from_mode(0o640)).is_ok()
-        && is_there(rt, path)
-        && has_rights(rt, path, 0o640)
+        && is_replaced(rt, path, Readers::Owner, 0o640, 0o600)
+        && is_replaced(rt, path, Readers::Owner, 0o664, 0o644)
+        && is_replaced(rt, path, Readers::Owner, 0o604, 0o600)
+        && is_replaced(rt, path, Readers::Anyone, 0o640, 0o640)
         && fs::set_permissions(&rt, path, Permissions::from_mode(0o440)).is_ok()
         && !is_there(rt, path)
         && fs::remove_file(&rt, path).is_ok()
@@ -310,32 +324,51 @@ fn new_file_has_the_rights_due(rt: HostRuntime) -> bool {
 }
 
 #[test]
-fn a_new_file_has_the_rights_of_the_one_that_it_replaces(rt: HostRuntime) {
+fn a_new_file_has_the_rights_due_from_the_one_that_it_replaces(rt: HostRuntime) {
     assert!(rt; new_file_has_the_rights_due(rt));
 }
 
-/// Whether what isn't finished is taken away: it lay under the first name of this process.
-fn is_taken_away(rt: HostRuntime, shelf: &mut FileShelf, path: &str) -> bool {
-    let part = format!(in rt.alloc(); "/tmp/.esdk-{}-0.part", process::id(rt.process()));
-    let Ok(part) = part else {
+/// Whether this is the name of a file of this process that isn't whole, and is its owner's alone.
+fn is_a_part(rt: HostRuntime, folder: &str, name: &str) -> bool {
+    let begin = format!(in rt.alloc(); ".esdk-{}-", process::id(rt.process()));
+    let path = format!(in rt.alloc(); "{folder}/{name}");
+    name.ends_with(".part")
+        && begin.is_ok_and(|begin| name.starts_with(begin.as_str()))
+        && path.is_ok_and(|path| has_rights(rt, path.as_str(), 0o600))
+}
+
+/// Whether the first file of the folder is one.
+fn holds_a_part(rt: HostRuntime, folder: &str) -> bool {
+    let Ok(mut files) = fs::read_dir(&rt, folder) else {
         return false;
     };
-    shelf.create(path).is_ok()
-        && fs::exists(&rt, &part).is_ok_and(|there| there)
-        && has_rights(rt, part.as_str(), 0o600)
+    match files.next() {
+        Some(Ok(file)) => is_a_part(rt, folder, file.file_name()),
+        Some(Err(_)) | None => false,
+    }
+}
+
+/// Whether what isn't finished is taken away, so that the folder is empty.
+fn is_taken_away(rt: HostRuntime, shelf: &mut FileShelf, folder: &str, path: &str) -> bool {
+    fs::create_dir(&rt, folder).is_ok()
+        && shelf.create(path).is_ok()
+        && holds_a_part(rt, folder)
         && {
             shelf.remove_unfinished();
-            fs::exists(&rt, &part).is_ok_and(|there| !there)
+            fs::remove_dir(&rt, folder).is_ok()
         }
         && shelf.append(path, b"a").is_err()
 }
 
-/// Whether a file at a path of this process is.
+/// Whether a file in a folder of this process is.
 fn new_file_is_taken_away(rt: HostRuntime) -> bool {
-    match scratch_path(&rt, "unfinished") {
-        Ok(path) => is_taken_away(rt, &mut FileShelf::new(rt), path.as_str()),
-        Err(_) => false,
-    }
+    let Ok(folder) = scratch_path(&rt, "unfinished") else {
+        return false;
+    };
+    let path = format!(in rt.alloc(); "{}/text", folder.as_str());
+    path.is_ok_and(|path| {
+        is_taken_away(rt, &mut FileShelf::new(rt), folder.as_str(), path.as_str())
+    })
 }
 
 #[test]
