@@ -32,6 +32,90 @@ keys() {
     want "a key file that can't be written isn't left" [ ! -e full ]
 }
 
+# Makes a folder that gives rights to what is made in it, whatever the umask: open_folder FOLDER ENTRY
+open_folder() { mkdir -p "$1" && setfacl -d -m "u::rwx,g::rwx,o::r-x$2" "$1"; }
+
+# Whether there are default ACLs here; else it says that they aren't tried.
+has_acls() {
+    if command -v getfacl >/dev/null && command -v setfacl >/dev/null && open_folder probed ,u:1001:rwx 2>/dev/null; then return 0; fi
+    echo "$1: not tried, since there are no ACLs here"
+    return 1
+}
+
+# Under each umask, in folders with a default ACL, of which some name a user. (The middle digit bounds what an ACL gives, too.)
+key_rights() {
+    has_acls "rights of keys" || return 0
+    for entry in '' ,u:1001:rwx; do
+        for mask in 000 022 077; do
+            open_folder "keys$entry" "$entry"
+            run sh -c 'umask "$1"; exec "$2" backups 2026 "$3"' sh "$mask" "$share/esdk-keygen" "keys$entry/$mask"
+            ended "a key under umask $mask where a folder gives rights$entry" 0
+            want "it is its owner's alone" [ "$(stat -c %a "keys$entry/$mask")" = 600 ]
+        done
+        want "nothing else is there" [ "$(find "keys$entry" -type f | wc -l)" -eq 3 ]
+    done
+}
+
+# A key is never in a file that others can open: what has the name before it is empty.
+key_writing() {
+    has_acls "a key while it is written" || return 0
+    open_folder watched ,u:1001:rwx
+    make_slow_sync watching '*[!/]'
+    begin env PATH="$work/watching:$PATH" "$share/esdk-keygen" backups 2026 watched/key
+    want "a key that is written" await [ -e syncing ]
+    find watched -type f -size +0 -printf '%m\n' >modes
+    wait "$begun"
+    want "a key that is written is in a file of its owner's alone" holds modes 600
+    rm syncing
+}
+
+# refused_words SCRIPT LINE WORD..: the words are refused with this line.
+refused_words() {
+    script=$1 line=$2
+    shift 2
+    run "$share/$script" "$@"
+    ended "$script $*" 2
+    want "$script $*: one line" holds report "$script: $line; see $script --help"
+}
+
+# What these scripts say of wrong words, and of their version.
+words_of_scripts() {
+    for name in esdk-audit esdk-into esdk-jobs esdk-keygen; do
+        run "$share/$name" --version
+        ended "$name --version" 0
+        want "$name --version" holds output "$name $(cat "$top/VERSION")"
+    done
+    refused_words esdk-keygen "NAMESPACE, NAME and FILE are missing"
+    refused_words esdk-keygen "NAME and FILE are missing" backups
+    refused_words esdk-keygen "FILE is missing" backups 2026
+    refused_words esdk-keygen "a word too many: mo?e" backups 2026 file "$(printf 'mo\033e')"
+    refused_words esdk-into "FILE and COMMAND are missing"
+    refused_words esdk-into "COMMAND is missing behind a??b" "$(printf 'a\302\233b')"
+    refused_words esdk-into "no command: -x" file -x
+    refused_words esdk-into "no file: folder/" folder/ echo
+    refused_words esdk-audit "KEYRING and FOLDER are missing"
+    refused_words esdk-audit "FOLDER is missing" key
+    refused_words esdk-audit "not -- behind FOLDER: a=b" key folder a=b
+    refused_words esdk-jobs "no command: encrypt, decrypt, audit or report is missing"
+    refused_words esdk-jobs "no command of esdk-jobs: encrpyt" encrpyt
+    refused_words esdk-jobs "TO is missing" decrypt key
+    refused_words esdk-jobs "PREFIX is missing" encrypt --replace key to
+    refused_words esdk-jobs "KEYRING is empty" encrypt '' to prefix
+    refused_words esdk-jobs "a word too many: more" decrypt key to prefix more
+    refused_words esdk-jobs "no pair KEY=VALUE: tenant" audit key prefix tenant
+    refused_words esdk-jobs "REPORT is missing" report -0 jobs
+}
+
+# What bash offers for the options of these scripts, and behind one.
+completed_options() {
+    mkdir completed
+    want "completion of an option" [ "$(offers _esdk_jobs esdk-jobs decrypt --)" = --replace ]
+    want "completion behind an option" [ "$(offers _esdk_jobs esdk-jobs decrypt --replace key compl)" = completed ]
+    for name in audit into jobs keygen; do
+        want "completion of the first option of esdk-$name" [ "$(offers "_esdk_$name" "esdk-$name" --v)" = --version ]
+    done
+}
+
 # refused_name WHAT NAMESPACE NAME
 refused_name() {
     run "$share/esdk-keygen" "$2" "$3" refused

@@ -49,6 +49,163 @@ outputs() {
     want "the program's line" holds report 'esdk: M10 Truncated'
 }
 
+# The command has what its caller opened, whichever numbers these have.
+numbers() {
+    echo more >"more"
+    for number in 3 4 5 6 7 8 9; do
+        run sh -c 'exec "$1" numbered sh -c "cat; cat <&$2" <plain '"$number"'<"more"' sh "$share/esdk-into" "$number"
+        ended "a command with number $number" 0
+        want "a command with number $number has it, and its input" holds numbered textmore
+    done
+    run sh -c 'exec "$1" numbered cat <plain 4<"more" 5<"more" 6<"more" 7<"more" 8<"more" 9<"more"' sh "$share/esdk-into"
+    want "a command with all numbers but one has its input" holds numbered text
+}
+
+# Under each umask, in folders with a default ACL, of which some name a user: what is written, and what is put in place.
+output_rights() {
+    has_acls "rights of outputs" || return 0
+    for entry in '' ,u:1001:rwx; do
+        for mask in 000 022 077; do
+            open_folder "outputs$entry" "$entry"
+            run sh -c 'umask "$1"; exec "$2" "$3" sh -c "stat -c %a \"\$1\"/.esdk-into.*; umask" sh "${3%/*}"' sh "$mask" "$share/esdk-into" "outputs$entry/$mask"
+            ended "an output under umask $mask where a folder gives rights$entry" 0
+            want "it is its owner's alone while it is written, and the command has its umask" holds "outputs$entry/$mask" "$(printf '600\n0%s' "$mask")"
+            want "it is its owner's alone" [ "$(stat -c %a "outputs$entry/$mask")" = 600 ]
+        done
+    done
+}
+
+# Whether this can play other users; else it says that they aren't. They find the scripts in the folder `played`.
+can_play() {
+    if [ "$(id -u)" = 0 ] && setpriv --reuid 1001 --regid 100 --groups 100 true 2>/dev/null; then
+        chmod 711 "$work"
+        [ -d played ] || cp -r "$share" played
+        chmod -R a+rX played
+        return 0
+    fi
+    echo "$1: not tried, since other users can't be played here"
+    return 1
+}
+
+# Runs a command as another user, of these groups: as_user USER GROUP,.. COMMAND..
+as_user() {
+    user=$1 groups=$2
+    shift 2
+    run setpriv --reuid "$user" --regid "${groups%%,*}" --groups "$groups" "$@"
+}
+
+# Makes the file that is to be replaced, of user 1001: of_theirs FILE GROUP MODE
+of_theirs() {
+    mkdir -p theirs
+    chown 1001 theirs
+    rm -f "$1"
+    echo old >"$1"
+    chown "1001:$2" "$1"
+    chmod "$3" "$1"
+}
+
+# Who replaces a file of a group that isn't theirs: group and others have what both had. Of one that is, it stays.
+replaced_groups() {
+    can_play "groups of files that are replaced" || return 0
+    while read -r mode left; do
+        of_theirs theirs/pay 2000 "$mode"
+        as_user 1001 100 played/esdk-into theirs/pay echo secret
+        ended "a file of mode $mode whose group can't be kept" 0
+        want "it has mode $left then" [ "$(stat -c '%a %u:%g' theirs/pay)" = "$left 1001:100" ]
+    done <<'END'
+640 600
+660 600
+664 644
+604 600
+755 755
+4751 711
+END
+    of_theirs theirs/pay 2000 640
+    as_user 1001 100 played/esdk-into theirs/pay echo secret
+    as_user 1005 100 cat theirs/pay
+    ended "another user of who replaced it can't read it" 1
+    of_theirs theirs/pay 2000 640
+    as_user 1001 100,2000 played/esdk-into theirs/pay echo secret
+    want "a group that can be kept stays, with its rights" [ "$(stat -c '%a %u:%g' theirs/pay)" = "640 1001:2000" ]
+    as_user 1005 2000 cat theirs/pay
+    want "who could read it can" holds output secret
+    as_user 1005 100 cat theirs/pay
+    ended "who couldn't read it can't" 1
+}
+
+# The rights of a file, of which an ACL hides those of its group behind a mask.
+rights_of() { getfacl -cEnp -- "$1"; }
+
+# Makes a file of mode 640 without ACL, and notes its rights: plain_file FILE
+plain_file() {
+    echo old >"$1"
+    setfacl -b "$1"
+    chmod 640 "$1"
+    rights_of "$1" >due
+}
+
+# An ACL is kept, and none comes from the folder; where that can't be, group and others have nothing.
+replaced_acls() {
+    has_acls "ACLs of files that are replaced" || return 0
+    mkdir without-acls
+    printf '#!/bin/sh\nexit 1\n' | tee without-acls/getfacl >without-acls/setfacl
+    chmod +x without-acls/getfacl without-acls/setfacl
+    echo old >bobs
+    chmod 600 bobs
+    setfacl -m u:1001:rw-,g::---,m::rw- bobs
+    rights_of bobs >due
+    run "$share/esdk-into" bobs echo secret
+    ended "a file with an ACL" 0
+    rights_of bobs >rights
+    want "its ACL is kept" cmp rights due
+    run env PATH="$work/without-acls:$PATH" "$share/esdk-into" bobs echo secret
+    ended "a file with an ACL, without the commands for it" 0
+    want "it is its owner's alone" [ "$(stat -c %a bobs)" = 600 ]
+    # An `install` that leaves what the folder gives.
+    mkdir leaving
+    printf '#!/bin/sh\nfor file; do :; done\n: >"$file"\nchmod 600 "$file"\n' >leaving/install
+    chmod +x leaving/install
+    open_folder shared ,u:1001:rwx
+    for path in "$PATH" "$work/without-acls:$PATH" "$work/leaving:$PATH"; do
+        plain_file shared/priv
+        run env PATH="$path" "$share/esdk-into" shared/priv echo secret
+        ended "a file without ACL where a folder gives one" 0
+        rights_of shared/priv >rights
+        want "its rights are as before" cmp rights due
+    done
+    plain_file shared/priv
+    run env PATH="$work/without-acls:$work/leaving:$PATH" "$share/esdk-into" shared/priv echo secret
+    ended "such a file, where the folder's ACL can't be taken away" 0
+    want "it is its owner's alone" [ "$(stat -c %a shared/priv)" = 600 ]
+    can_play "ACLs of files that other users replace" || return 0
+    of_theirs theirs/bobs 2000 600
+    setfacl -m u:1005:rw-,g::---,m::rw- theirs/bobs
+    as_user 1001 100 played/esdk-into theirs/bobs echo secret
+    want "a file with an ACL whose group can't be kept is its owner's alone" [ "$(stat -c '%a %u:%g' theirs/bobs)" = "600 1001:100" ]
+    of_theirs theirs/bobs 2000 600
+    setfacl -m u:1005:rw-,g::---,m::rw- theirs/bobs
+    as_user 1001 100,2000 played/esdk-into theirs/bobs echo secret
+    as_user 1005 100 cat theirs/bobs
+    want "whom an ACL names can read the new file" holds output secret
+    as_user 1006 2000 cat theirs/bobs
+    ended "whom it doesn't can't" 1
+}
+
+# A file that who runs this may not write stays.
+unwritable() {
+    can_play "files that may not be written" || return 0
+    of_theirs theirs/fixed 100 444
+    as_user 1001 100 played/esdk-into theirs/fixed sh -c 'echo new; : >theirs/ran'
+    ended "a file of mode 444" 4
+    want "it stays" holds theirs/fixed old
+    want "the command isn't run" [ ! -e theirs/ran ]
+    of_theirs theirs/fixed 100 644
+    as_user 1001 100 played/esdk-into theirs/fixed sh -c 'echo new; chmod 444 theirs/fixed'
+    ended "a file that gets mode 444 meanwhile" 4
+    want "it stays, too" holds theirs/fixed old
+    want "nothing is left beside it" nothing_left theirs
+}
+
 places() {
     ln -s plain link
     for file in link folder /dev/null missing/file; do
