@@ -73,9 +73,122 @@ audit_sums() {
     want "an audit of two keys: a line for each" [ "$(head -n 2 output | tr '\n' ';')" = 'leaf 1: needed for 1 of 2 messages;leaf 2: needed for none of 2 messages;' ]
     mkdir many-messages
     for i in $(seq 1001); do ln audited/one.esdk "many-messages/$i.esdk"; done
-    run "$share/esdk-audit" key many-messages
+    # The program starts once for each message: here it is one that starts fast.
+    printf '#!/bin/sh\n[ "$1" = extract ] || exec "%s" "$@"\n' "$ESDK" >fast
+    chmod +x fast
+    run env ESDK="$work/fast" "$share/esdk-audit" key many-messages
     ended "an audit of 1,001 messages" 0
     want "the answers are joined" holds output 'leaf 1: needed for 1001 of 1001 messages'
+}
+
+# Files that begin as messages, and whose names don't end in .esdk, may be what needs a key.
+audit_others() {
+    mkdir others
+    make_message key others/a.esdk
+    cp others/a.esdk others/b.enc
+    cp others/a.esdk "$(printf 'others/line\nfeed \342\200\256 \303\251')"
+    printf '\001\200\001\170older' >others/old
+    echo text | "$ESDK" encrypt --armour --keyring=key >others/letter.text
+    { printf '\357\273\277\r\n \t\n'; cat others/letter.text; } >others/spaced.text
+    printf 'AYABeolder' >others/old.text
+    printf 'xAgR4' >others/plain
+    printf '\002\004\171' >others/bytes
+    : >others/empty
+    head -c 100000 /dev/zero | tr '\0' ' ' >others/spaces
+    ln -s a.esdk others/link
+    run "$share/esdk-audit" key others
+    ended "an audit with messages under other names" 1
+    cat >lines <<'END'
+esdk-audit: ./others/b.enc: it begins as a message, and its name doesn't end in .esdk
+esdk-audit: ./others/letter.text: it begins as a message, and its name doesn't end in .esdk
+esdk-audit: ./others/line?feed ? é: it begins as a message, and its name doesn't end in .esdk
+esdk-audit: ./others/old.text: it begins as a message, and its name doesn't end in .esdk
+esdk-audit: ./others/old: it begins as a message, and its name doesn't end in .esdk
+esdk-audit: ./others/spaced.text: it begins as a message, and its name doesn't end in .esdk
+END
+    sort lines >due
+    sort report >sorted
+    want "these are named, and no others" cmp sorted due
+    want "all of them are counted" [ "$(tail -n 1 output)" = 'left out, since they are no files with names in .esdk: 11' ]
+    rm others/a.esdk
+    run "$share/esdk-audit" key others
+    ended "an audit of messages under other names alone" 1
+    want "they are named, too" [ "$(grep -c 'it begins as a message' report)" -eq 6 ]
+}
+
+# Names are told whole, and no message is lost among odd ones.
+audit_names() {
+    mkdir odd-names
+    make_message key odd-names/a.esdk
+    for name in ' lead' "$(printf 'a\nb')" 'x y' '*' '$(x)' "it's" 'é'; do cp odd-names/a.esdk "odd-names/$name.esdk"; done
+    run "$share/esdk-audit" key odd-names
+    ended "an audit of odd names" 0
+    want "an audit of odd names: all are opened" holds output 'leaf 1: needed for 8 of 8 messages'
+    cat >told-names <<END
+#!/bin/sh
+if [ "\$1" = extract ]; then
+    for word; do case \$word in --from=*) printf '%s\\0' "\${word#--from=}" >>"$work/asked" ;; esac; done
+    exit 0
+fi
+exec "$ESDK" "\$@"
+END
+    chmod +x told-names
+    : >asked
+    run env ESDK="$work/told-names" "$share/esdk-audit" key odd-names
+    want "the whole file is asked about each of them, by its whole name" \
+        [ "$(sort -z asked | tr '\0\n' '\n?')" = "$(find ./odd-names -type f -print0 | sort -z | tr '\0\n' '\n?')" ]
+    cp odd-names/a.esdk "$(printf 'odd-names/c1\302\233 bidi\342\200\256 \303\251.esdk')"
+    "$share/esdk-keygen" backups 2026 odd-key
+    run "$share/esdk-audit" odd-key odd-names
+    want "a name that steers a terminal is told without that" grep -q 'not opened: ./odd-names/c1? bidi? é.esdk: message . opened-by none' report
+    want "a name with a line feed is told in one line" grep -q 'not opened: ./odd-names/a?b.esdk: message . opened-by none' report
+}
+
+# A program under which leaf 2 opens all messages, and the whole file all but one: a stranger's entry stands in that one.
+audit_whole() {
+    mkdir whole
+    for name in a b c; do make_message key "whole/$name.esdk"; done
+    cat >strangers <<'END'
+#!/bin/sh
+case $1 in
+    audit) printf 'message 1 opened-by 2\nmessage 2 opened-by 1 2\nmessage 3 opened-by 2\nleaf 1 needed-for none\nleaf 2 needed-for 1 3\n' ;;
+    extract)
+        echo "$*" >>words
+        case $* in *--from=./whole/b.esdk*) echo 'esdk: M16 Commitment' >&2; exit 1 ;; esac
+        ;;
+esac
+END
+    chmod +x strangers
+    : >words
+    run env ESDK="$work/strangers" "$share/esdk-audit" key whole -- -a=b tenant:=acme
+    ended "an audit of a message that the whole file doesn't open" 1
+    want "it is named with its line" holds report 'esdk-audit: not opened by the whole file: ./whole/b.esdk: esdk: M16 Commitment'
+    want "what the leaves open is told as before" [ "$(head -n 2 output | tr '\n' ';')" = 'leaf 1: needed for none of 3 messages;leaf 2: needed for 2 of 3 messages;' ]
+    sort words >sorted
+    for name in a b c; do echo "extract --keyring=key --from=./whole/$name.esdk --at=0 --count=0 -- -a=b tenant:=acme"; done >due
+    want "the whole file is asked with the pairs, once a message" cmp sorted due
+}
+
+# An audit by who can't read a folder, or a file.
+unread_audits() {
+    can_play "audits by other users" || return 0
+    mkdir unread unread/closed unread/tmp
+    cp audited/one.esdk unread/a.esdk
+    cp audited/one.esdk unread/other
+    cp audited/one.esdk "$(printf 'unread/bell\007.esdk')"
+    chmod 0 unread/closed unread/other "$(printf 'unread/bell\007.esdk')"
+    chmod 644 unread/a.esdk
+    chown 1001 unread/tmp
+    printf '#!/bin/sh\n[ "$1" = extract ] || printf "message 1 opened-by 1\\nleaf 1 needed-for 1\\n"\n' >one-message
+    chmod 755 one-message
+    as_user 1001 100 env ESDK="$work/one-message" TMPDIR="$work/unread/tmp" played/esdk-audit key unread
+    ended "an audit of a folder that can't be read" 1
+    want "the folder is named" grep -q 'unread/closed' report
+    want "a message that can't be read is named" grep -q "^esdk-audit: not opened: ./unread/bell?.esdk: it can't be read" report
+    want "another file that can't be read is named" grep -q "^esdk-audit: ./unread/other: it can't be read" report
+    rm -rf unread/closed unread/other unread/bell*
+    as_user 1001 100 env ESDK="$work/one-message" TMPDIR="$work/unread/tmp" played/esdk-audit key unread
+    ended "an audit of what can be read" 0
 }
 
 refused_audits() {

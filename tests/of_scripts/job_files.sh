@@ -61,6 +61,113 @@ reports() {
     ended "no report" 4
 }
 
+# A file that is there isn't replaced, unless it is asked for: a batch replaces it also where a job fails.
+names_there() {
+    mkdir -p there/out/below
+    echo a >there/a
+    echo b >there/b
+    mkdir there/below
+    echo c >there/below/c
+    echo good >there/out/a.esdk
+    ln -s nowhere there/out/below/c.esdk
+    printf 'a\0./b\0below/c\0' >names
+    run_in there "$share/esdk-jobs" encrypt ../key out jobs <names
+    ended "names whose messages are there" 1
+    cat >lines <<'END'
+esdk-jobs: no job: a: the file to be made is there already
+esdk-jobs: no job: below/c: the file to be made is there already
+END
+    want "they are named" cmp report lines
+    want "the others have jobs" [ "$(froms there/jobs-1.json | tr '\0' ' ')" = './b ' ]
+    rm -f there/jobs-1.json
+    run_in there "$share/esdk-jobs" encrypt --replace ../key out jobs <names
+    ended "names whose messages are there, with --replace" 0
+    want "they have jobs, too" [ "$(froms there/jobs-1.json | tr '\0' ' ')" = 'a ./b below/c ' ]
+    rm -f there/jobs-1.json
+    printf 'b/\0b/.\0' >names
+    run_in there "$share/esdk-jobs" encrypt ../key out jobs <names
+    want "names that are no files' are refused" [ "$(grep -c 'has the part .., or is no name' report)" -eq 2 ]
+    rm -r there
+}
+
+# Those that a batch left undone are done by a second job file, where the first one left the beginning of a file, or an empty one.
+undone_jobs() {
+    mkdir -p undone/from undone/store
+    echo text >undone/from/a
+    echo text >undone/from/b
+    printf 'a\0b\0' >names
+    run_in undone/from "$share/esdk-jobs" encrypt ../../key ../store ../jobs <names
+    run_in undone/from "$ESDK" batch --jobs ../jobs-1.json
+    cp undone/store/b.esdk undone/kept
+    head -c 100 undone/kept >undone/store/b.esdk
+    printf 'a.esdk\0b.esdk\0' >names
+    run_in undone/store "$share/esdk-jobs" decrypt ../../key ../back ../back <names
+    run_in undone/store "$ESDK" batch --jobs ../back-1.json
+    ended "a batch with a job that fails" 7
+    cp output undone/back-1.json.report
+    : >undone/back/b
+    cp undone/kept undone/store/b.esdk
+    run_in undone/store sh -c '"$1" report -0 ../back-1.json ../back-1.json.report | "$1" decrypt --replace ../../key ../back ../again' sh "$share/esdk-jobs"
+    ended "a job file of those that weren't done" 0
+    want "it has these alone" [ "$(froms undone/again-1.json | tr '\0' ' ')" = 'b.esdk ' ]
+    run_in undone/store "$ESDK" batch --jobs ../again-1.json
+    ended "the batch of those" 0
+    want "and then all are there" diff -r undone/from undone/back
+    rm -r undone
+}
+
+# What is made is its owner's alone, under each umask, where a folder with a default ACL gives rights.
+job_rights() {
+    has_acls "rights of job files" || return 0
+    for entry in '' ,u:1001:rwx; do
+        for mask in 000 022 077; do
+            open_folder "jobs$entry" "$entry"
+            printf 'a/b/c\0' >names
+            run sh -c 'umask "$1"; exec "$2" encrypt key "$3/$1/to" "$3/$1"' sh "$mask" "$share/esdk-jobs" "jobs$entry" <names
+            ended "a job file under umask $mask where a folder gives rights$entry" 0
+            want "it is its owner's alone" [ "$(stat -c %a "jobs$entry/$mask-1.json")" = 600 ]
+            want "its folders are, too" [ "$(find "jobs$entry/$mask" -type d -perm 700 | wc -l)" -eq 4 ]
+        done
+    done
+}
+
+# Files that can't be made, and a disk that is full.
+jobs_without_room() {
+    printf 'a\0b\0' >names
+    run "$share/esdk-jobs" encrypt key roomless missing/jobs <names
+    ended "a prefix in no folder" 4
+    want "a prefix in no folder: one line" holds report "esdk-jobs: missing/jobs-1.json can't be made or written"
+    run env TMPDIR="$work/missing" "$share/esdk-jobs" encrypt key roomless roomless <names
+    ended "no folder for notes" 4
+    seq 1 200 | tr '\n' '\0' >names
+    for blocks in 0 4; do
+        run sh -c 'trap "" XFSZ; ulimit -f "$2"; exec "$1" encrypt key roomless roomless' sh "$share/esdk-jobs" "$blocks" <names
+        ended "files of $blocks blocks at the most" 4
+    done
+    run sh -c 'exec "$1" encrypt key roomless roomless >/dev/full' sh "$share/esdk-jobs" <names
+    ended "names of job files that can't be written" 4
+    want "no job file is left" [ ! -e roomless-1.json ]
+    run sh -c 'exec "$1" report jobs-1.json empty >/dev/full' sh "$share/esdk-jobs"
+    ended "a report that can't be written" 4
+    want "nothing is left of job files without room" nothing_left .
+}
+
+# What steers a terminal or turns the direction of writing isn't told, and letters are.
+told_names() {
+    printf 'e\303\251 \346\227\245 \360\237\230\200 \303\200/..\0' >names
+    printf 'c0\033[31m del\177 c1\302\233 bidi\342\200\256\342\201\246\330\234 line\342\200\250/..\0' >>names
+    printf 'byte\233 cut\342\200 long\340\202\233/..\0' >>names
+    run "$share/esdk-jobs" encrypt key told told <names
+    ended "names that steer a terminal" 1
+    {
+        printf 'esdk-jobs: no job: e\303\251 \346\227\245 \360\237\230\200 \303\200/..: it has the part .., or is no name\n'
+        printf 'esdk-jobs: no job: c0?[31m del? c1? bidi??? line?/..: it has the part .., or is no name\n'
+        printf 'esdk-jobs: no job: byte? cut?? long???/..: it is not UTF-8\n'
+        echo 'esdk-jobs: no names have jobs, and there is no job file'
+    } >lines
+    want "they are told without that" cmp report lines
+}
+
 many_names() {
     seq -f 'from/a name like this one, %.0f' 1 2500 | tr '\n' '\0' >names
     run "$share/esdk-jobs" encrypt key many many <names
