@@ -31,7 +31,7 @@ _esdk_options() {
 # In the checkout `esdk` is the script, which has more words.
 _esdk_commands() {
     echo encrypt decrypt extract list batch audit gen migrate reseal
-    [ "$1" != ./esdk ] || echo help version build install package try
+    [ "$1" != ./esdk ] || echo help version build built install package try
 }
 
 _esdk() {
@@ -54,14 +54,23 @@ _esdk() {
     esac
 }
 
+# Of the options that a script takes as its first word those that begin like it; fails where it is no option: _esdk_first WORD
+_esdk_first() {
+    [[ $COMP_CWORD -eq 1 && $1 == -* ]] || return 1
+    _esdk_words "$1" "--help --version"
+}
+
 _esdk_keygen() {
+    local word=${COMP_WORDS[COMP_CWORD]}
     COMPREPLY=()
-    if [ "$COMP_CWORD" -eq 3 ]; then _esdk_files "${COMP_WORDS[3]}"; fi
+    if _esdk_first "$word"; then return; fi
+    if [ "$COMP_CWORD" -eq 3 ]; then _esdk_files "$word"; fi
 }
 
 _esdk_into() {
     local word=${COMP_WORDS[COMP_CWORD]}
     COMPREPLY=()
+    if _esdk_first "$word"; then return; fi
     case $COMP_CWORD in
         1) _esdk_files "$word" ;;
         2) mapfile -t COMPREPLY < <(compgen -c -- "$word") ;;
@@ -72,16 +81,33 @@ _esdk_into() {
 _esdk_tree() {
     local word=${COMP_WORDS[COMP_CWORD]}
     COMPREPLY=()
-    case $COMP_CWORD in
-        1) _esdk_words "$word" "encrypt verify decrypt" ;;
-        2) _esdk_files "$word" ;;
-        3 | 4) _esdk_folders "$word" ;;
+    if _esdk_first "$word"; then return; fi
+    case $COMP_CWORD:${COMP_WORDS[1]}:$word in
+        1:*) _esdk_words "$word" "encrypt verify decrypt" ;;
+        *:encrypt:-*) _esdk_words "$word" "--delete --list" ;;
+        *:verify:-*) _esdk_words "$word" --list ;;
+        *:decrypt:-*) _esdk_words "$word" --replace ;;
+        2:*) _esdk_files "$word" ;;
+        3:* | 4:*) _esdk_folders "$word" ;;
+    esac
+}
+
+_esdk_archive() {
+    local word=${COMP_WORDS[COMP_CWORD]}
+    COMPREPLY=()
+    if _esdk_first "$word"; then return; fi
+    case $COMP_CWORD:${COMP_WORDS[1]} in
+        1:*) _esdk_words "$word" "make list check restore get" ;;
+        2:*) _esdk_files "$word" ;;
+        3:* | 4:make | 4:restore | 5:get) _esdk_folders "$word" ;;
+        *:make) _esdk_words "$word" "--zstd --part" ;;
     esac
 }
 
 _esdk_audit() {
     local word=${COMP_WORDS[COMP_CWORD]}
     COMPREPLY=()
+    if _esdk_first "$word"; then return; fi
     case $COMP_CWORD in
         1) _esdk_files "$word" ;;
         2) _esdk_folders "$word" ;;
@@ -89,16 +115,21 @@ _esdk_audit() {
 }
 
 _esdk_jobs() {
-    local word=${COMP_WORDS[COMP_CWORD]}
+    local word=${COMP_WORDS[COMP_CWORD]} at=$COMP_CWORD
     COMPREPLY=()
-    case $COMP_CWORD:${COMP_WORDS[1]} in
+    if _esdk_first "$word"; then return; fi
+    if [[ $at -gt 2 && ${COMP_WORDS[2]} == --replace ]]; then at=$((at - 1)); fi
+    case $at:${COMP_WORDS[1]}:$word in
         1:*) _esdk_words "$word" "encrypt decrypt audit report" ;;
-        3:encrypt | 3:decrypt) _esdk_folders "$word" ;;
+        2:encrypt:-* | 2:decrypt:-*) _esdk_words "$word" --replace ;;
+        2:report:-*) _esdk_words "$word" -0 ;;
+        3:encrypt:* | 3:decrypt:*) _esdk_folders "$word" ;;
         *) _esdk_files "$word" ;;
     esac
 }
 
 complete -F _esdk esdk
+complete -F _esdk_archive esdk-archive
 complete -F _esdk_audit esdk-audit
 complete -F _esdk_keygen esdk-keygen
 complete -F _esdk_into esdk-into

@@ -1,8 +1,8 @@
 #!/usr/bin/env python3
 """Stands in for the program `esdk` in tests of the scripts around it, where it isn't built.
 
-It has `encrypt`, `decrypt`, `list`, `batch` and `audit`, the flag `--armour`, keyring files of one key
-line, and the lines and statuses that these tests meet. What it writes and reads are messages of the format, by
+It has `encrypt`, `decrypt`, `extract`, `list`, `batch` and `audit`, the flag `--armour`, keyring files of one key
+line or of JSON, whose first key that isn't retired makes the data key, and the lines and statuses that these tests meet. What it writes and reads are messages of the format, by
 vectors/opening.py over the package `cryptography`; it proves nothing, and holds files whole.
 """
 
@@ -47,11 +47,42 @@ class Fault(Exception):
         self.line = line
 
 
+def put(text):
+    """Writes all of it, also where the output is unbuffered and takes a part at a time."""
+    rest = memoryview(text)
+    try:
+        while rest:
+            rest = rest[sys.stdout.buffer.write(rest) :]
+        sys.stdout.buffer.flush()
+    except OSError:
+        sys.stdout = None
+        raise Fault(4, "X2 SinkFault") from None
+
+
+def raw_keys(node):
+    """The raw keys below a node of a JSON keyring file, and whether each is retired."""
+    if "raw" in node:
+        raw = node["raw"]
+        return [((raw["namespace"], raw["name"], base64.b64decode(raw["key"])), raw.get("retired", False))]
+    several = node["multi"]
+    nodes = [several["generator"]] * ("generator" in several) + several["children"]
+    return [key for below in nodes for key in raw_keys(below)]
+
+
 def keyring(name):
+    """The keys of a keyring file, those that write before those that are retired, and how many write."""
     try:
         text = pathlib.Path(name).read_bytes()
     except OSError:
         raise Fault(4, "X3 ShelfFault") from None
+    if not text.startswith(b"{"):
+        return [key_line(text)], 1
+    keys = raw_keys(json.loads(text)["ring"])
+    writing = [key for key, retired in keys if not retired]
+    return writing + [key for key, retired in keys if retired], len(writing)
+
+
+def key_line(text):
     parts = text.removesuffix(b"\n").split(b" ")
     if len(parts) != 3:
         raise Fault(3, "K2 BadShape 1")
@@ -64,12 +95,12 @@ def keyring(name):
         raise Fault(3, "K3 BadKey 1") from None
 
 
-def seal(text, wrapping, frame, stored, context):
+def seal(text, wrappings, frame, stored, context):
     """A message in frames. The required pairs are those of the context that aren't stored."""
     message_id, data_key = os.urandom(32), os.urandom(32)
     key = derived(data_key, message_id, SUITE + b"DERIVEKEY")
-    header = b"\x02" + SUITE + message_id + sized(context_text(stored)) + (1).to_bytes(2, "big")
-    header += wrapped(wrapping, data_key, context) + bytes([FRAMED]) + frame.to_bytes(4, "big")
+    header = b"\x02" + SUITE + message_id + sized(context_text(stored)) + len(wrappings).to_bytes(2, "big")
+    header += b"".join(wrapped(wrapping, data_key, context) for wrapping in wrappings) + bytes([FRAMED]) + frame.to_bytes(4, "big")
     header += derived(data_key, message_id, b"COMMITKEY")
     required = context_text({name: context[name] for name in context if name not in stored})
     parts = [header, AESGCM(key).encrypt(bytes(12), b"", header + required)]
@@ -97,8 +128,8 @@ def read_header(reader):
     return message_id, stored, entries, frame, commitment
 
 
-def opened(message, wrapping, given, write):
-    """Writes the text of a message frame by frame, and answers its whole context."""
+def unlocked(message, wrappings, given):
+    """What follows the header, its frames' key and number of bytes, the message's number and its whole context."""
     reader = Reader(message)
     message_id, stored, entries, frame, commitment = read_header(reader)
     header = message[: reader.rest.tell()]
@@ -107,7 +138,7 @@ def opened(message, wrapping, given, write):
             raise Fault(1, f"M12 ContextMismatch {json.dumps(name)}")
     context = {**stored, **given}
     try:
-        data_key = unwrap(entries, [wrapping], context)
+        data_key = unwrap(entries, wrappings, context)
     except Refused:
         raise Fault(1, "M15 NoKeyOpens") from None
     if derived(data_key, message_id, b"COMMITKEY") != commitment:
@@ -118,7 +149,14 @@ def opened(message, wrapping, given, write):
         AESGCM(key).decrypt(bytes(12), reader.take(16), header + required)
     except InvalidTag:
         raise Fault(1, "M17 HeaderTag") from None
-    final, sequence = False, 1
+    return reader, key, frame, message_id, context
+
+
+def opened(message, wrappings, given, write, sequence=1):
+    """Writes the text of a message frame by frame, from one on, and answers its whole context."""
+    reader, key, frame, message_id, context = unlocked(message, wrappings, given)
+    reader.rest.seek((sequence - 1) * (frame + 32), os.SEEK_CUR)
+    final = False
     while not final:
         mark = reader.take(4)
         final = mark == FINAL
@@ -138,9 +176,9 @@ def opened(message, wrapping, given, write):
     return context
 
 
-def open_whole(message, wrapping, given, write):
+def open_whole(message, wrappings, given, write):
     try:
-        return opened(message, wrapping, given, write)
+        return opened(message, wrappings, given, write)
     except Refused:
         raise Fault(1, "M10 Truncated") from None
 
@@ -220,11 +258,11 @@ def encrypt(words):
     if not given.get("--frame", "1").isdigit():
         raise Fault(2, "words BadNumber --frame")
     context, required = split_pairs(pairs)
-    wrapping = keyring(given["--keyring"])
+    keys, writing = keyring(given["--keyring"])
     text = sys.stdin.buffer.read()
     frame = int(given.get("--frame", "4096"))
-    message = seal(text, wrapping, frame, without(context, required), context)
-    sys.stdout.buffer.write(base64.encodebytes(message) if FLAG in given else message)
+    message = seal(text, keys[:writing], frame, without(context, required), context)
+    put(base64.encodebytes(message) if FLAG in given else message)
 
 
 def decrypt(words):
@@ -232,9 +270,41 @@ def decrypt(words):
     if "--keyring" not in given:
         raise Fault(2, "words NotRead")
     context, _ = split_pairs(pairs)
-    wrapping = keyring(given["--keyring"])
-    context = read_input(given, lambda message: open_whole(message, wrapping, context, sys.stdout.buffer.write))
+    keys, _ = keyring(given["--keyring"])
+    context = read_input(given, lambda message: open_whole(message, keys, context, put))
     sys.stderr.write(json.dumps(context, ensure_ascii=False, sort_keys=True, separators=(",", ":")) + "\n")
+
+
+class Enough(Exception):
+    """The range was written."""
+
+
+def extract(words):
+    given, pairs = options(words, ["--keyring", "--from", "--at", "--count"])
+    context, _ = split_pairs(pairs)
+    keys, _ = keyring(given["--keyring"])
+    at, left = int(given["--at"]), int(given["--count"])
+    try:
+        message = pathlib.Path(given["--from"]).read_bytes()
+    except OSError:
+        raise Fault(4, "X3 ShelfFault") from None
+    try:
+        frame = unlocked(message, keys, context)[2]
+        skipped = at % frame
+
+        def write(text):
+            nonlocal skipped, left
+            put(text[skipped : skipped + left])
+            left -= len(text[skipped : skipped + left])
+            skipped = 0
+            if left == 0:
+                raise Enough
+
+        opened(message, keys, context, write, at // frame + 1)
+    except Enough:
+        pass
+    except Refused:
+        raise Fault(1, "M10 Truncated") from None
 
 
 def header_of(message):
@@ -272,15 +342,15 @@ def job_file(name):
     return file["keyring"], jobs
 
 
-def run_job(job, wrapping):
+def run_job(job, keys, writing):
     try:
         read = pathlib.Path(job["from"]).read_bytes()
         if job["do"] == "encrypt":
             context = job.get("context", {})
-            made = [seal(read, wrapping, 4096, without(context, job.get("required", [])), context)]
+            made = [seal(read, keys[:writing], 4096, without(context, job.get("required", [])), context)]
         else:
             made = []
-            open_whole(read, wrapping, job.get("given", {}), made.append)
+            open_whole(read, keys, job.get("given", {}), made.append)
         pathlib.Path(job["to"]).write_bytes(b"".join(made))
     except OSError:
         raise Fault(4, "X3 ShelfFault") from None
@@ -289,11 +359,11 @@ def run_job(job, wrapping):
 def batch(words):
     given, _ = options(words, ["--jobs"])
     name, jobs = job_file(given["--jobs"])
-    wrapping = keyring(name)
+    keys, writing = keyring(name)
     status = 0
     for at, job in enumerate(jobs, 1):
         try:
-            run_job(job, wrapping)
+            run_job(job, keys, writing)
             print("job", at, job["do"], "done direct")
         except Fault as fault:
             print("job", at, job["do"], fault.line, "none")
@@ -301,10 +371,10 @@ def batch(words):
     sys.exit(status)
 
 
-def unlocks(message, wrapping, given):
+def unlocks(message, keys, given):
     """Whether the key opens the message's header. Of a body that is damaged it says nothing."""
     try:
-        opened(message, wrapping, given, lambda text: None)
+        opened(message, keys, given, lambda text: None)
     except Fault as fault:
         return fault.line.split()[0] not in ("M15", "M16", "M17")
     except Refused:
@@ -312,7 +382,7 @@ def unlocks(message, wrapping, given):
     return True
 
 
-def audited(message, wrapping):
+def audited(message, keys):
     """What an audit says of a message."""
     try:
         read = pathlib.Path(message["from"]).read_bytes()
@@ -326,7 +396,7 @@ def audited(message, wrapping):
         return "M10 Truncated"
     except Fault as fault:
         return fault.line
-    return "opened-by 1" if unlocks(read, wrapping, message.get("given", {})) else "opened-by none"
+    return "opened-by 1" if unlocks(read, keys, message.get("given", {})) else "opened-by none"
 
 
 def audit(words):
@@ -335,8 +405,8 @@ def audit(words):
     messages = file["messages"]
     if file["version"] != 1 or not 1 <= len(messages) <= 1000:
         raise Fault(3, "K2 BadShape 0")
-    wrapping = keyring(file["keyring"])
-    lines = [audited(message, wrapping) for message in messages]
+    keys, _ = keyring(file["keyring"])
+    lines = [audited(message, keys) for message in messages]
     for at, line in enumerate(lines, 1):
         print("message", at, line)
     needed = [str(at) for at, line in enumerate(lines, 1) if line == "opened-by 1"]
@@ -345,14 +415,15 @@ def audit(words):
 
 
 def main():
-    commands = {"encrypt": encrypt, "decrypt": decrypt, "list": listing, "batch": batch, "audit": audit}
+    commands = {"encrypt": encrypt, "decrypt": decrypt, "extract": extract, "list": listing, "batch": batch, "audit": audit}
     words = sys.argv[1:]
     try:
         if not words or words[0] not in commands or any("\udc80" <= letter <= "\udcff" for letter in "".join(words)):
             raise Fault(2, "words NotRead")
         commands[words[0]](words[1:])
     except Fault as fault:
-        sys.stdout.flush()
+        if sys.stdout:
+            sys.stdout.flush()
         print("esdk:", fault.line, file=sys.stderr)
         sys.exit(fault.status)
 
