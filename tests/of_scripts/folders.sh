@@ -25,6 +25,7 @@ there_and_back() {
     run "$share/esdk-tree" verify key store
     ended "verify" 0
     want "verify: the last line" holds output '13 done, 0 kept as they were, 0 not done'
+    want "verify makes nothing" [ ! -e "deep er" ]
     run "$share/esdk-tree" decrypt key store back
     ended "a folder back" 0
     rm from/link from/fifo
@@ -47,8 +48,6 @@ there_and_back() {
     want "and its message is of the older one" holds output older
     run "$share/esdk-tree" encrypt key from store
     want "and then no more" holds output '0 done, 13 kept as they were, 0 not done'
-    run "$share/esdk-tree" decrypt key store back
-    want "a restored file that is newer than its message stays" holds output '0 done, 13 kept as they were, 0 not done'
 }
 
 # Some messages are cut, exchanged, altered or none.
@@ -112,31 +111,33 @@ refused_folders() {
     ended "messages with a required pair more, with it" 0
 }
 
-# A program that fails, or hangs, once it has written a half, at a file with the word `odd` in its name.
+# A program that fails, or hangs, once it has written a half, at a file with the word `odd` in its name, or a batch that has it.
 make_programs() {
+    odd='words=$*; [ "$1" != batch ] || words=$(cat "$3"); case $words in *odd*)'
     cat >failing <<END
 #!/bin/sh
-case \$* in *odd*) echo half; echo 'esdk: Memory' >&2; exit 5 ;; esac
+$odd echo half; echo 'esdk: Memory' >&2; exit 5 ;; esac
 exec "$ESDK" "\$@"
 END
     cat >hanging <<END
 #!/bin/sh
-case \$* in *odd*) echo half; : >"$work/going"; exec sleep 60 ;; esac
+$odd echo half; : >"$work/going"; exec sleep 60 ;; esac
 exec "$ESDK" "\$@"
 END
     cat >changing <<END
 #!/bin/sh
-case \$* in *odd*) sleep 0.1; echo more >>some/odd ;; esac
+$odd sleep 0.1; echo more >>"$work/some/odd" ;; esac
 exec "$ESDK" "\$@"
 END
     cat >growing <<END
 #!/bin/sh
-case \$* in *odd*) time=\$(stat -c %y some/odd); echo more >>some/odd; touch -d "\$time" some/odd ;; esac
+cd "$work"
+$odd time=\$(stat -c %y some/odd); echo more >>some/odd; touch -d "\$time" some/odd ;; esac
 exec "$ESDK" "\$@"
 END
     cat >replacing <<END
 #!/bin/sh
-case \$* in *odd*) "$ESDK" encrypt --keyring=key file=odd <some/a >new.odd; touch -d 2001-01-01 new.odd; mv new.odd out/odd.esdk ;; esac
+$odd cd "$work"; "$ESDK" encrypt --keyring=key file=odd <some/a >new.odd; touch -d 2001-01-01 new.odd; mv new.odd out/odd.esdk ;; esac
 exec "$ESDK" "\$@"
 END
     chmod +x failing hanging changing growing replacing
@@ -205,10 +206,10 @@ young_files() {
 # Over a file system that takes upper and lower case for one, which is played here: names that differ in that alone are refused.
 names_of_one_case() {
     sed 's/^    folds=$/    folds=yes/' "$share/esdk-tree" >folding
-    run env ESDK="$ESDK" sh folding encrypt key some out
+    run env PATH="$share:$PATH" ESDK="$ESDK" sh folding encrypt key some out
     ended "other names over a file system without case" 0
     echo text >some/Odd
-    run env ESDK="$ESDK" sh folding encrypt key some out
+    run env PATH="$share:$PATH" ESDK="$ESDK" sh folding encrypt key some out
     ended "names that differ in case alone" 4
     want "they are named" grep -q 'these names differ in that alone: ./odd' report
     rm -r out some/Odd folding
@@ -243,6 +244,82 @@ stopped_runs() {
     ended "a run after these" 0
     run "$share/esdk-tree" verify key out
     want "what it left opens" holds output '4 done, 0 kept as they were, 0 not done'
+}
+
+# Small files in two folders, which batches do. Of the programs, one notes its calls, one fails at batches that have the word
+# `odd`, and one changes files once a batch has begun.
+make_small_files() {
+    mkdir -p small/below
+    for name in 1 2 3 4 5 6 7 8 9 'two words' odd; do echo "text of $name" | tee "small/$name" >"small/below/$name"; done
+    touch -d '2020-02-02 02:02:02.123456789' small/* small/below/*
+    cat >logging <<END
+#!/bin/sh
+echo "\$1 \$(date +%s.%N)" >>"$work/calls"
+exec "$ESDK" "\$@"
+END
+    cat >refusing <<END
+#!/bin/sh
+$odd [ "\$1" != batch ] || exit 5 ;; esac
+exec "$ESDK" "\$@"
+END
+    cat >moving <<END
+#!/bin/sh
+"$ESDK" "\$@"
+status=\$?
+$odd if [ "\$1" = batch ]; then echo more >>"$work/small/odd"; touch -d '2021-01-01' "$work/small/below/odd"; fi ;; esac
+exit "\$status"
+END
+    chmod +x logging refusing moving
+}
+
+# The program was called for batches, and once by this word, to judge the words: only_batches WORD
+only_batches() { grep -q '^batch ' calls && [ "$(grep -c "^$1 " calls)" -eq 1 ]; }
+
+batches_of_folders() {
+    make_small_files
+    run env ESDK="$work/logging" "$share/esdk-tree" encrypt key small many
+    ended "small files" 0
+    want "small files are done" holds output '22 done, 0 kept as they were, 0 not done'
+    want "by batches" only_batches encrypt
+    want "a message of a batch has its file's time" [ "$(stat -c %y small/below/7)" = "$(stat -c %y many/below/7.esdk)" ]
+    run "$ESDK" decrypt --keyring=key 'file=below/two words' <'many/below/two words.esdk'
+    want "and its place" cmp output 'small/below/two words'
+    want "and is its owner's alone" [ -z "$(find many ! -perm 600 -type f -o ! -perm 700 -type d)" ]
+    rm calls
+    run env ESDK="$work/logging" "$share/esdk-tree" decrypt key many few
+    want "they are decrypted by batches" only_batches decrypt
+    want "to the same" diff -r small few
+    want "of the same times" [ "$(stat -c %y small/below/7)" = "$(stat -c %y few/below/7)" ]
+    rm -rf many few
+    run env ESDK="$work/refusing" "$share/esdk-tree" encrypt key small many
+    want "what a batch doesn't do is done by runs" holds output '22 done, 0 kept as they were, 0 not done'
+    run "$share/esdk-tree" verify key many
+    want "so that all opens" holds output '22 done, 0 kept as they were, 0 not done'
+    head -c 100 many/1.esdk >halved
+    cp -p halved many/below/odd.esdk
+    cp -p many/2.esdk many/below/3.esdk
+    run "$share/esdk-tree" decrypt key many few
+    sort report >sorted
+    printf 'esdk-tree: not done: below/%s\n' '3.esdk: esdk: M12 ContextMismatch "file"' 'odd.esdk: esdk: M10 Truncated' >lines
+    want "faulty messages are named" cmp sorted lines
+    want "and the others of their batches are done" holds output '20 done, 0 kept as they were, 2 not done'
+    want "nothing is left of them" eval 'nothing_left many few && [ ! -e few/below/odd ]'
+    rm -rf many few
+    run env ESDK="$work/moving" "$share/esdk-tree" encrypt key small many
+    want "files that change during a batch are made anew" holds output '22 done, 0 kept as they were, 0 not done'
+    run "$ESDK" decrypt --keyring=key file=odd <many/odd.esdk
+    want "with what they have now" cmp output small/odd
+    want "and their times" [ "$(stat -c %y small/below/odd)" = "$(stat -c %y many/below/odd.esdk)" ]
+    rm -rf many
+    for signal in INT TERM; do
+        rm -f going
+        begin env ESDK="$work/hanging" "$share/esdk-tree" encrypt key small many
+        want "a batch that goes on" await [ -e going ]
+        stop "$signal"
+        ended "$signal in the middle of a batch" "$((128 + $(number_of "$signal")))"
+        want "$signal in the middle of a batch leaves nothing" nothing_left many
+    done
+    rm -rf small many
 }
 
 # On a terminal, which `script` makes, a line tells how far it is.
