@@ -1,13 +1,21 @@
 # What ./esdk answers itself, over a copy of the checkout whose program is there already; the completion; the help of each script. tests/scripts reads it.
 # shellcheck shell=sh disable=SC2016,SC2094,SC2154 # texts for other shells; one file read and written; names of tests/scripts
 
+# The program stands on one crate, `low`; `other` is none of its. All have edits, and what `rt` made of them.
 make_checkout() {
-    mkdir -p checkout/crates/esdk_tool/out checkout/vectors home/bin
-    cp "$top/esdk" "$top/README.md" "$top/CHANGELOG.md" "$top/VERSION" checkout
+    mkdir -p checkout/vectors home/bin
+    cp "$top/esdk" "$top/README.md" "$top/CHANGELOG.md" "$top/CONTRIBUTING.md" "$top/SECURITY.md" "$top/VERSION" "$top/HANDLES" checkout
     cp -r "$top/share" "$top/tools" "$top/docs" checkout
-    cp "$top/vectors/opening.py" checkout/vectors
+    cp "$top/vectors/opening.py" "$top/vectors/README.md" checkout/vectors
     if [ -f "$top/LICENSE" ]; then cp "$top/LICENSE" checkout; else echo "no licence yet" >checkout/LICENSE; fi
-    echo 'esdk_tool:' >checkout/crates.txt
+    printf '%s\n' '# what stands on what' 'low: json # below' 'other: low' 'esdk_tool: low' >checkout/crates.txt
+    for name in low other esdk_tool; do
+        mkdir -p "checkout/crates/$name/src" "checkout/crates/$name/must-fail" "checkout/crates/$name/out"
+        : >"checkout/crates/$name/src/lib.rt"
+        : >"checkout/crates/$name/must-fail/an.edit"
+        touch -d '2020-01-01' "checkout/crates/$name/src/lib.rt"
+    done
+    echo list >checkout/crates/esdk_tool/args
     cat >checkout/crates/esdk_tool/out/esdk_tool <<END
 #!/bin/sh
 exec "$ESDK" "\$@"
@@ -32,44 +40,154 @@ answers() {
     want "the version" grep -Eqx "esdk $(cat "$top/VERSION").*" output
     run checkout/esdk encrypt --keyring=key <plain
     ended "a command" 0
+    run checkout/esdk built
+    want "the program is named" holds output "$work/checkout/crates/esdk_tool/out/esdk_tool"
 }
 
-# A command `rt` that builds the program, notes that it did, and changes a source while it does so for the first time.
+# What is answered without a program, where a command `rt` notes that it was called.
+answers_unbuilt() {
+    cp -rp checkout unbuilt
+    rm unbuilt/crates/esdk_tool/out/esdk_tool
+    mkdir with-noting
+    rm -f calls
+    printf '#!/bin/sh\necho called >>"%s/calls"\nexit 1\n' "$work" >with-noting/rt
+    chmod +x with-noting/rt
+    for word in --version -V version; do
+        run env PATH="$work/with-noting:$PATH" unbuilt/esdk "$word"
+        ended "$word where nothing is built" 0
+        want "$word: the version" grep -Eqx "esdk $(cat "$top/VERSION").*" output
+    done
+    for word in encrpyt --keyring=key -x -- '' 'encrypt ' "$(printf 'a\nlist')"; do
+        run env PATH="$work/with-noting:$PATH" unbuilt/esdk "$word" --keyring=key
+        ended "no command: $word" 2
+        want "no command: $word: the commands" grep -q 'esdk COMMAND' report
+        want "no command: $word: nothing on the output" [ ! -s output ]
+    done
+    run env PATH="$work/with-noting:$PATH" unbuilt/esdk built
+    ended "no program is named where there is none" 70
+    run env -u ESDK PATH="$work/with-noting:$PATH" python3 unbuilt/docs/try_pages
+    ended "the pages' examples without a program" 2
+    want "the pages' examples without a program: it is said" grep -q "isn't built" report
+    want "nothing of all this begins a build" [ ! -e calls ]
+    for word in encrypt decrypt extract list batch audit gen migrate reseal; do
+        rm -f calls
+        run env PATH="$work/with-noting:$PATH" unbuilt/esdk "$word"
+        want "the command $word begins one" [ -s calls ]
+    done
+}
+
+# A command `rt` that notes what it is called over, does what the file `during` says, and builds the program.
 make_builder() {
     mkdir with-builder
     cat >with-builder/rt <<END
 #!/bin/sh
-case \$1 in
-    all)
-        echo built >>"$work/builds"
-        if [ "\$(wc -l <"$work/builds")" -eq 1 ]; then sleep 0.1; touch "$work/checkout/crates/esdk_tool/main.rt"; fi
-        ;;
-    run)
-        printf '#!/bin/sh\nexec "%s" "\$@"\n' "$ESDK" >"$work/checkout/crates/esdk_tool/out/esdk_tool"
-        echo 'esdk: words NotRead'
-        exit 2
-        ;;
-esac
+echo "\$*" >>"$work/builds"
+find . -type f -o -name .git | LC_ALL=C sort >"$work/laid-out"
+cp crates.txt "$work/laid-out.crates"
+echo '== low'
+echo 'fn low::anything: proved'
+echo 'rt: low: its tests are proved'
+. "$work/during"
+mkdir -p crates/esdk_tool/out
+printf '#!/bin/sh\nexec "%s" "\$@"\n' "$ESDK" >crates/esdk_tool/out/esdk_tool
+chmod +x crates/esdk_tool/out/esdk_tool
+echo 'rt: esdk_tool proved'
+echo '2 passed, 0 failed'
 END
     chmod +x with-builder/rt
+    echo "echo 'rt: low proved'" >during
 }
+
+# Builds by that command.
+build() { run env PATH="$work/with-builder:$PATH" checkout/esdk build; }
+
+# What a build left among the temporary files.
+scratch_left() { find tmp -name 'esdk_build.*'; }
 
 builds() {
     make_builder
-    touch checkout/crates/esdk_tool/main.rt
-    for time in first second third; do
-        run env PATH="$work/with-builder:$PATH" checkout/esdk build
+    echo "sleep 0.1; touch '$work/checkout/crates/esdk_tool/src/main.rt'; echo 'rt: low proved'" >during
+    touch checkout/crates/esdk_tool/src/main.rt
+    build
+    ended "the first build" 0
+    want "a build is the gate's command alone" holds builds ci
+    want "it says of each crate that it is proved, how many are left, and the time so far" [ "$(tail -n 2 report | tr '\n' '+')" = \
+        'esdk: proved low (1 crate left, 0 min so far)+esdk: proved esdk_tool (0 crates left, 0 min so far)+' ]
+    want "it says nothing else but that it begins" [ "$(wc -l <report)" -eq 3 ]
+    want "these are plain lines" [ "$(tr -d '\n[:print:]' <report | wc -c)" -eq 0 ]
+    want "it is of the crates that the program stands on, without their edits and what rt made" [ "$(tr '\n' ' ' <laid-out)" = \
+        "./.git ./HANDLES ./crates.txt ./crates/esdk_tool/args ./crates/esdk_tool/src/lib.rt ./crates/esdk_tool/src/main.rt ./crates/low/src/lib.rt " ]
+    want "and of their lines" [ "$(tr '\n' ' ' <laid-out.crates)" = "low: json # below esdk_tool: low " ]
+    want "a build leaves no scratch folder" [ -z "$(scratch_left)" ]
+    echo "echo 'rt: low is kept: an earlier run on this machine proved the same files over the same libraries'" >during
+    for time in second third; do
+        build
         ended "the $time build" 0
     done
     want "a source that changed during a build is built, and then nothing is" [ "$(wc -l <builds)" -eq 2 ]
-    touch -d '2019-01-01' checkout/crates/esdk_tool/main.rt
-    run env PATH="$work/with-builder:$PATH" checkout/esdk build
+    touch -d '2019-01-01' checkout/crates/esdk_tool/src/main.rt
+    build
     want "a source that an older one replaced is built" [ "$(wc -l <builds)" -eq 3 ]
-    rm checkout/crates/esdk_tool/main.rt
-    run env PATH="$work/with-builder:$PATH" checkout/esdk build
+    want "what was proved before is said to be" grep -qx 'esdk: low was proved before (1 crate left, 0 min so far)' report
+    rm checkout/crates/esdk_tool/src/main.rt
+    build
     want "a source that is gone is seen" [ "$(wc -l <builds)" -eq 4 ]
+    touch checkout/crates/other/src/lib.rt
+    build
+    want "a crate that the program doesn't stand on is none of its sources" [ "$(wc -l <builds)" -eq 4 ]
     run checkout/esdk encrypt --keyring=key <plain
     ended "a command of the program that was built" 0
+}
+
+# Programs that `rt` itself put there, beside a note of what an older one was built of.
+builds_of_rt() {
+    printf '#!/bin/sh\n# another\nexec "%s" "$@"\n' "$ESDK" >checkout/crates/esdk_tool/out/esdk_tool
+    run checkout/esdk built
+    ended "a program that the gate put there, newer than all sources" 0
+    touch -d '2019-01-01' checkout/crates/esdk_tool/out/esdk_tool
+    run checkout/esdk built
+    ended "one that is older than a source" 70
+    build
+    ended "a build over it" 0
+    run checkout/esdk built
+    ended "what was built then" 0
+}
+
+# A build that fails shows why, leaves nothing, and keeps nothing.
+failing_builds() {
+    touch checkout/crates/low/src/lib.rt
+    for how in 'echo "rt: low NOT PROVED"; echo "0 passed, 2 failed"; exit 1' 'echo "no program"; exit 0' 'echo "half"; kill -9 $$'; do
+        echo "$how" >during
+        build
+        ended "a build that fails: $how" 70
+        want "a build that fails shows rt's lines" grep -q '^fn low::anything: proved$' report
+        want "a build that fails leaves no scratch folder" [ -z "$(scratch_left)" ]
+        run checkout/esdk built
+        ended "a build that fails builds nothing" 70
+    done
+    echo 'echo "rt: low NOT PROVED"; exit 1' >during
+    build
+    want "a crate that isn't proved is named as it goes" grep -q '^esdk: low could NOT be proved (1 crate left' report
+    run env PATH="$work/with-builder:$PATH" TMPDIR=/nonexistent checkout/esdk build
+    ended "a build without a place for its scratch folder" 70
+}
+
+# A signal ends a build at once, with what it started, and nothing is left.
+stopped_builds() {
+    echo "echo \$\$ >'$work/running'; exec sleep 600" >during
+    for signal in HUP INT QUIT TERM; do
+        rm -f running
+        begin env PATH="$work/with-builder:$PATH" checkout/esdk build
+        want "a build begins" await [ -s running ]
+        stop "$signal"
+        ended "a build, at $signal" $((128 + $(number_of "$signal")))
+        want "a build, at $signal: rt is ended" await is_gone "$(cat running)"
+        want "a build, at $signal: no scratch folder is left" [ -z "$(scratch_left)" ]
+        want "a build, at $signal: no program" sh -c '! checkout/esdk built'
+    done
+    echo "echo 'rt: low proved'" >during
+    build
+    ended "a build behind those that were stopped" 0
 }
 
 # A command `rt` that copies its input, notes its words, and prints what `rt try` prints behind a program's own line: trial REPORT WORD..
@@ -113,7 +231,7 @@ installs() {
     run checkout/esdk install home/bin
     ended "install" 0
     want "install says of which version" grep -q "installed home/bin/esdk, of version $(cat "$top/VERSION")" report
-    for name in esdk esdk-audit esdk-into esdk-jobs esdk-keygen esdk-tree; do
+    for name in esdk $scripts; do
         want "install: $name" [ -x "home/bin/$name" ]
         want "install: its man page" cmp "home/share/man/man1/$name.1" "$top/docs/$name.1"
         want "install: its completion" cmp "home/share/bash-completion/completions/$name" "$top/share/esdk.bash"
@@ -134,37 +252,6 @@ installs() {
     want "install where man pages can't be put says so" grep -q 'left out the man pages' report
     want "install leaves nothing" nothing_left home blocked
 }
-
-packages() {
-    command -v dpkg-deb >/dev/null || { echo "packages: not tried, since there is no dpkg-deb"; return 0; }
-    version=$(cat "$top/VERSION")
-    archive=esdk-$version-x86_64-linux
-    mkdir one two
-    SOURCE_DATE_EPOCH=1700000000 run checkout/esdk package one
-    ended "package" 0
-    touch checkout/docs/* checkout/share/*
-    SOURCE_DATE_EPOCH=1700000000 run sh -c 'umask 077; sleep 1; exec checkout/esdk package two'
-    want "two packages are the same bytes" diff -r one two
-    want "three files are made" [ "$(find one -type f | wc -l)" -eq 3 ]
-    run sh -c 'cd one && sha256sum -c SHA256SUMS'
-    ended "the packages' checksums" 0
-    tar -C two -xzf "one/$archive.tar.gz"
-    run sh -c 'cd "$1" && sha256sum -c SHA256SUMS' sh "two/$archive"
-    ended "the checksums in the archive" 0
-    want "the archive's program runs" "two/$archive/bin/esdk" encrypt --keyring=key </dev/null
-    for file in bin/esdk-tree share/man/man1/esdk-into.1 share/bash-completion/completions/esdk share/doc/esdk/LICENSE share/doc/esdk/docs/FORMAT.md; do
-        want "the archive has $file" [ -f "two/$archive/$file" ]
-    done
-    dpkg-deb -x "one/esdk_${version}_amd64.deb" two/debian
-    for file in bin/esdk bin/esdk-keygen share/man/man1/esdk.1.gz share/doc/esdk/copyright; do
-        want "the Debian package has $file" [ -f "two/debian/usr/$file" ]
-    done
-    want "all of it is root's" sh -c 'dpkg-deb -c "$1" | awk "\$2 != \"root/root\" { exit 1 }"' sh "one/esdk_${version}_amd64.deb"
-    rm checkout/LICENSE
-    run checkout/esdk package one
-    ended "package without a licence" 70
-}
-
 
 # What bash offers for the last of these words: offers FUNCTION WORD..
 offers() {
@@ -190,8 +277,12 @@ completion() {
     want "completion of esdk-jobs" [ "$(offers _esdk_jobs esdk-jobs rep)" = report ]
 }
 
+# The scripts of share/, by their names.
+scripts=$(cd "$share" && echo esdk-*)
+
 helps() {
-    for name in esdk-audit esdk-into esdk-jobs esdk-keygen esdk-tree; do
+    for name in $scripts; do
+        want "$name is of the checkout's version" grep -qx "version=$(cat "$top/VERSION")" "$share/$name"
         run "$share/$name" --help
         ended "$name --help" 0
         want "$name --help says how it is used" grep -q "^usage: .*$name" output
