@@ -1,0 +1,126 @@
+# What .ci/run and tools/checks run and count, over a folder in which `rt` and each check are stand-ins. tests/scripts reads it.
+# shellcheck shell=sh disable=SC2016,SC2154 # texts for other shells; names of tests/scripts
+
+# A check that notes that it ran, and over which program, and ends as the file of its name in `ends` says: make_check FILE
+make_check() {
+    mkdir -p "gate/$(dirname "$1")"
+    cat >"gate/$1" <<END
+#!/bin/sh
+echo "$1 \$* \$ESDK" >>"$work/checked"
+exit \$(cat "$work/ends/$(basename "$1")" 2>/dev/null || echo 0)
+END
+    chmod +x "gate/$1"
+}
+
+make_gate() {
+    mkdir -p gate/.ci gate/crates/esdk_tool/out with-gate ends
+    cp "$top/.ci/run" gate/.ci
+    make_check tools/checks
+    cp "$top/tools/checks" gate/tools
+    for check in tests/scripts tests/outside docs/try_pages vectors/make.py docs/pictures/make with-tools/shellcheck with-tools/mandoc; do
+        make_check "$check"
+    done
+    cat >with-gate/rt <<END
+#!/bin/sh
+echo "rt \$*" >>"$work/checked"
+. "$work/gate-does"
+END
+    for tool in strace cc jq python3; do
+        printf '#!/bin/sh\nexit 0\n' >"gate/with-tools/$tool"
+    done
+    chmod +x with-gate/rt gate/with-tools/*
+}
+
+# Has `rt` print this line at the end, and end with this status: gate_says STATUS LINE
+gate_says() {
+    cat >gate-does <<END
+echo "rt: something proved"
+touch -d 2020-01-01 crates/esdk_tool/out/esdk_tool
+chmod +x crates/esdk_tool/out/esdk_tool
+echo "$2"
+exit $1
+END
+}
+
+# Runs the gate with an `rt` that does so: gate STATUS LINE
+gate() {
+    : >checked
+    gate_says "$@"
+    run env -u ESDK PATH="$work/with-gate:$work/gate/with-tools:$PATH" gate/.ci/run
+}
+
+# The last line is this one: last LINE
+last() { [ "$(tail -n 1 output)" = "$1" ]; }
+
+gate_runs() {
+    make_gate
+    gate 0 '5 passed, 0 failed'
+    ended "the gate" 0
+    want "the gate counts the checks" last '12 passed, 0 failed'
+    want "the gate shows what rt said" grep -qx 'rt: something proved' output
+    want "rt ci, with no more words, comes first" [ "$(head -n 1 checked)" = 'rt ci' ]
+    want "each check is run over the program that was built" [ "$(cut -d ' ' -f 1,2 checked | tr -s ' \n' ' ')" = \
+        "rt ci tests/scripts tests/outside docs/try_pages vectors/make.py --check docs/pictures/make --check with-tools/shellcheck esdk with-tools/mandoc -T " ]
+    want "over that program alone" [ "$(grep -c " $work/gate/crates/esdk_tool/out/esdk_tool\$" checked)" -eq 7 ]
+    want "the program is newer than its sources then" [ gate/crates/esdk_tool/out/esdk_tool -nt gate/.ci/run ]
+    want "each check stands under its name" [ "$(grep -c '^== ' output)" -eq 7 ]
+    for status in 1 2 130; do
+        gate "$status" '4 passed, 1 failed'
+        ended "the gate where rt ci fails" "$status"
+        want "its last line then" last '4 passed, 1 failed'
+        want "nothing else is run then" [ "$(cat checked)" = 'rt ci' ]
+    done
+}
+
+# Each check, failing alone: the others are run, and it is named.
+failing_checks() {
+    for check in tests/scripts tests/outside docs/try_pages vectors/make.py docs/pictures/make shellcheck; do
+        echo 3 >"ends/$(basename "$check")"
+        gate 0 '5 passed, 0 failed'
+        rm "ends/$(basename "$check")"
+        ended "the gate where $check fails" 1
+        want "the gate where $check fails: the others are run" [ "$(wc -l <checked)" -eq 8 ]
+        want "the gate where $check fails: it is named" grep -qx "FAILED: $check" output
+        want "the gate where $check fails: it is counted" last '11 passed, 1 failed'
+    done
+    printf '#!/bin/sh\necho "mandoc: %s/docs/esdk.1:1:2: STYLE: referenced manual not found: Xr esdk-into 1"\nexit 1\n' "$work" >gate/with-tools/mandoc
+    gate 0 '5 passed, 0 failed'
+    ended "the gate where a page names one that isn't installed" 0
+    printf '#!/bin/sh\necho "mandoc: %s/docs/esdk.1:1:2: WARNING: missing section"\nexit 2\n' "$work" >gate/with-tools/mandoc
+    gate 0 '5 passed, 0 failed'
+    ended "the gate where a page has a fault" 1
+    want "the gate where a page has a fault: it is counted" last '11 passed, 1 failed'
+    make_check with-tools/mandoc
+    for said in 'no count' '5 passed, 0 failed (low and the crates below alone: not the gate)'; do
+        gate 0 "$said"
+        ended "the gate where rt gives no count: $said" 1
+        want "the gate where rt gives no count: $said: that is a failure" last '7 passed, 1 failed'
+    done
+}
+
+# What is missing is said, and nothing fails by it; a program that is missing does.
+lacking_tools() {
+    gate_says 0 '5 passed, 0 failed'
+    mkdir few
+    for name in bash sh env cat tee tail grep sed awk mktemp rm touch chmod dirname basename readlink; do
+        ln -s "$(command -v "$name")" few/
+    done
+    for tool in strace cc jq python3 shellcheck mandoc; do
+        mv "gate/with-tools/$tool" gate/lacking
+        : >checked
+        run env -u ESDK PATH="$work/with-gate:$work/gate/with-tools:$work/few" gate/.ci/run
+        ended "the gate without $tool" 0
+        want "the gate without $tool says so" grep -q "^skipped: .*: no $tool\$" output
+        want "the gate without $tool counts what was skipped" grep -q '^[1-9] skipped: ' output
+        want "the gate without $tool counts all others" last "$((5 + 7 - $(grep -c '^skipped: ' output))) passed, 0 failed"
+        mv gate/lacking "gate/with-tools/$tool"
+    done
+    printf '#!/bin/sh\n[ "$1" != -c ]\n' >gate/with-tools/python3
+    run env -u ESDK PATH="$work/with-gate:$work/gate/with-tools:$PATH" gate/.ci/run
+    want "the gate without Python's package says so" [ "$(grep -c '^skipped: .*: no cryptography$' output)" -eq 2 ]
+    printf 'echo "5 passed, 0 failed"\n' >gate-does
+    rm gate/crates/esdk_tool/out/esdk_tool
+    run env -u ESDK PATH="$work/with-gate:$work/gate/with-tools:$PATH" gate/.ci/run
+    ended "the gate without a program" 1
+    want "the gate without a program fails" last '5 passed, 1 failed'
+}
