@@ -1,10 +1,9 @@
-pub mod Columns
 pub mod Constants
 pub mod CounterBlocks
+pub mod Groups
 pub mod ImagePlanes
 pub mod KeyPlanes
 pub mod Pages
 pub mod Positions
 pub mod Schedule
 pub mod SecondRound
-pub mod Tables

@@ -1,3 +1,4 @@
 pub mod Column
 pub mod Counters
+pub mod Groups
 pub mod PlaneKeys

@@ -8,7 +8,7 @@ ghost use Rattle.std.specs.Prelude.{◌≡◌};
 ghost use Rattle.aes_core.specs.PlaneKeys.{with_constant};
 
 /// The constant of the affine transformation (FIPS 197, 5.1.1).
-const CONSTANT: u8 = 0x63;
+pub const CONSTANT: u8 = 0x63;
 
 /// A round key with the constant added to each byte.
 #[inline(always)]

@@ -4,7 +4,8 @@ ghost use Rattle.std.specs.Prelude.{◌≡◌, ◌<◌, ◌≤◌, ◌∷◌, []
 ghost use Rattle.std.specs.List.{range_with_len};
 ghost use Rattle.cipher_spec.specs.Aes.{add_word, changed, key_expansion, key_word, rcon, rot_word, round_key, round_keys, sub_word, words};
 
-use crate::sbox::sub_byte;
+use crate::sbox::sub_bytes;
+use std::simd::prelude::*;
 
 /// The first bytes of Rcon[0] to Rcon[7]. Rcon[0] isn't used.
 const RCON: [u8; 8] = [0x00, 0x01, 0x02, 0x04, 0x08, 0x10, 0x20, 0x40];
@@ -17,15 +18,14 @@ fn add_word(a: [u8; 4], b: [u8; 4]) -> [u8; 4]
 }
 
 /// SubWord: the S-box on each byte.
+// In a function of its own, so that the words which go without it aren't put together byte by byte.
+#[inline(never)]
 fn sub_word(a: [u8; 4]) -> [u8; 4]
     ensures { result ≡ sub_word a }
 {
-    [
-        sub_byte(a[0]),
-        sub_byte(a[1]),
-        sub_byte(a[2]),
-        sub_byte(a[3]),
-    ]
+    let bytes = [a[0], a[1], a[2], a[3], 0, 0, 0, 0, 0, 0, 0, 0, 0, 0, 0, 0];
+    let images = sub_bytes(u8x16::from_array(bytes)).once.to_array();
+    [images[0], images[1], images[2], images[3]]
 }
 
 /// RotWord: each byte moves one place to the left, around the end.

@@ -3,11 +3,13 @@
 //! `Key256` holds a key with its round keys, and enciphers blocks under it. Counter blocks are
 //! enciphered faster than others: those of a `CounterPage` differ in one byte, so that most of
 //! their first two rounds is the same.
+//!
+//! The S-box is a circuit of gates where several blocks lie in planes, and a few shuffles where one
+//! block lies in a vector: no address and no branch depends on a key or a block.
 #![tactic(auto)]
 
 mod after_second;
 mod cipher;
-mod column;
 mod constant;
 mod counter;
 mod eight;

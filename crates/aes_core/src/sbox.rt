@@ -1,33 +1,180 @@
-//! The S-box of SubBytes and SubWord (FIPS 197, 5.1.1) as a table.
+//! The S-box of SubBytes and SubWord (FIPS 197, 5.1.1) by shuffles, on 16 bytes at once.
+//!
+//! A byte is two groups of four bits. Each step looks up such a group of all 16 bytes in a table of
+//! 16 bytes, by one shuffle: so no address depends on what is looked up. The steps and the tables
+//! are those of Hamburg's "Accelerating AES with Vector Permute Instructions" (2009). They take a
+//! byte to another basis, in which its groups are elements of the field of 16 elements, and divide
+//! there; a quotient by 0 is 128 or more, and what is looked up at it is 0. The last tables have
+//! the affine transformation in them, but for its constant, and lead back to the basis of the
+//! standard.
 
-ghost use Rattle.std.specs.Prelude.{◌≡◌};
+ghost use Rattle.std.specs.Prelude.{◌≡◌, ◌/◌, ◌%◌, ◌<◌, ℕ, bit_xor, length, slice_index};
 ghost use Rattle.cipher_spec.specs.Aes.{sub_byte};
+ghost use Rattle.cipher_spec.specs.Field.{field_product};
+ghost use Rattle.aes_core.specs.Groups.{AreEntries, entry, first_quotient, in_basis, second_quotient};
 
-/// The S-box at each byte, as the standard prints it (FIPS 197, Figure 7).
-#[rattlefmt::skip]
-const SBOX: [u8; 256] = [
-    0x63, 0x7c, 0x77, 0x7b, 0xf2, 0x6b, 0x6f, 0xc5, 0x30, 0x01, 0x67, 0x2b, 0xfe, 0xd7, 0xab, 0x76,
-    0xca, 0x82, 0xc9, 0x7d, 0xfa, 0x59, 0x47, 0xf0, 0xad, 0xd4, 0xa2, 0xaf, 0x9c, 0xa4, 0x72, 0xc0,
-    0xb7, 0xfd, 0x93, 0x26, 0x36, 0x3f, 0xf7, 0xcc, 0x34, 0xa5, 0xe5, 0xf1, 0x71, 0xd8, 0x31, 0x15,
-    0x04, 0xc7, 0x23, 0xc3, 0x18, 0x96, 0x05, 0x9a, 0x07, 0x12, 0x80, 0xe2, 0xeb, 0x27, 0xb2, 0x75,
-    0x09, 0x83, 0x2c, 0x1a, 0x1b, 0x6e, 0x5a, 0xa0, 0x52, 0x3b, 0xd6, 0xb3, 0x29, 0xe3, 0x2f, 0x84,
-    0x53, 0xd1, 0x00, 0xed, 0x20, 0xfc, 0xb1, 0x5b, 0x6a, 0xcb, 0xbe, 0x39, 0x4a, 0x4c, 0x58, 0xcf,
-    0xd0, 0xef, 0xaa, 0xfb, 0x43, 0x4d, 0x33, 0x85, 0x45, 0xf9, 0x02, 0x7f, 0x50, 0x3c, 0x9f, 0xa8,
-    0x51, 0xa3, 0x40, 0x8f, 0x92, 0x9d, 0x38, 0xf5, 0xbc, 0xb6, 0xda, 0x21, 0x10, 0xff, 0xf3, 0xd2,
-    0xcd, 0x0c, 0x13, 0xec, 0x5f, 0x97, 0x44, 0x17, 0xc4, 0xa7, 0x7e, 0x3d, 0x64, 0x5d, 0x19, 0x73,
-    0x60, 0x81, 0x4f, 0xdc, 0x22, 0x2a, 0x90, 0x88, 0x46, 0xee, 0xb8, 0x14, 0xde, 0x5e, 0x0b, 0xdb,
-    0xe0, 0x32, 0x3a, 0x0a, 0x49, 0x06, 0x24, 0x5c, 0xc2, 0xd3, 0xac, 0x62, 0x91, 0x95, 0xe4, 0x79,
-    0xe7, 0xc8, 0x37, 0x6d, 0x8d, 0xd5, 0x4e, 0xa9, 0x6c, 0x56, 0xf4, 0xea, 0x65, 0x7a, 0xae, 0x08,
-    0xba, 0x78, 0x25, 0x2e, 0x1c, 0xa6, 0xb4, 0xc6, 0xe8, 0xdd, 0x74, 0x1f, 0x4b, 0xbd, 0x8b, 0x8a,
-    0x70, 0x3e, 0xb5, 0x66, 0x48, 0x03, 0xf6, 0x0e, 0x61, 0x35, 0x57, 0xb9, 0x86, 0xc1, 0x1d, 0x9e,
-    0xe1, 0xf8, 0x98, 0x11, 0x69, 0xd9, 0x8e, 0x94, 0x9b, 0x1e, 0x87, 0xe9, 0xce, 0x55, 0x28, 0xdf,
-    0x8c, 0xa1, 0x89, 0x0d, 0xbf, 0xe6, 0x42, 0x68, 0x41, 0x99, 0x2d, 0x0f, 0xb0, 0x54, 0xbb, 0x16,
+use crate::constant::CONSTANT;
+use std::simd::prelude::*;
+
+/// The other basis: what the lower four bits of a byte come to.
+const FROM_LOWER: [u8; 16] = [
+    0x00, 0x70, 0x2a, 0x5a, 0x98, 0xe8, 0xb2, 0xc2, 0x08, 0x78, 0x22, 0x52, 0x90, 0xe0, 0xba, 0xca,
 ];
 
-/// The S-box at `b`.
+/// What its upper four bits come to.
+const FROM_UPPER: [u8; 16] = [
+    0x00, 0x4d, 0x7c, 0x31, 0x7d, 0x30, 0x01, 0x4c, 0x81, 0xcc, 0xfd, 0xb0, 0xfc, 0xb1, 0x80, 0xcd,
+];
+
+/// The inverses in the field of 16 elements.
+const INVERSES: [u8; 16] = [
+    0x80, 0x01, 0x08, 0x0d, 0x0f, 0x06, 0x05, 0x0e, 0x02, 0x0c, 0x0b, 0x0a, 0x09, 0x03, 0x07, 0x04,
+];
+
+/// The quotients of one number of that field and each of the others.
+const QUOTIENTS: [u8; 16] = [
+    0x80, 0x07, 0x0b, 0x0f, 0x06, 0x0a, 0x04, 0x01, 0x09, 0x08, 0x05, 0x02, 0x0c, 0x0e, 0x0d, 0x03,
+];
+
+/// What the first of a byte's two quotients adds to its image.
+const FROM_FIRST: [u8; 16] = [
+    0x00, 0xc7, 0xbd, 0x6f, 0x17, 0x6d, 0xd2, 0xd0, 0x78, 0xa8, 0x02, 0xc5, 0x7a, 0xbf, 0xaa, 0x15,
+];
+
+/// What the second adds.
+const FROM_SECOND: [u8; 16] = [
+    0x00, 0x6a, 0xbb, 0x5f, 0xa5, 0x74, 0xe4, 0xcf, 0xfa, 0x35, 0x2b, 0x41, 0xd1, 0x90, 0x1e, 0x8e,
+];
+
+/// Twice what the first quotient adds.
+const TWICE_FROM_FIRST: [u8; 16] = [
+    0x00, 0x95, 0x61, 0xde, 0x2e, 0xda, 0xbf, 0xbb, 0xf0, 0x4b, 0x04, 0x91, 0xf4, 0x65, 0x4f, 0x2a,
+];
+
+/// Twice what the second adds.
+const TWICE_FROM_SECOND: [u8; 16] = [
+    0x00, 0xd4, 0x6d, 0xbe, 0x51, 0xe8, 0xd3, 0x85, 0xef, 0x6a, 0x56, 0x82, 0xb9, 0x3b, 0x3c, 0x07,
+];
+
+/// Twice the constant of the affine transformation.
+const TWICE_CONSTANT: u8 = 0xc6;
+
+/// The upper four bits of each byte.
 #[inline(always)]
-pub fn sub_byte(b: u8) -> u8
-    ensures { result ≡ sub_byte b }
+fn upper(x: u8x16) -> u8x16
+    ensures { (p : ℕ) → p < 16 → slice_index result p ≡ slice_index x p / 16 }
 {
-    SBOX[b as usize]
+    x >> u8x16::splat(4)
+}
+
+/// The lower four bits of each byte.
+#[inline(always)]
+fn lower(x: u8x16) -> u8x16
+    ensures { (p : ℕ) → p < 16 → slice_index result p ≡ slice_index x p % 16 }
+{
+    x & u8x16::splat(15)
+}
+
+/// The sum of each two bytes.
+#[inline(always)]
+pub fn sum(x: u8x16, y: u8x16) -> u8x16
+    ensures lanes { (p : ℕ) → p < 16 → slice_index result p
+        ≡ bit_xor (slice_index x p) (slice_index y p) }
+    ensures long { length result ≡ 16 }
+{
+    x ^ y
+}
+
+/// The entry of a table at the number in each lane.
+#[inline(always)]
+fn looked(table: u8x16, at: u8x16) -> u8x16
+    requires { AreEntries at }
+    ensures { (p : ℕ) → p < 16 → slice_index result p ≡ entry table (slice_index at p) }
+{
+    table.swizzle_dyn(at)
+}
+
+/// Each byte in the other basis.
+#[inline(always)]
+fn in_basis(x: u8x16) -> u8x16
+    ensures { (p : ℕ) → p < 16 → slice_index result p ≡ in_basis (slice_index x p) }
+{
+    let low = looked(u8x16::from_array(FROM_LOWER), lower(x));
+    let high = looked(u8x16::from_array(FROM_UPPER), upper(x));
+    sum(low, high)
+}
+
+/// The two quotients of which a byte's image is made.
+#[derive(Clone, Copy)]
+struct Quotients {
+    first: u8x16,
+    second: u8x16,
+}
+
+/// The quotients of bytes that are in the other basis.
+#[inline(always)]
+fn divided(x: u8x16) -> Quotients
+    ensures first { (p : ℕ) → p < 16 → slice_index result.first p
+        ≡ first_quotient (slice_index x p) }
+    ensures second { (p : ℕ) → p < 16 → slice_index result.second p
+        ≡ second_quotient (slice_index x p) }
+{
+    let inverses = u8x16::from_array(INVERSES);
+    let high = upper(x);
+    let low = lower(x);
+    let both = sum(high, low);
+    let quotient = looked(u8x16::from_array(QUOTIENTS), low);
+    let a = sum(looked(inverses, high), quotient);
+    let b = sum(looked(inverses, both), quotient);
+    Quotients {
+        first: sum(looked(inverses, a), both),
+        second: sum(looked(inverses, b), high),
+    }
+}
+
+/// The sum of what tables have for the two quotients, and of a constant.
+#[inline(always)]
+fn joined(first: u8x16, second: u8x16, constant: u8, q: &Quotients) -> u8x16
+    requires first { AreEntries q.now.first }
+    requires second { AreEntries q.now.second }
+    ensures lanes { (p : ℕ) → p < 16 → slice_index result p
+        ≡ bit_xor (bit_xor (entry first (slice_index q.now.first p)) constant)
+        (entry second (slice_index q.now.second p)) }
+    ensures long { length result ≡ 16 }
+{
+    sum(
+        sum(looked(first, q.first), u8x16::splat(constant)),
+        looked(second, q.second),
+    )
+}
+
+/// The S-box's images of 16 bytes, and twice these.
+#[derive(Clone, Copy)]
+pub struct Images {
+    pub once: u8x16,
+    pub twice: u8x16,
+}
+
+/// The S-box at each byte, and twice that in the field, as MixColumns takes it.
+#[inline(always)]
+pub fn sub_bytes(x: u8x16) -> Images
+    ensures once { (p : ℕ) → p < 16 → slice_index result.once p ≡ sub_byte (slice_index x p) }
+    ensures twice { (p : ℕ) → p < 16 → slice_index result.twice p
+        ≡ field_product 2 (sub_byte (slice_index x p)) }
+{
+    let q = divided(in_basis(x));
+    Images {
+        once: joined(
+            u8x16::from_array(FROM_FIRST),
+            u8x16::from_array(FROM_SECOND),
+            CONSTANT,
+            &q,
+        ),
+        twice: joined(
+            u8x16::from_array(TWICE_FROM_FIRST),
+            u8x16::from_array(TWICE_FROM_SECOND),
+            TWICE_CONSTANT,
+            &q,
+        ),
+    }
 }

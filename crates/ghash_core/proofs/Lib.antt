@@ -1,4 +1,10 @@
 pub mod Blocks
+pub mod Gathered
+pub mod Lanes
 pub mod Linear
 pub mod Nibbles
+pub mod Picks
+pub mod Products
 pub mod Ring
+pub mod Shifts
+pub mod Sums

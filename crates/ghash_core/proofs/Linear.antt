@@ -37,12 +37,12 @@ times_bits-sum (suc n) x y z =
     rw (bit_at_xor x y k, times_bits-sum n x y z) (add_if-bits (bit_at x k) (bit_at y k) (times_bits n x z) (times_bits n y z) (halves n z) (bit_at-lt x k) (bit_at-lt y k))
 
 -- the step from one V to the next
-half-sum : (a b : ℕ) → half (bit_xor a b) ≡ bit_xor (half a) (half b)
+pub half-sum : (a b : ℕ) → half (bit_xor a b) ≡ bit_xor (half a) (half b)
 half-sum a b =
     let low : bit_xor a b % 2 ≡ (a % 2 + b % 2) % 2 = omega (arith, bit_at_xor a b 0) in
     rw (low, xor_shr a b 1) (add_if-bits (a % 2) (b % 2) (a / 2) (b / 2) reduction (omega arith) (omega arith))
 
-halves-sum : (n a b : ℕ) → halves n (bit_xor a b) ≡ bit_xor (halves n a) (halves n b)
+pub halves-sum : (n a b : ℕ) → halves n (bit_xor a b) ≡ bit_xor (halves n a) (halves n b)
 halves-sum zero a b = refl
 halves-sum (suc n) a b = ap half (halves-sum n a b) ∙ half-sum (halves n a) (halves n b)
 
@@ -52,7 +52,7 @@ times_bits-sum_right zero x y z = refl
 times_bits-sum_right (suc n) x y z =
     rw (halves-sum n y z, times_bits-sum_right n x y z) (add_if-sums (bit_at x (127 - n)) (times_bits n x y) (times_bits n x z) (halves n y) (halves n z))
 
-halves-half : (n y : ℕ) → halves n (half y) ≡ half (halves n y)
+pub halves-half : (n y : ℕ) → halves n (half y) ≡ half (halves n y)
 halves-half zero y = refl
 halves-half (suc n) y = ap half (halves-half n y)
 

@@ -65,11 +65,11 @@ pub times-sum_right : (x y z : ℕ) → times x (bit_xor y z) ≡ bit_xor (times
 unfolding times
 times-sum_right x y z = times_bits-sum_right 128 x y z
 
-times-halves : (x n y : ℕ) → times x (halves n y) ≡ halves n (times x y)
+pub times-halves : (x n y : ℕ) → times x (halves n y) ≡ halves n (times x y)
 unfolding times
 times-halves x n y = times_bits-halves 128 x n y
 
-halves-nothing : (n : ℕ) → halves n 0 ≡ 0
+pub halves-nothing : (n : ℕ) → halves n 0 ≡ 0
 halves-nothing zero = refl
 halves-nothing (suc n) = ap half (halves-nothing n)
 
@@ -107,7 +107,7 @@ commutes_bits zero x y h = sym (times-nothing y)
 commutes_bits (suc n) x y h =
     add_if-commutes (bit_at x (127 - n)) n (times_bits n x y) (times_bits n x (2 ^ 127)) y h (commutes_bits n x y h)
 
-times_is_bits : (x y : ℕ) → times x y ≡ times_bits 128 x y
+pub times_is_bits : (x y : ℕ) → times x y ≡ times_bits 128 x y
 unfolding times
 times_is_bits x y = refl
 
@@ -117,11 +117,11 @@ times-commutes x y hx hy =
 
 -- ---- the grouping of factors
 
-add_if-lt : (b z v : ℕ) → z < 2 ^ 128 → v < 2 ^ 128 → add_if b z v < 2 ^ 128
+pub add_if-lt : (b z v : ℕ) → z < 2 ^ 128 → v < 2 ^ 128 → add_if b z v < 2 ^ 128
 add_if-lt zero z v hz hv = hz
 add_if-lt (suc b) z v hz hv = xor_lt 128 z v hz hv
 
-half-lt : (v : ℕ) → v < 2 ^ 128 → half v < 2 ^ 128
+pub half-lt : (v : ℕ) → v < 2 ^ 128 → half v < 2 ^ 128
 half-lt v h = add_if-lt (v % 2) (v / 2) reduction (omega arith) (omega arith)
 
 halves-lt : (n v : ℕ) → v < 2 ^ 128 → halves n v < 2 ^ 128
@@ -176,3 +176,8 @@ hash_by_powers h y a b c d small =
     let four : times (bit_xor (bit_xor (bit_xor (times (times p h) h) (times (times b h) h)) (times c h)) d) h ≡ bit_xor (bit_xor (bit_xor (times (times (times p h) h) h) (times (times (times b h) h) h)) (times (times c h) h)) (times d h) =
     times-sum (bit_xor (bit_xor (times (times p h) h) (times (times b h) h)) (times c h)) d h ∙ ap (λ s. bit_xor s (times d h)) (times-sum (bit_xor (times (times p h) h) (times (times b h) h)) (times c h) h ∙ ap (λ s. bit_xor s (times (times c h) h)) (times-sum (times (times p h) h) (times (times b h) h) h)) in
     ap (λ s. times (bit_xor s d) h) three ∙ four ∙ rw (by_four (bit_xor y a) h small, by_three b h small, times-associates c h h small small) refl
+
+-- two blocks, of which the first waited for the second
+pub hash_by_square : (h p b : ℕ) → h < 2 ^ 128 → bit_xor (times p (times h h)) (times b h) ≡ times (bit_xor (times p h) b) h
+hash_by_square h p b small =
+    sym (times-sum (times p h) b h ∙ ap (λ s. bit_xor s (times b h)) (times-associates p h h small small))

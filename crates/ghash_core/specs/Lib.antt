@@ -1,3 +1,3 @@
 pub mod Laws
-pub mod Rows
 pub mod State
+pub mod Tables

@@ -4,27 +4,47 @@ ghost use Rattle.std.specs.Prelude.{◌≡◌, [], ◌∷◌, map};
 ghost use Rattle.std.specs.Int.{w128, from_be_bytes, to_be_bytes};
 ghost use Rattle.cipher_spec.specs.Ghash.{ghash_from};
 
-use crate::product::{Rows, Sum, put_rows, times};
+use crate::planes::Plane;
+use crate::product::{Powers, put_powers, settled, taken, times_four};
 use std::marker::Model;
+use std::simd::prelude::*;
 
 /// A GHASH in progress: the hash subkey, and the hash of the blocks so far.
+///
+/// A product waits for the one before it, but two products by two powers of the hash subkey are one
+/// sum. So the last of an odd number of blocks waits until there is another, or the hash is asked
+/// for.
 #[derive(Drop)]
 pub struct Ghash {
     key: u128,
-    rows: Rows,
-    hash: Sum,
+    powers: Powers,
+    hash: u128,
+    waiting: bool,
 }
 
 impl Model for Ghash {
-    ghost use Rattle.std.specs.Prelude.{bit_xor};
-    ghost use Rattle.ghash_core.specs.Rows.{IsRows};
     ghost use Rattle.ghash_core.specs.State.{State};
+    ghost use Rattle.ghash_core.specs.Tables.{settled, IsPowers};
 
     ghost Value = { State };
 
-    ghost view = { λ g. record { key = g.key; hash = bit_xor g.hash.upper g.hash.lower } };
+    ghost view = { λ g. record { key = g.key; hash = settled g.key g.hash g.waiting } };
 
-    ghost invariant = { λ g. IsRows g.rows g.key };
+    ghost invariant = { λ g. IsPowers g.powers g.key };
+}
+
+/// Planes of zeros, in whose place others are put.
+fn no_powers() -> Powers {
+    let none = Plane {
+        upper: u8x16::splat(0),
+        lower: u8x16::splat(0),
+    };
+    Powers {
+        one: [none; 16],
+        two: [none; 16],
+        three: [none; 16],
+        four: [none; 16],
+    }
 }
 
 impl Ghash {
@@ -33,29 +53,31 @@ impl Ghash {
         ensures { result ≡ record { key = from_be_bytes w128 key; hash = 0 } }
     {
         let key = u128::from_be_bytes(key);
-        let mut rows = [[0; 16]; 32];
-        put_rows(&mut rows, key);
+        let mut powers = no_powers();
+        put_powers(&mut powers, key);
         Ghash {
             key,
-            rows,
-            hash: Sum { upper: 0, lower: 0 },
+            powers,
+            hash: 0,
+            waiting: false,
         }
     }
 
-    /// The same, for a hasher that stays in the variable that it is put into: there its rows are
-    /// made where they stay. A copy of their 8 KB, which `new` makes, takes as long as eight
-    /// blocks; a hasher that moves on into a larger value is copied once less if `new` made it.
+    /// The same, for a hasher that stays in the variable that it is put into: there its planes are
+    /// made where they stay, and the copy of their 2 KB that `new` makes is spared. A hasher that
+    /// moves on into a larger value is copied once less if `new` made it.
     pub fn in_place(key: [u8; 16]) -> Ghash
         ensures { result ≡ record { key = from_be_bytes w128 key; hash = 0 } }
     {
         let key = u128::from_be_bytes(key);
-        let hash = Sum { upper: 0, lower: 0 };
+        let hash = 0;
         let mut hasher = Ghash {
             key,
-            rows: [[0; 16]; 32],
+            powers: no_powers(),
             hash,
+            waiting: false,
         };
-        put_rows(&mut hasher.rows, key);
+        put_powers(&mut hasher.powers, key);
         hasher
     }
 
@@ -64,7 +86,8 @@ impl Ghash {
     pub fn restart(&mut self)
         ensures { self.new ≡ record { key = self.old.key; hash = 0 } }
     {
-        self.hash = Sum { upper: 0, lower: 0 };
+        self.hash = 0;
+        self.waiting = false;
     }
 
     /// Goes on from the hash that these or other blocks had under the same hash subkey.
@@ -72,10 +95,8 @@ impl Ghash {
     pub fn resume(&mut self, hash: u128)
         ensures { self.new ≡ record { key = self.old.key; hash = hash } }
     {
-        self.hash = Sum {
-            upper: hash,
-            lower: 0,
-        };
+        self.hash = hash;
+        self.waiting = false;
     }
 
     /// Takes one more block into the hash.
@@ -87,14 +108,15 @@ impl Ghash {
               hash = ghash_from self.old.key self.old.hash (from_be_bytes w128 block ∷ []);
             } }
     {
-        self.hash = times(self.hash.block() ^ u128::from_be_bytes(block), &self.rows);
+        let block = u128::from_be_bytes(block);
+        self.hash = taken(self.hash, self.waiting, block, &self.powers);
+        self.waiting = !self.waiting;
     }
 
     /// Takes four more blocks into the hash, as four calls of `block` do.
     ///
-    /// Four powers of the hash subkey, which would make the four products independent of one
-    /// another, gain nothing here: their rows take up 32 KB, all of the first cache, and four times
-    /// as long to make.
+    /// Each is multiplied by a power of the hash subkey of its own, so that the four products are
+    /// one sum, which is put together and reduced once.
     #[inline(always)]
     pub fn four(&mut self, blocks: [[u8; 16]; 4])
         ensures { self.new
@@ -106,7 +128,7 @@ impl Ghash {
         self.each_of_four(&blocks);
     }
 
-    /// Takes four more blocks into the hash, one after another.
+    /// Takes four more blocks into the hash, each times a power of its own.
     #[inline(always)]
     fn each_of_four(&mut self, blocks: &[[u8; 16]; 4])
         ensures { self.new
@@ -115,11 +137,15 @@ impl Ghash {
               hash = ghash_from self.old.key self.old.hash (map (from_be_bytes w128) blocks.now);
             } }
     {
-        let mut hash = self.hash;
-        'each: for i in 0..4 {
-            hash = times(hash.block() ^ u128::from_be_bytes(blocks[i]), &self.rows);
-        }
-        self.hash = hash;
+        let hash = settled(self.hash, self.waiting, &self.powers);
+        self.hash = times_four(
+            hash ^ u128::from_be_bytes(blocks[0]),
+            u128::from_be_bytes(blocks[1]),
+            u128::from_be_bytes(blocks[2]),
+            u128::from_be_bytes(blocks[3]),
+            &self.powers,
+        );
+        self.waiting = false;
     }
 
     /// The hash of the blocks so far, as a number, for `resume`.
@@ -127,7 +153,7 @@ impl Ghash {
     pub fn hash(&self) -> u128
         ensures { result ≡ self.now.hash }
     {
-        self.hash.block()
+        settled(self.hash, self.waiting, &self.powers)
     }
 
     /// The hash of the blocks so far, as a block.
@@ -135,6 +161,6 @@ impl Ghash {
     pub fn value(&self) -> [u8; 16]
         ensures { result ≡ to_be_bytes w128 self.now.hash }
     {
-        self.hash.block().to_be_bytes()
+        settled(self.hash, self.waiting, &self.powers).to_be_bytes()
     }
 }

@@ -2,11 +2,13 @@
 //! product.
 //!
 //! The product by the hash subkey is a sum over the 32 groups of four bits of the other factor,
-//! each looked up in a row of 16 products that is made with the hasher.
+//! each looked up by shuffles in tables of 16 bytes that are made with the hasher: no address and
+//! no branch depends on a key or a block.
 #![tactic(auto)]
 
 mod hasher;
 pub mod laws;
+mod planes;
 mod product;
 mod vector;
 

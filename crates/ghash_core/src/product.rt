@@ -1,104 +1,178 @@
-//! The product of blocks (SP 800-38D, section 6.3) by tables of one factor.
+//! The product of blocks (SP 800-38D, section 6.3) by planes of one factor.
 
-ghost use Rattle.std.specs.Prelude.{◌≡◌, ℕ, bit_xor};
-ghost use Rattle.cipher_spec.specs.Ghash.{half, times};
-ghost use Rattle.ghash_core.specs.Rows.{row, IsRows};
+ghost use Rattle.std.specs.Prelude.{◌≡◌, ◌*◌, ◌/◌, ◌%◌, ◌^◌, ◌<◌, ℕ, bit_xor, length, not, slice_index};
+ghost use Rattle.cipher_spec.specs.Ghash.{times};
+ghost use Rattle.ghash_core.specs.Tables.{byte_of, byte_times, settled, IsPlane, IsPlanes, IsPowers};
 
-use crate::vector::sum;
+use crate::planes::{Plane, Planes, put_planes};
+use crate::vector::{Pairs, bytes, folded, next};
+use std::simd::prelude::*;
 
-/// For each group of four bits of a block, the products of its 16 values and the other factor.
-pub type Rows = [[u128; 16]; 32];
-
-/// The bits 11100001 and then 120 zeros: R of the standard.
-const REDUCTION: u128 = 0xe100_0000_0000_0000_0000_0000_0000_0000;
-
-/// The block moved one bit to the right, reduced: the step from one V to the next.
+/// The entries that the lower four bits of each byte of v name.
 #[inline(always)]
-fn half(v: u128) -> u128
-    ensures { result ≡ half v }
+fn looked(table: u8x16, v: u8x16) -> u8x16
+    ensures lanes { (i : ℕ) → i < 16 → slice_index result i
+        ≡ slice_index table (slice_index v i % 16) }
+    ensures long { length result ≡ 16 }
 {
-    if v & 1 == 1 {
-        (v >> 1) ^ REDUCTION
-    } else {
-        v >> 1
+    table.swizzle_dyn(v & u8x16::splat(15))
+}
+
+/// One byte of the product of each byte of x.
+#[inline(always)]
+fn added(plane: &Plane, x: u8x16) -> u8x16
+    ensures lanes { (h k : ℕ) → IsPlane plane.now h k → (i : ℕ) → i < 16 → slice_index result i
+        ≡ byte_of (byte_times h (slice_index x i)) k }
+    ensures long { length result ≡ 16 }
+{
+    looked(plane.upper, x >> u8x16::splat(4)) ^ looked(plane.lower, x)
+}
+
+/// The product of x and the block h whose planes these are.
+#[inline(always)]
+pub fn times(x: u128, planes: &Planes) -> u128
+    ensures { (h : ℕ) → h < 2 ^ 128 → IsPlanes planes.now h → result ≡ times x h }
+{
+    let v = bytes(x);
+    let none = u64x2::splat(0);
+    let mut a = Pairs {
+        high: none,
+        low: none,
+    };
+    let mut b = a;
+    'each: for k in 0..8 {
+        let p = added(&planes[k], v);
+        let q = added(&planes[k + 8], v);
+        a = next(a.high, a.low, p);
+        b = next(b.high, b.low, q);
     }
+    folded(a.high, a.low, b.high, b.low)
 }
 
-/// The products of y and each value of the first four bits of a block.
-#[inline(always)]
-fn row(y: u128) -> [u128; 16]
-    ensures { result ≡ row y }
-{
-    let a = half(y);
-    let b = half(a);
-    let c = half(b);
-    let bc = sum(b, c);
-    let ac = sum(a, c);
-    let ab = sum(a, b);
-    let abc = sum(ab, c);
-    let yc = sum(y, c);
-    let yb = sum(y, b);
-    let ybc = sum(yb, c);
-    let ya = sum(y, a);
-    let yac = sum(ya, c);
-    let yab = sum(ya, b);
-    let yabc = sum(yab, c);
-    [
-        0, c, b, bc, a, ac, ab, abc, y, yc, yb, ybc, ya, yac, yab, yabc,
-    ]
-}
-
-/// The block moved four bits to the right, reduced.
-#[inline(always)]
-fn sixteenth(v: u128) -> u128
-    ensures { result ≡ half (half (half (half v))) }
-{
-    half(half(half(half(v))))
-}
-
-/// Puts the rows of h in the place of others.
-// What it fills is 8 KB, of which no copy is to be made: so the function stays one of its own.
-#[inline(never)]
-pub fn put_rows(rows: &mut Rows, h: u128)
-    ensures { IsRows rows.new h }
-{
-    let mut v = h;
-    'each: for j in 0..32 {
-        rows[j] = row(v);
-        v = sixteenth(v);
-    }
-}
-
-/// A block as the sum of two, since two short sums side by side take less time than a long one.
+/// The planes of a block and of its next three powers.
 #[derive(Clone, Copy)]
-pub struct Sum {
-    pub upper: u128,
-    pub lower: u128,
+pub struct Powers {
+    pub one: Planes,
+    pub two: Planes,
+    pub three: Planes,
+    pub four: Planes,
 }
 
-impl Sum {
-    /// The block itself.
-    #[inline(always)]
-    pub fn block(self) -> u128
-        ensures { result ≡ bit_xor self.upper self.lower }
-    {
-        self.upper ^ self.lower
-    }
-}
-
-/// The product of x and the block h whose rows these are: what the upper four bits of each byte of
-/// x add to it, and what the lower four bits add.
-#[inline(always)]
-pub fn times(x: u128, rows: &Rows) -> Sum
-    ensures { (h : ℕ) → IsRows rows.now h → bit_xor result.upper result.lower ≡ times x h }
+/// Puts the planes of the powers of h in the place of others.
+#[inline(never)]
+pub fn put_powers(powers: &mut Powers, h: u128)
+    ensures { IsPowers powers.new h }
 {
-    let bytes = x.to_be_bytes();
-    let mut upper = 0;
-    let mut lower = 0;
-    'each: for i in 0..16 {
-        let byte = bytes[i];
-        upper = upper ^ rows[2 * i][(byte >> 4) as usize];
-        lower = lower ^ rows[2 * i + 1][(byte & 15) as usize];
+    put_planes(&mut powers.one, h);
+    let two = times(h, &powers.one);
+    put_planes(&mut powers.two, two);
+    let three = times(h, &powers.two);
+    put_planes(&mut powers.three, three);
+    let four = times(h, &powers.three);
+    put_planes(&mut powers.four, four);
+}
+
+/// The sum of two vectors.
+#[inline(always)]
+fn sum_of_two(a: u8x16, b: u8x16) -> u8x16
+    ensures lanes { (i : ℕ) → i < 16 → slice_index result i
+        ≡ bit_xor (slice_index a i) (slice_index b i) }
+    ensures long { length result ≡ 16 }
+{
+    a ^ b
+}
+
+/// The sum of the products of x and the square of h, and of y and h itself.
+#[inline(always)]
+fn times_two(x: u128, y: u128, powers: &Powers) -> u128
+    ensures { (h : ℕ) → IsPowers powers.now h → result
+        ≡ bit_xor (times x (times h h)) (times y h) }
+{
+    let u = bytes(x);
+    let v = bytes(y);
+    let none = u64x2::splat(0);
+    let mut a = Pairs {
+        high: none,
+        low: none,
+    };
+    let mut b = a;
+    'each: for k in 0..8 {
+        let p = sum_of_two(added(&powers.two[k], u), added(&powers.one[k], v));
+        let q = sum_of_two(added(&powers.two[k + 8], u), added(&powers.one[k + 8], v));
+        a = next(a.high, a.low, p);
+        b = next(b.high, b.low, q);
     }
-    Sum { upper, lower }
+    folded(a.high, a.low, b.high, b.low)
+}
+
+/// The hash of h with one more block, which is multiplied later where no block waits for that, and
+/// else together with the one that waits.
+#[inline(always)]
+pub fn taken(hash: u128, waiting: bool, block: u128, powers: &Powers) -> u128
+    ensures { (h : ℕ) → IsPowers powers.now h → settled h result (not waiting)
+        ≡ times (bit_xor (settled h hash waiting) block) h }
+{
+    if waiting {
+        return times_two(hash, block, powers);
+    }
+    hash ^ block
+}
+
+/// The hash, multiplied by h where a block waits for that.
+#[inline(always)]
+pub fn settled(hash: u128, waiting: bool, powers: &Powers) -> u128
+    ensures { (h : ℕ) → IsPowers powers.now h → result ≡ settled h hash waiting }
+{
+    if waiting {
+        return times(hash, &powers.one);
+    }
+    hash
+}
+
+/// The sum of four vectors.
+#[inline(always)]
+fn sum_of_four(a: u8x16, b: u8x16, c: u8x16, d: u8x16) -> u8x16
+    ensures lanes { (i : ℕ) → i < 16 → slice_index result i
+        ≡ bit_xor (bit_xor (bit_xor (slice_index a i) (slice_index b i)) (slice_index c i))
+        (slice_index d i) }
+    ensures long { length result ≡ 16 }
+{
+    a ^ b ^ c ^ d
+}
+
+/// The sum of the products of w and the fourth power of h, x and the third, y and the square, z and
+/// h itself.
+#[inline(always)]
+pub fn times_four(w: u128, x: u128, y: u128, z: u128, powers: &Powers) -> u128
+    ensures { (h : ℕ) → IsPowers powers.now h → result
+        ≡ bit_xor (bit_xor (bit_xor (times w (times h (times h (times h h))))
+        (times x (times h (times h h)))) (times y (times h h))) (times z h) }
+{
+    let s = bytes(w);
+    let t = bytes(x);
+    let u = bytes(y);
+    let v = bytes(z);
+    let none = u64x2::splat(0);
+    let mut a = Pairs {
+        high: none,
+        low: none,
+    };
+    let mut b = a;
+    'each: for k in 0..8 {
+        let p = sum_of_four(
+            added(&powers.four[k], s),
+            added(&powers.three[k], t),
+            added(&powers.two[k], u),
+            added(&powers.one[k], v),
+        );
+        let q = sum_of_four(
+            added(&powers.four[k + 8], s),
+            added(&powers.three[k + 8], t),
+            added(&powers.two[k + 8], u),
+            added(&powers.one[k + 8], v),
+        );
+        a = next(a.high, a.low, p);
+        b = next(b.high, b.low, q);
+    }
+    folded(a.high, a.low, b.high, b.low)
 }
