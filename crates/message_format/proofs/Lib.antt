@@ -9,3 +9,4 @@ pub mod RoundTrip
 pub mod Lines
 pub mod LegacyMessages
 pub mod KeptLocks
+pub mod LockFaults
