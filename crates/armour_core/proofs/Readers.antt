@@ -13,6 +13,7 @@ use Rattle.armour_core.specs.declared.text_end.TextEnd.{TextEnd}
 use Rattle.armour_core.specs.declared.text_end.TextEnd.TheVariants.{Bad, Whole}
 use Rattle.armour_core.specs.declared.unarmour.Unarmour.{Unarmour}
 use Rattle.armour_core.specs.Outlook.{Outlook, end_of, holds_some, open_of, read_out, taken_front, text_outlook, with_front}
+use Rattle.armour_core.specs.ReaderLaws.{with_both}
 use Rattle.armour_core.specs.ReaderOutlook.{coming, pending, reader_outlook, room_of, unread}
 use Rattle.armour_core.specs.Unarmoured.{GroupsRead, characters, group_count, groups_read, none_read, unarmoured}
 use Rattle.armour_core.specs.Unarmouring.{IsBadGroup, UnarmouringValue, bad_armour, end_answer, group_answer, group_stepped, new_unarmouring, text_ended}
@@ -277,9 +278,6 @@ filled_more a k n out new within few =
     let size : length front ≡ a = length-take-le a out within in
     ap (λ (m : ℕ). take (m + n) (put_mid a k out new)) (sym size) ∙ take-append-add front (new ++ drop k (drop a out)) n ∙ ap (λ (x : List ℕ). front ++ x) (take-append-le n new (drop k (drop a out)) few)
 
-pub with_both : (a b : List ℕ) (l : Outlook) → with_front a (with_front b l) ≡ with_front (a ++ b) l
-with_both a b l = ap (λ (x : List ℕ). let o : Outlook = record { bytes = x; end = l.end } in o) (sym (append_assoc a b l.bytes))
-
 -- the part of a buffer from here on
 pub part_length : (out : List ℕ) (filled : ℕ) → length (take (length out - filled) (drop filled out)) ≡ length out - filled
 part_length out filled = length-take-le (length out - filled) (drop filled out) (omega (arith, length-drop filled out))
@@ -289,17 +287,19 @@ pub record Filling (old : ArmourReader) (first : List ℕ) (now : ArmourReader) 
   pub outlook : (text : List ℕ) → reader_outlook old text ≡ with_front (take filled out) (reader_outlook now text)
   pub pieces : now.pieces ≡ old.pieces
   pub goes : now.ending ≡ None → old.ending ≡ None
+  pub whole : now.ending ≡ Some Whole → old.ending ≡ Some Whole
   pub size : length out ≡ length first
   pub room : filled ≤ length out
   pub some : 1 ≤ length (pending old) → (1 ≤ filled) ⊎ (1 ≤ length (pending now))
 
 pub filling_begins : (r : ArmourReader) (out : List ℕ) → Filling r out r out 0
-filling_begins r out = record { outlook = λ text. refl; pieces = refl; goes = λ on. on; size = refl; room = omega arith; some = λ some. inr some }
+filling_begins r out = record { outlook = λ text. refl; pieces = refl; goes = λ on. on; whole = λ is. is; size = refl; room = omega arith; some = λ some. inr some }
 
 pub filling_more : (old now new : ArmourReader) (first out part : List ℕ) (filled count k : ℕ) → Filling old first now out filled → filled + k ≤ length out → length part ≡ k
-    → ((text : List ℕ) → reader_outlook now text ≡ with_front (take count part) (reader_outlook new text)) → new.pieces ≡ now.pieces → (new.ending ≡ None → now.ending ≡ None) → count ≤ k → 1 ≤ count
+    → ((text : List ℕ) → reader_outlook now text ≡ with_front (take count part) (reader_outlook new text)) → new.pieces ≡ now.pieces → (new.ending ≡ None → now.ending ≡ None)
+    → (new.ending ≡ Some Whole → now.ending ≡ Some Whole) → count ≤ k → 1 ≤ count
     → Filling old first new (put_mid filled k out part) (filled + count)
-filling_more old now new first out part filled count k f within size handed pieces goes few some =
+filling_more old now new first out part filled count k f within size handed pieces goes whole few some =
     let all : List ℕ = put_mid filled k out part in
     let rest : List ℕ = drop k (drop filled out) in
     let long : length all ≡ length out = omega (arith, length-append (take filled out) (part ++ rest), length-append part rest, length-take-le filled out f.room, size, f.room, within, length-drop k (drop filled out), length-drop filled out) in record {
@@ -308,6 +308,7 @@ filling_more old now new first out part filled count k f within size handed piec
           ∙ ap (λ (x : List ℕ). with_front x (reader_outlook new text)) (sym (filled_more filled k count out part f.room (omega (arith, few, size))));
       pieces = pieces ∙ f.pieces;
       goes = λ on. f.goes (goes on);
+      whole = λ is. f.whole (whole is);
       size = long ∙ f.size;
       room = omega (arith, long, few, within);
       some = λ _. inl (omega (arith, some));

@@ -1,5 +1,5 @@
 -- A source of armour text that is read.
-use Rattle.std.proofs.Common.{◌≡◌, ◌⊎◌, ℕ, ◌+◌, ◌-◌, ◌*◌, ◌^◌, ◌<◌, ◌≤◌, min, List, [], ◌∷◌, ◌++◌, length, Option, Some, None, refl, sym, subst, ap, ◌∙◌, arith, inl, inr, if◌then◌else◌}
+use Rattle.std.proofs.Common.{◌≡◌, ◌⊎◌, ℕ, ◌+◌, ◌-◌, ◌*◌, ◌^◌, ◌<◌, ◌≤◌, min, Bool, List, [], ◌∷◌, ◌++◌, length, Option, Some, None, refl, sym, subst, ap, ◌∙◌, arith, inl, inr, if◌then◌else◌}
 use Rattle.std.specs.Prelude.{IfSome}
 use Rattle.std.specs.Option.{is_none, option_map}
 use Rattle.std.specs.Io.KnownBytes.{Consumes, IsAtEnd, Keeps}
@@ -11,9 +11,10 @@ use Rattle.esdk_fields.specs.Counts.{Rose, counted}
 use Rattle.esdk_base.specs.Streams.{SourceState}
 use Rattle.armour_core.specs.declared.reader.ArmourReader.{ArmourReader}
 use Rattle.armour_core.specs.declared.text_end.TextEnd.{TextEnd}
+use Rattle.armour_core.specs.declared.text_end.TextEnd.TheVariants.{Whole}
 use Rattle.armour_core.specs.Outlook.{Outlook, with_front}
 use Rattle.armour_core.specs.ReaderLaws.{gives_behind, reads_more, reads_none}
-use Rattle.armour_core.specs.ReaderOutlook.{Awaits, FailsAs, IsWanted, KeepsOutlook, Outlasts, ReadsOn, TakesPiece, coming, gives, pending, reader_outlook, room_of, told_end, turns_left}
+use Rattle.armour_core.specs.ReaderOutlook.{Awaits, EndsAs, FailsAs, IsWanted, KeepsOutlook, Outlasts, ReadsOn, TakesPiece, coming, gives, pending, reader_outlook, room_of, told_end, turns_left}
 
 -- ---- what is kept
 
@@ -33,27 +34,29 @@ same_end (Some text) s t same = ap (λ (e : TextEnd). Some e) (sym (same text))
 
 -- bytes that are handed on of the last piece
 pub hands_on : (input : SourceState) (s t : ArmourReader) (front : List ℕ) → ((text : List ℕ) → reader_outlook s text ≡ with_front front (reader_outlook t text)) → t.pieces ≡ s.pieces → (t.ending ≡ None → s.ending ≡ None)
-    → ReadsOn input input s t (length front)
-hands_on input s t front handed pieces goes = record {
+    → (t.ending ≡ Some Whole → s.ending ≡ Some Whole) → ReadsOn input input s t front
+hands_on input s t front handed pieces goes whole = record {
   text = [];
   came = came_none input;
   taken = omega (arith, ap (λ p. p.taken) pieces);
   end = λ end is. same_end input.left s t (λ text. ap (λ (o : Outlook). o.end) (handed text)) ∙ is;
-  over = λ over. (refl, λ none. over (goes none));
-  all = λ more may. ap (λ (o : Outlook). length o.bytes) (handed more) ∙ length-append front (reader_outlook t more).bytes;
+  over = λ over. (refl, λ none. over (goes none), refl);
+  seen = λ on is. let e = sym on ∙ whole is in cc e;
+  all = λ more may. handed more;
 }
 
 -- text of the last piece that is read
 pub awaits_same : (before now : SourceState) (r s t : ArmourReader) (k : ℕ) → k ≡ 0 → Awaits before now r s k → ((text : List ℕ) → reader_outlook t text ≡ reader_outlook s text) → t.pieces ≡ s.pieces → (t.ending ≡ None → s.ending ≡ None)
-    → Awaits before now r t k
-awaits_same before now r s t k zero awaits same pieces goes = record {
+    → (t.ending ≡ Some Whole → s.ending ≡ Some Whole) → Awaits before now r t k
+awaits_same before now r s t k zero awaits same pieces goes whole = record {
   reads = record {
     text = awaits.reads.text;
     came = awaits.reads.came;
     taken = ap (λ p. p.taken) pieces ∙ awaits.reads.taken;
     end = λ end is. same_end now.left s t (λ text. ap (λ (o : Outlook). o.end) (sym (same text))) ∙ awaits.reads.end end is;
-    over = λ over. let o = awaits.reads.over over in (o.0, λ none. o.1 (goes none));
-    all = λ more may. let all = awaits.reads.all more (λ over. may (λ none. over (goes none))) in omega (arith, all, ap (λ (o : Outlook). length o.bytes) (same more));
+    over = λ over. let o = awaits.reads.over over in (o.0, λ none. o.1 (goes none), o.2);
+    seen = λ on is. awaits.reads.seen on (whole is);
+    all = λ more may. awaits.reads.all more (λ over. may (λ none. over (goes none))) ∙ sym (same more);
   };
   last = awaits.last;
   stuck = λ some. absurd (omega (arith, zero, some));
@@ -67,13 +70,13 @@ awaits_none input r k = record { reads = reads_none input r; last = inl refl; st
 pub awaits_more : (a b c : SourceState) (r s t : ArmourReader) (k : ℕ) → k ≡ 0 → Awaits a b r s k → gives s [] ≡ 0 → TakesPiece b c s t → Awaits a c r t k
 unfolding reads_more
 awaits_more a b c r s t k zero awaits none takes = record {
-  reads = reads_more a b c r s t 0 0 awaits.reads takes.reads;
+  reads = reads_more a b c r s t [] [] awaits.reads takes.reads;
   last = inr (record {
     before = awaits.reads.text;
     piece = takes.reads.text;
     all = refl;
     few = takes.few;
-    was = let front = gives_behind a b r s 0 awaits.reads in omega (arith, front, none);
+    was = let front = gives_behind a b r s [] awaits.reads in omega (arith, front, none);
   });
   stuck = λ some. absurd (omega (arith, zero, some));
 }
@@ -92,16 +95,18 @@ fails_again input k n some few is = record { later = omega (arith, few, is); kep
 -- ---- a read
 
 -- one that gave so many bytes
-pub read_outlasts : (before now : SourceState) (r s t : ArmourReader) (front : List ℕ) (given gave k n : ℕ) → Awaits before now r s k → FailsAs before now k n → k ≡ 0 → n ≡ 0 → gave ≡ counted given (length front)
-    → ((text : List ℕ) → reader_outlook s text ≡ with_front front (reader_outlook t text)) → t.pieces ≡ s.pieces → (t.ending ≡ None → s.ending ≡ None) → (1 ≤ length front) ⊎ (gives s [] ≡ 0)
-    → Outlasts before now r t given gave k n
+pub read_outlasts : (before now : SourceState) (r s t : ArmourReader) (front : List ℕ) (given gave k n : ℕ) (came comes : List ℕ) (ended ends : Bool) → Awaits before now r s k → FailsAs before now k n → k ≡ 0 → n ≡ 0 → gave ≡ counted given (length front)
+    → ((text : List ℕ) → reader_outlook s text ≡ with_front front (reader_outlook t text)) → t.pieces ≡ s.pieces → (t.ending ≡ None → s.ending ≡ None) → (t.ending ≡ Some Whole → s.ending ≡ Some Whole)
+    → (1 ≤ length front) ⊎ (gives s [] ≡ 0) → comes ≡ came ++ front → EndsAs t ended ends → Outlasts before now r t given gave k n came comes ended ends
 unfolding reads_more hands_on
-read_outlasts before now r s t front given gave k n awaits fails zero none counts handed pieces goes some =
-    let on = hands_on now s t front handed pieces goes in
-    let whole = reads_more before now now r s t 0 (length front) awaits.reads on in
+read_outlasts before now r s t front given gave k n came comes ended ends awaits fails zero none counts handed pieces goes is_whole some more_came at_end =
+    let on = hands_on now s t front handed pieces goes is_whole in
+    let whole = reads_more before now now r s t [] front awaits.reads on in
     record {
-      handed = 0 + length front;
-      given = omega (arith, counts);
+      handed = front;
+      given = counts;
+      came = more_came;
+      ended = at_end;
       reads = whole;
       wanted = by_some awaits.last some;
       faults = fails;
@@ -115,23 +120,26 @@ read_outlasts before now r s t front given gave k n awaits fails zero none count
     same : text ≡ awaits.reads.text
     same = append-nil awaits.reads.text
 
-    by_some : (awaits.reads.text ≡ []) ⊎ APieceBehind (λ b. gives r b ≡ 0) awaits.reads.text → (1 ≤ length front) ⊎ (gives s [] ≡ 0) → (text ≡ []) ⊎ IsWanted r text (0 + length front)
+    by_some : (awaits.reads.text ≡ []) ⊎ APieceBehind (λ b. gives r b ≡ 0) awaits.reads.text → (1 ≤ length front) ⊎ (gives s [] ≡ 0) → (text ≡ []) ⊎ IsWanted r text (length front)
     by_some (inl empty) some = inl (same ∙ empty)
     by_some (inr last) (inl some) = inr (inr (record { before = last.before; piece = last.piece; all = same ∙ last.all; few = last.few; was = omega (arith, last.was, some) }))
     by_some (inr last) (inr over) =
-        let front_is = gives_behind before now r s 0 awaits.reads in
+        let front_is = gives_behind before now r s [] awaits.reads in
         let rest = ap (λ (o : Outlook). length o.bytes) (handed []) ∙ length-append front (reader_outlook t []).bytes in
         inr (inl (omega (arith, ap (gives r) same, front_is, over, rest)))
 
 -- one that failed
-pub failed_outlasts : (before now : SourceState) (r s : ArmourReader) (given gave k n : ℕ) → Awaits before now r s k → FailsAs before now k n → gave ≡ given → given ≤ 2 ^ 64 - 1 → (k ≡ 0 → gives s [] ≡ 0) → Outlasts before now r s given gave k n
-failed_outlasts before now r s given gave k n awaits fails same few spent = record {
-  handed = 0;
+pub failed_outlasts : (before now : SourceState) (r s : ArmourReader) (given gave k n : ℕ) (came comes : List ℕ) (ended ends : Bool) → Awaits before now r s k → FailsAs before now k n → gave ≡ given → given ≤ 2 ^ 64 - 1
+    → (k ≡ 0 → gives s [] ≡ 0) → comes ≡ came → ends ≡ ended → Outlasts before now r s given gave k n came comes ended ends
+failed_outlasts before now r s given gave k n came comes ended ends awaits fails same few spent none_came none_seen = record {
+  handed = [];
   given = omega (arith, same, few);
+  came = none_came ∙ sym (append-nil came);
+  ended = λ is. inl (sym none_seen ∙ is);
   reads = awaits.reads;
   wanted = elim (cases_lt 0 k) [
     | inl stuck ↦ inl (awaits.stuck (omega (arith, stuck))).1
-    | inr first ↦ (let front = gives_behind before now r s 0 awaits.reads in let none = spent (omega (arith, first)) in inr (inl (omega (arith, front, none))))
+    | inr first ↦ (let front = gives_behind before now r s [] awaits.reads in let none = spent (omega (arith, first)) in inr (inl (omega (arith, front, none))))
   ];
   faults = fails;
   stuck = λ some. (awaits.stuck some).0;

@@ -1,8 +1,8 @@
 -- A reader that takes a piece more of its text.
-use Rattle.std.proofs.Common.{◌≡◌, ◌⊎◌, ℕ, ◌+◌, ◌<◌, ◌≤◌, nat_le, true, false, List, [], ◌++◌, length, take, drop, Option, Some, None, Err, refl, sym, subst, ap, ◌∙◌, arith, inl, inr}
+use Rattle.std.proofs.Common.{◌≡◌, ◌⊎◌, ℕ, ◌+◌, ◌<◌, ◌≤◌, ◌==◌, nat_le, Bool, true, false, List, [], ◌++◌, length, take, drop, Option, Some, None, Err, refl, sym, subst, ap, ◌∙◌, arith, inl, inr}
 use Rattle.std.specs.Option.{option_map}
 use Rattle.std.specs.Io.KnownBytes.{Consumes, IsAtEnd}
-use Rattle.std.proofs.lemmas.Bool.{cases_lt, le-leb, lt-leb}
+use Rattle.std.proofs.lemmas.Bool.{cases_lt, eqb-true, le-leb, lt-leb}
 use Rattle.std.specs.Prelude.{IfSome}
 use Rattle.std.proofs.lemmas.List.{drop_all, length-append}
 use Rattle.std.proofs.Math.Seq.{drop-nil, take-append-add, take-nil}
@@ -14,10 +14,10 @@ use Rattle.whole_input.specs.Taken.{Came}
 use Rattle.whole_input.proofs.Coming.{came_none}
 use Rattle.armour_core.specs.declared.reader.ArmourReader.{ArmourReader}
 use Rattle.armour_core.specs.declared.text_end.TextEnd.{TextEnd}
-use Rattle.armour_core.specs.declared.text_end.TextEnd.TheVariants.{TooLong}
+use Rattle.armour_core.specs.declared.text_end.TextEnd.TheVariants.{TooLong, Whole}
 use Rattle.armour_core.specs.declared.unarmour.Unarmour.{Unarmour}
 use Rattle.armour_core.specs.Outlook.{Outlook, open_of, read_out, with_front}
-use Rattle.armour_core.specs.ReaderOutlook.{IsOver, IsSpent, KeepsOutlook, TakesPiece, coming, gives, pending, reader_outlook, room_of, told_end, unread}
+use Rattle.armour_core.specs.ReaderOutlook.{EndsAs, IsOver, IsSpent, KeepsOutlook, TakesPiece, coming, gives, pending, reader_outlook, room_of, told_end, unread}
 use Rattle.armour_core.proofs.Readers.{no_more}
 
 -- ---- what a source tells
@@ -40,9 +40,18 @@ end_kept (Some text) before now r new is keeps end told =
 
 -- what a reader takes by one read that goes on, where the same is to come behind it
 pub takes_as : (before now : SourceState) (r new : ArmourReader) (text : List ℕ) → Came before now text → length text ≤ most_piece → new.pieces.taken ≡ r.pieces.taken + length text → KeepsOutlook before now r new
-    → r.ending ≡ None → ((more : List ℕ) → (IsOver new → more ≡ []) → gives r (text ++ more) ≡ gives new more) → TakesPiece before now r new
-takes_as before now r new text came few taken keeps goes all = record {
-  reads = record { text = text; came = came; taken = taken; end = end_kept before.left before now r new refl keeps; over = λ over. absurd (over goes); all = λ more may. omega (arith, all more may) };
+    → r.ending ≡ None → (new.ending ≡ Some Whole → now.ended ≡ true) → ((more : List ℕ) → (IsOver new → now.ended ≡ true → more ≡ []) → reader_outlook r (text ++ more) ≡ reader_outlook new more)
+    → TakesPiece before now r new
+takes_as before now r new text came few taken keeps goes seen all = record {
+  reads = record {
+    text = text;
+    came = came;
+    taken = taken;
+    end = end_kept before.left before now r new refl keeps;
+    over = λ over. absurd (over goes);
+    seen = λ _ whole. seen whole;
+    all = all;
+  };
   few = few;
 }
 
@@ -87,6 +96,21 @@ some_or_none r some = by_end r.ending refl
     by_end None is = inl (some is)
     by_end (Some end) is = inr (ended_gives r end is)
 
+-- a reader that saw how the text ends has handed all bytes on
+over_spent : (r : ArmourReader) → IsOver r → gives r [] ≡ 0
+over_spent r over = by_end r.ending refl
+  where
+    by_end : (e : Option TextEnd) → r.ending ≡ e → gives r [] ≡ 0
+    by_end None is = absurd (over is)
+    by_end (Some end) is = ended_gives r end is
+
+-- a read into some room that gave nothing saw how the text ends
+pub ends_as : (s t : ArmourReader) (count room : ℕ) (ended : Bool) → 1 ≤ room → (s.ending ≡ None → 1 ≤ length (pending s)) → (t.ending ≡ None → s.ending ≡ None)
+    → (1 ≤ length (pending s) → 1 ≤ room → 1 ≤ count) → EndsAs t ended (count == 0)
+ends_as s t count room ended some has goes gives nothing =
+    let over : IsOver t = λ none. let one : 1 ≤ count = gives (has (goes none)) some in absurd (omega (arith, one, eqb-true count 0 nothing)) in
+    inr (over, over_spent t over)
+
 pub when_ended : (r : ArmourReader) (e : Option TextEnd) → r.ending ≡ e → IfSome e (λ end. gives r [] ≡ 0)
 when_ended r None is = tt
 when_ended r (Some end) is = ended_gives r end is
@@ -119,29 +143,31 @@ piece_keeps before now r new piece spent goes same on is taken came text told =
 
 -- ---- too much of it
 
-pub too_long_keeps : (before now : SourceState) (r new : ArmourReader) → IsSpent r → r.ending ≡ None → SameReading r new → new.ending ≡ Some TooLong → now ≡ before → r.pieces.taken ≡ most_input → KeepsOutlook before now r new
+too_long_outlook : (r new : ArmourReader) → IsSpent r → r.ending ≡ None → SameReading r new → new.ending ≡ Some TooLong → r.pieces.taken ≡ most_input → (text : List ℕ) → reader_outlook new text ≡ reader_outlook r text
 unfolding reader_outlook
-too_long_keeps before now r new spent goes same ending still taken text told =
-    let room : room_of r ≡ 0 = omega (arith, taken) in (
-      text,
-      ap (λ (s : SourceState). s.left) still ∙ told,
-      sym (spent_outlook r text spent goes ∙ ap (λ (n : ℕ). read_out (open_of r.unarmour) (take n text) (nat_le n (length text))) room ∙ ap (read_out (open_of r.unarmour) []) (le-leb 0 (length text) (omega arith))
-          ∙ no_more r.unarmour true ∙ ap (λ (e : Option TextEnd). coming e new text) (sym ending) ∙ ap (λ (b : List ℕ). with_front b (coming new.ending new text)) (sym (none_pending r new same spent.handed))),
-    )
+too_long_outlook r new spent goes same ending taken text =
+    let room : room_of r ≡ 0 = omega (arith, taken) in
+    sym (spent_outlook r text spent goes ∙ ap (λ (n : ℕ). read_out (open_of r.unarmour) (take n text) (nat_le n (length text))) room ∙ ap (read_out (open_of r.unarmour) []) (le-leb 0 (length text) (omega arith))
+    ∙ no_more r.unarmour true ∙ ap (λ (e : Option TextEnd). coming e new text) (sym ending) ∙ ap (λ (b : List ℕ). with_front b (coming new.ending new text)) (sym (none_pending r new same spent.handed)))
+
+pub too_long_keeps : (before now : SourceState) (r new : ArmourReader) → IsSpent r → r.ending ≡ None → SameReading r new → new.ending ≡ Some TooLong → now ≡ before → r.pieces.taken ≡ most_input → KeepsOutlook before now r new
+too_long_keeps before now r new spent goes same ending still taken text told = (text, ap (λ (s : SourceState). s.left) still ∙ told, too_long_outlook r new spent goes same ending taken text)
 
 -- ---- its end
+
+end_outlook : (r new : ArmourReader) → IsSpent r → r.ending ≡ None → ((text : List ℕ) → reader_outlook new text ≡ read_out (open_of r.unarmour) [] false) → r.pieces.taken < most_input
+    → (rest text : List ℕ) → text ≡ [] → reader_outlook new rest ≡ reader_outlook r text
+end_outlook r new spent goes ends few rest text none =
+    let short : nat_le (room_of r) 0 ≡ false = lt-leb (room_of r) 0 (omega (arith, few)) in
+    ends rest ∙ sym (spent_outlook r text spent goes ∙ ap (λ (t : List ℕ). read_out (open_of r.unarmour) (take (room_of r) t) (nat_le (room_of r) (length t))) none
+    ∙ ap (λ (t : List ℕ). read_out (open_of r.unarmour) t (nat_le (room_of r) 0)) (take-nil (room_of r)) ∙ ap (read_out (open_of r.unarmour) []) short)
 
 pub end_keeps : (before now : SourceState) (r new : ArmourReader) → IsSpent r → r.ending ≡ None → ((text : List ℕ) → reader_outlook new text ≡ read_out (open_of r.unarmour) [] false) → r.pieces.taken < most_input
     → Came before now [] → IsAtEnd now.left → KeepsOutlook before now r new
 end_keeps before now r new spent goes ends few came end text told =
     let c = consumed before.left now.left [] text came.consumed told in
     let none : text ≡ [] = c.2 ∙ at_end now.left c.0 end c.1 in
-    let short : nat_le (room_of r) 0 ≡ false = lt-leb (room_of r) 0 (omega (arith, few)) in (
-      c.0,
-      c.1,
-      ends c.0 ∙ sym (spent_outlook r text spent goes ∙ ap (λ (t : List ℕ). read_out (open_of r.unarmour) (take (room_of r) t) (nat_le (room_of r) (length t))) none
-          ∙ ap (λ (t : List ℕ). read_out (open_of r.unarmour) t (nat_le (room_of r) 0)) (take-nil (room_of r)) ∙ ap (read_out (open_of r.unarmour) []) short),
-    )
+    (c.0, c.1, end_outlook r new spent goes ends few c.0 text none)
 
 -- nothing came
 pub came_still : (before now : SourceState) → now ≡ before → Came before now []
@@ -151,14 +177,7 @@ pub piece_takes : (before now : SourceState) (r new : ArmourReader) (piece : Lis
     → length piece ≤ most_piece → Came before now piece → TakesPiece before now r new
 piece_takes before now r new piece spent goes same on is taken few came =
     takes_as before now r new piece came few taken (piece_keeps before now r new piece spent goes same on is taken came) goes
-    (λ more _. ap (λ (o : Outlook). length o.bytes) (sym (piece_taken r new piece (piece ++ more) more spent goes same on is taken refl)))
-
--- the end was seen, or too much was taken
-over_takes : (before now : SourceState) (r new : ArmourReader) → IsSpent r → r.ending ≡ None → Came before now [] → new.pieces.taken ≡ r.pieces.taken → KeepsOutlook before now r new → IsOver new → gives new [] ≡ 0
-    → TakesPiece before now r new
-over_takes before now r new spent goes came taken keeps over none =
-    takes_as before now r new [] came (omega arith) (omega (arith, taken)) keeps goes
-    (λ more may. let empty : more ≡ [] = may over in ap (gives r) empty ∙ spent_gives r spent ∙ sym none ∙ ap (gives new) (sym empty))
+    (λ whole. let e = sym on ∙ whole in cc e) (λ more _. sym (piece_taken r new piece (piece ++ more) more spent goes same on is taken refl))
 
 -- ---- by how a call for the next piece ended
 
@@ -188,8 +207,8 @@ module _ (before now : SourceState) (r new : ArmourReader) (end : End) where
   pub long_takes : end ≡ ends.TooLong → NextPiece {T = Unit {0}} r.pieces.taken before now new.pieces (Err end) → IsSpent r → r.ending ≡ None → SameReading r new → new.ending ≡ Some TooLong → TakesPiece before now r new
   long_takes is next spent goes same ending =
       let n = long_next new.pieces is next in
-      over_takes before now r new spent goes (came_still before now n.0) n.2 (long_keeps is next spent goes same ending) (λ none. let e = sym ending ∙ none in cc e)
-      (over_gives new TooLong [] (none_pending r new same spent.handed) ending)
+      takes_as before now r new [] (came_still before now n.0) (omega arith) (omega (arith, n.2)) (long_keeps is next spent goes same ending) goes
+      (λ whole. let e = sym ending ∙ whole in cc e) (λ more _. sym (too_long_outlook r new spent goes same ending n.1 more))
 
   seen_next : (v : PiecesValue) → end ≡ ends.Seen → NextPiece {T = Unit {0}} r.pieces.taken before now v (Err end) → NextPiece {T = Unit {0}} r.pieces.taken before now v (Err ends.Seen)
   seen_next v is next = subst (λ (e : End). NextPiece {T = Unit {0}} r.pieces.taken before now v (Err e)) is next
@@ -201,5 +220,6 @@ module _ (before now : SourceState) (r new : ArmourReader) (end : End) where
       → TakesPiece before now r new
   seen_takes v is next same spent goes ended over =
       let n = seen_next v is next in
-      over_takes before now r new spent goes n.0 (ap (λ (p : PiecesValue). p.taken) same ∙ n.4) (seen_keeps v is next spent goes ended) over
-      (ap (λ (o : Outlook). length o.bytes) (ended [] ∙ no_more r.unarmour false))
+      let taken : new.pieces.taken ≡ r.pieces.taken = ap (λ (p : PiecesValue). p.taken) same ∙ n.4 in
+      takes_as before now r new [] n.0 (omega arith) (omega (arith, taken)) (seen_keeps v is next spent goes ended) goes
+      (λ _. n.5) (λ more may. sym (end_outlook r new spent goes ended n.3 more more (may over n.5)))

@@ -1,27 +1,57 @@
 -- A reader of a source's text keeps the laws of sources, which an `impl` can cite from specs/
 -- alone.
-use Rattle.std.proofs.Common.{◌≡◌, ◌⊎◌, ℕ, ◌+◌, ◌-◌, ◌^◌, ◌≤◌, List, [], ◌∷◌, ◌++◌, refl, sym, ap, ◌∙◌, arith, inl, inr, append_assoc}
+use Rattle.std.proofs.Common.{◌≡◌, ◌⊎◌, ℕ, ◌+◌, ◌-◌, ◌^◌, ◌≤◌, Bool, true, List, [], ◌∷◌, ◌++◌, length, Option, Some, None, refl, sym, ap, ◌∙◌, arith, inl, inr, append_assoc}
 use Rattle.std.proofs.lemmas.List.{append-nil, length-append}
 use Rattle.std.proofs.lemmas.Bool.{cases_lt}
 use Rattle.whole_input.proofs.Coming.{came_more, came_none}
 use Rattle.esdk_base.specs.Streams.{SourceState}
 use Rattle.armour_core.specs.declared.reader.ArmourReader.{ArmourReader}
-use Rattle.armour_core.specs.ReaderOutlook.{FailsAs, IsWanted, Outlasts, ReadsOn, gives}
+use Rattle.armour_core.specs.declared.text_end.TextEnd.{TextEnd}
+use Rattle.armour_core.specs.declared.text_end.TextEnd.TheVariants.{Whole}
+use Rattle.armour_core.specs.Outlook.{Outlook, with_front}
+use Rattle.armour_core.specs.ReaderOutlook.{EndsAs, FailsAs, IsOver, IsWanted, Outlasts, ReadsOn, coming, gives, reader_outlook}
 
 -- ---- text that is read on
 
-unfoldable pub reads_none : (input : SourceState) (r : ArmourReader) → ReadsOn input input r r 0
+-- a reader that saw how the text ends says so
+pub ends_so : (r : ArmourReader) (end : TextEnd) (text : List ℕ) → r.ending ≡ Some end
+    → (reader_outlook r text).end ≡ end
+unfolding reader_outlook
+ends_so r end text is = ap (λ (e : Option TextEnd). (coming e r text).end) is
+
+pub with_both : (a b : List ℕ) (l : Outlook) → with_front a (with_front b l) ≡ with_front (a ++ b) l
+with_both a b l =
+    ap (λ (x : List ℕ). let o : Outlook = record { bytes = x; end = l.end } in o)
+    (sym (append_assoc a b l.bytes))
+
+unfoldable pub reads_none : (input : SourceState) (r : ArmourReader) → ReadsOn input input r r []
 reads_none input r = record {
   text = [];
   came = came_none input;
   taken = omega arith;
   end = λ end is. is;
-  over = λ over. (refl, over);
-  all = λ more may. omega arith;
+  over = λ over. (refl, over, refl);
+  seen = λ goes whole. let e = sym goes ∙ whole in cc e;
+  all = λ more may. refl;
 }
 
-unfoldable pub reads_more : (a b c : SourceState) (r s t : ArmourReader) (h k : ℕ) → ReadsOn a b r s h
-    → ReadsOn b c s t k → ReadsOn a c r t (h + k)
+-- a text that is called whole behind an end that was seen before was whole there
+pub seen_more : (a b c : SourceState) (r s t : ArmourReader) (h k : List ℕ) → ReadsOn a b r s h
+    → ReadsOn b c s t k → r.ending ≡ None → t.ending ≡ Some Whole → c.ended ≡ true
+seen_more a b c r s t h k one two goes whole = by_end s.ending refl
+  where
+    by_end : (e : Option TextEnd) → s.ending ≡ e → c.ended ≡ true
+    by_end None is = two.seen is whole
+    by_end (Some end) is =
+        let over = two.over (λ none. let e = sym is ∙ none in cc e) in
+        let same : end ≡ Whole =
+        sym (ends_so s end (two.text ++ []) is)
+        ∙ ap (λ (o : Outlook). o.end) (two.all [] (λ _ _. refl)) ∙ ends_so t Whole [] whole in
+        ap (λ (i : SourceState). i.ended) over.2
+        ∙ one.seen goes (is ∙ ap (λ (e : TextEnd). Some e) same)
+
+unfoldable pub reads_more : (a b c : SourceState) (r s t : ArmourReader) (h k : List ℕ)
+    → ReadsOn a b r s h → ReadsOn b c s t k → ReadsOn a c r t (h ++ k)
 reads_more a b c r s t h k one two = record {
   text = one.text ++ two.text;
   came = came_more a b c one.text two.text one.came two.came;
@@ -30,20 +60,37 @@ reads_more a b c r s t h k one two = record {
   over = λ over.
       let first = one.over over in
       let second = two.over first.1 in
-      (ap (λ (x : List ℕ). x ++ two.text) first.0 ∙ second.0, second.1);
+      (ap (λ (x : List ℕ). x ++ two.text) first.0 ∙ second.0, second.1, second.2 ∙ first.2);
+  seen = seen_more a b c r s t h k one two;
   all = λ more may.
-      let first = one.all (two.text ++ more) (λ over.
+      let first = one.all (two.text ++ more) (λ over ended.
       let none = two.over over in
-      ap (λ (x : List ℕ). x ++ more) none.0 ∙ may none.1) in
-      let whole = ap (gives r) (append_assoc one.text two.text more) in
-      omega (arith, whole, first, two.all more may);
+      ap (λ (x : List ℕ). x ++ more) none.0
+      ∙ may none.1 (ap (λ (i : SourceState). i.ended) none.2 ∙ ended)) in
+      ap (reader_outlook r) (append_assoc one.text two.text more) ∙ first
+      ∙ ap (with_front h) (two.all more may) ∙ with_both h k (reader_outlook t more);
 }
 
+-- so many bytes are to come before and behind
+pub gives_all : (a b : SourceState) (r s : ArmourReader) (h : List ℕ) (reads : ReadsOn a b r s h)
+    → (more : List ℕ) → (IsOver s → b.ended ≡ true → more ≡ [])
+    → gives r (reads.text ++ more) ≡ length h + gives s more
+gives_all a b r s h reads more may =
+    ap (λ (o : Outlook). length o.bytes) (reads.all more may)
+    ∙ length-append h (reader_outlook s more).bytes
+
 -- what is to come behind the text that was read
-pub gives_behind : (a b : SourceState) (r s : ArmourReader) (h : ℕ) (reads : ReadsOn a b r s h)
-    → gives r reads.text ≡ h + gives s []
+pub outlook_behind : (a b : SourceState) (r s : ArmourReader) (h : List ℕ)
+    (reads : ReadsOn a b r s h)
+    → reader_outlook r reads.text ≡ with_front h (reader_outlook s [])
+outlook_behind a b r s h reads =
+    ap (reader_outlook r) (sym (append-nil reads.text)) ∙ reads.all [] (λ _ _. refl)
+
+pub gives_behind : (a b : SourceState) (r s : ArmourReader) (h : List ℕ)
+    (reads : ReadsOn a b r s h) → gives r reads.text ≡ length h + gives s []
 gives_behind a b r s h reads =
-    ap (gives r) (sym (append-nil reads.text)) ∙ reads.all [] (λ over. refl)
+    ap (λ (o : Outlook). length o.bytes) (outlook_behind a b r s h reads)
+    ∙ length-append h (reader_outlook s []).bytes
 
 -- ---- no more than was wanted
 
@@ -52,12 +99,14 @@ front_nil [] piece none = refl
 front_nil (x ∷ front) piece none = cc none
 
 -- text that is read on behind a front
-wanted_later : (a b c : SourceState) (r s t : ArmourReader) (h k : ℕ) (one : ReadsOn a b r s h)
-    (two : ReadsOn b c s t k) → IsWanted s two.text k → IsWanted r (one.text ++ two.text) (h + k)
+wanted_later : (a b c : SourceState) (r s t : ArmourReader) (h k : List ℕ)
+    (one : ReadsOn a b r s h) (two : ReadsOn b c s t k) → IsWanted s two.text (length k)
+    → IsWanted r (one.text ++ two.text) (length (h ++ k))
 wanted_later a b c r s t h k one two (inl all) =
-    let whole = one.all two.text (λ over. (two.over over).0) in inl (omega (arith, whole, all))
+    let whole = gives_all a b r s h one two.text (λ over _. (two.over over).0) in
+    inl (omega (arith, whole, all, length-append h k))
 wanted_later a b c r s t h k one two (inr last) =
-    let front = one.all last.before (λ over.
+    let front = gives_all a b r s h one last.before (λ over _.
     front_nil last.before last.piece (sym last.all ∙ (two.over over).0)) in
     inr (record {
       before = one.text ++ last.before;
@@ -65,31 +114,40 @@ wanted_later a b c r s t h k one two (inr last) =
       all = ap (λ (x : List ℕ). one.text ++ x) last.all
           ∙ sym (append_assoc one.text last.before last.piece);
       few = last.few;
-      was = omega (arith, front, last.was);
+      was = omega (arith, front, last.was, length-append h k);
     })
 
 -- no text is read on
-pub wanted_before : (a b c : SourceState) (r s t : ArmourReader) (h k : ℕ) (one : ReadsOn a b r s h)
-    (two : ReadsOn b c s t k) → two.text ≡ [] → IsWanted r one.text h
-    → IsWanted r (one.text ++ two.text) (h + k)
+pub wanted_before : (a b c : SourceState) (r s t : ArmourReader) (h k : List ℕ)
+    (one : ReadsOn a b r s h) (two : ReadsOn b c s t k) → two.text ≡ []
+    → IsWanted r one.text (length h) → IsWanted r (one.text ++ two.text) (length (h ++ k))
 wanted_before a b c r s t h k one two none (inl all) =
     let same : one.text ++ two.text ≡ one.text =
     ap (λ (x : List ℕ). one.text ++ x) none ∙ append-nil one.text in
     let first = gives_behind a b r s h one in
     let second = gives_behind b c s t k two in
-    inl (omega (arith, ap (gives r) same, all, first, second, ap (gives s) none))
+    inl (omega (
+      arith,
+      ap (gives r) same,
+      all,
+      first,
+      second,
+      ap (gives s) none,
+      length-append h k,
+    ))
 wanted_before a b c r s t h k one two none (inr last) = inr (record {
   before = last.before;
   piece = last.piece;
   all = ap (λ (x : List ℕ). one.text ++ x) none ∙ append-nil one.text ∙ last.all;
   few = last.few;
-  was = omega (arith, last.was);
+  was = omega (arith, last.was, length-append h k);
 })
 
-wanted_more : (a b c : SourceState) (r s t : ArmourReader) (h k : ℕ) (one : ReadsOn a b r s h)
-    (two : ReadsOn b c s t k) → (one.text ≡ []) ⊎ IsWanted r one.text h
-    → (two.text ≡ []) ⊎ IsWanted s two.text k
-    → (one.text ++ two.text ≡ []) ⊎ IsWanted r (one.text ++ two.text) (h + k)
+wanted_more : (a b c : SourceState) (r s t : ArmourReader) (h k : List ℕ)
+    (one : ReadsOn a b r s h) (two : ReadsOn b c s t k)
+    → (one.text ≡ []) ⊎ IsWanted r one.text (length h)
+    → (two.text ≡ []) ⊎ IsWanted s two.text (length k)
+    → (one.text ++ two.text ≡ []) ⊎ IsWanted r (one.text ++ two.text) (length (h ++ k))
 wanted_more a b c r s t h k one two first (inr wanted) =
     inr (wanted_later a b c r s t h k one two wanted)
 wanted_more a b c r s t h k one two (inl before) (inl none) =
@@ -124,14 +182,36 @@ fails_more a b c k m n one two = record {
       two.same then_kept few ∙ one.same kept (omega (arith, kept, is, few));
 }
 
--- ---- both
+-- ---- the end of the source over it
 
-pub outlasts_none : (input : SourceState) (r : ArmourReader) (given faults : ℕ)
-    → given ≤ 2 ^ 64 - 1 → Outlasts input input r r given given faults faults
+ends_more : (b c : SourceState) (s t : ArmourReader) (k : List ℕ) (u v w : Bool)
+    → ReadsOn b c s t k → EndsAs s u v → EndsAs t v w → EndsAs t u w
+ends_more b c s t k u v w two first second ended = by_last (second ended)
+  where
+    by_first : (u ≡ true) ⊎ (IsOver s × (gives s [] ≡ 0))
+        → (u ≡ true) ⊎ (IsOver t × (gives t [] ≡ 0))
+    by_first (inl before) = inl before
+    by_first (inr seen) =
+        let over = two.over seen.0 in
+        let rest = gives_behind b c s t k two in
+        inr (over.1, omega (arith, ap (gives s) over.0, rest, seen.1))
+
+    by_last : (v ≡ true) ⊎ (IsOver t × (gives t [] ≡ 0))
+        → (u ≡ true) ⊎ (IsOver t × (gives t [] ≡ 0))
+    by_last (inl before) = by_first (first before)
+    by_last (inr seen) = inr seen
+
+-- ---- all of it
+
+pub outlasts_none : (input : SourceState) (r : ArmourReader) (given faults : ℕ) (came : List ℕ)
+    (ended : Bool) → given ≤ 2 ^ 64 - 1
+    → Outlasts input input r r given given faults faults came came ended ended
 unfolding reads_none
-outlasts_none input r given faults few = record {
-  handed = 0;
+outlasts_none input r given faults came ended few = record {
+  handed = [];
   given = omega (arith, few);
+  came = sym (append-nil came);
+  ended = λ is. inl is;
   reads = reads_none input r;
   wanted = inl refl;
   faults = fails_none input faults;
@@ -140,11 +220,15 @@ outlasts_none input r given faults few = record {
 }
 
 pub outlasts_more : (a b c : SourceState) (r s t : ArmourReader) (f g h k m n : ℕ)
-    → Outlasts a b r s f g k m → Outlasts b c s t g h m n → Outlasts a c r t f h k n
+    (x y z : List ℕ) (u v w : Bool) → Outlasts a b r s f g k m x y u v
+    → Outlasts b c s t g h m n y z v w → Outlasts a c r t f h k n x z u w
 unfolding reads_more
-outlasts_more a b c r s t f g h k m n one two = record {
-  handed = one.handed + two.handed;
-  given = omega (arith, one.given, two.given);
+outlasts_more a b c r s t f g h k m n x y z u v w one two = record {
+  handed = one.handed ++ two.handed;
+  given = omega (arith, one.given, two.given, length-append one.handed two.handed);
+  came = two.came ∙ ap (λ (l : List ℕ). l ++ two.handed) one.came
+      ∙ append_assoc x one.handed two.handed;
+  ended = ends_more b c s t two.handed u v w two.reads one.ended two.ended;
   reads = reads_more a b c r s t one.handed two.handed one.reads two.reads;
   wanted =
       wanted_more a b c r s t one.handed two.handed one.reads two.reads one.wanted two.wanted;

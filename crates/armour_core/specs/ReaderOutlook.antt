@@ -1,5 +1,5 @@
 -- What is to come of a text that a reader takes from a source piece by piece.
-use Rattle.std.specs.Prelude.{◌≡◌, ◌≢◌, ◌⊎◌, ℕ, ◌+◌, ◌-◌, ◌*◌, ◌^◌, ◌<◌, ◌≤◌, nat_le, is_none, if◌then◌else◌, List, [], ◌++◌, length, take, drop, Option, Some, None}
+use Rattle.std.specs.Prelude.{◌≡◌, ◌≢◌, ◌⊎◌, ℕ, ◌+◌, ◌-◌, ◌*◌, ◌^◌, ◌<◌, ◌≤◌, nat_le, is_none, if◌then◌else◌, Bool, true, List, [], ◌++◌, length, take, drop, Option, Some, None}
 use Rattle.std.specs.Option.{option_map}
 use Rattle.esdk_fields.specs.Counts.{Rose, RoseBy, counted}
 use Rattle.esdk_base.specs.Streams.{SourceState}
@@ -7,6 +7,7 @@ use Rattle.whole_input.specs.Pieces.{APieceBehind, most_input, most_piece}
 use Rattle.whole_input.specs.Taken.{Came}
 use Rattle.armour_core.specs.declared.reader.ArmourReader.{ArmourReader}
 use Rattle.armour_core.specs.declared.text_end.TextEnd.{TextEnd}
+use Rattle.armour_core.specs.declared.text_end.TextEnd.TheVariants.{Whole}
 use Rattle.armour_core.specs.Outlook.{Outlook, open_of, read_out, with_front}
 
 -- the text of the last piece that wasn't read yet
@@ -55,26 +56,30 @@ gives r text = length (reader_outlook r text).bytes
 abbrev pub IsOver : ArmourReader → Type 0
 IsOver r = r.ending ≢ None
 
--- The reader took more of the same text, and handed so many bytes on. Behind the end that it saw it
--- takes none.
-pub record ReadsOn (before now : SourceState) (old new : ArmourReader) (handed : ℕ) : Type 0 where
+-- The reader took more of the same text, and handed these bytes on. Whatever follows what came, the
+-- bytes of both are these and those that are still to come, and the end is the same; nothing
+-- follows where the reader is over and the source saw the end. Behind the end that it saw the
+-- reader takes nothing, and it calls a text whole only where the source saw the end of that.
+pub record ReadsOn (before now : SourceState) (old new : ArmourReader)
+    (handed : List ℕ) : Type 0 where
   pub text : List ℕ
   pub came : Came before now text
   pub taken : new.pieces.taken ≡ old.pieces.taken + length text
   pub end : (end : TextEnd) → told_end before old ≡ Some end → told_end now new ≡ Some end
-  pub over : IsOver old → (text ≡ []) × IsOver new
-  pub all : (more : List ℕ) → (IsOver new → more ≡ [])
-      → gives old (text ++ more) ≡ handed + gives new more
+  pub over : IsOver old → (text ≡ []) × IsOver new × (now ≡ before)
+  pub seen : old.ending ≡ None → new.ending ≡ Some Whole → now.ended ≡ true
+  pub all : (more : List ℕ) → (IsOver new → now.ended ≡ true → more ≡ [])
+      → reader_outlook old (text ++ more) ≡ with_front handed (reader_outlook new more)
 
 -- By one read it took a piece at the most, and handed nothing on.
 pub record TakesPiece (before now : SourceState) (old new : ArmourReader) : Type 0 where
-  pub reads : ReadsOn before now old new 0
+  pub reads : ReadsOn before now old new []
   pub few : length reads.text ≤ most_piece
 
 -- It took text until some bytes came, and handed none on: what stands before the last piece gives
 -- none. Once a read failed, it takes nothing.
 pub record Awaits (before now : SourceState) (old new : ArmourReader) (old_faults : ℕ) : Type 0 where
-  pub reads : ReadsOn before now old new 0
+  pub reads : ReadsOn before now old new []
   pub last : (reads.text ≡ []) ⊎ APieceBehind (λ front. gives old front ≡ 0) reads.text
   pub stuck : 1 ≤ old_faults → (new ≡ old) × (reads.text ≡ [])
 
@@ -96,15 +101,24 @@ pub record FailsAs (before now : SourceState) (old_faults new_faults : ℕ) : Ty
   pub failed : old_faults ≡ 0 → 1 ≤ new_faults → Rose before.faults now.faults
   pub same : new_faults ≡ old_faults → new_faults < 2 ^ 64 - 1 → now.faults ≡ before.faults
 
+-- Where the last read of a source over a reader saw the end, one before did, or the reader saw how
+-- the text ends, and all bytes that the text gives were handed on.
+abbrev pub EndsAs : ArmourReader → Bool → Bool → Type 0
+EndsAs new old_ended new_ended =
+    new_ended ≡ true → (old_ended ≡ true) ⊎ (IsOver new × (gives new [] ≡ 0))
+
 -- Since the first moment more of the same text was taken, and no more than the bytes that were
--- handed on called for. Once a read failed, nothing more is taken, and all bytes that the text gives
--- were handed on.
+-- handed on called for: those that came. Once a read failed, nothing more is taken, and all bytes
+-- that the text gives were handed on.
 pub record Outlasts (before now : SourceState) (old new : ArmourReader)
-    (old_given new_given old_faults new_faults : ℕ) : Type 0 where
-  pub handed : ℕ
-  pub given : new_given ≡ counted old_given handed
+    (old_given new_given old_faults new_faults : ℕ) (old_came new_came : List ℕ)
+    (old_ended new_ended : Bool) : Type 0 where
+  pub handed : List ℕ
+  pub given : new_given ≡ counted old_given (length handed)
+  pub came : new_came ≡ old_came ++ handed
+  pub ended : EndsAs new old_ended new_ended
   pub reads : ReadsOn before now old new handed
-  pub wanted : (reads.text ≡ []) ⊎ IsWanted old reads.text handed
+  pub wanted : (reads.text ≡ []) ⊎ IsWanted old reads.text (length handed)
   pub faults : FailsAs before now old_faults new_faults
   pub stuck : 1 ≤ old_faults → new ≡ old
   pub spent : old_faults ≡ 0 → 1 ≤ new_faults → gives new [] ≡ 0

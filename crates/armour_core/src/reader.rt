@@ -4,7 +4,7 @@ ghost use Rattle.std.specs.Prelude.{◌≡◌, ◌≢◌, ◌<◌, ◌≤◌, �
 ghost use Rattle.esdk_fields.specs.Counts.{Rose};
 ghost use Rattle.whole_input.specs.Pieces.{most_input};
 ghost use Rattle.armour_core.specs.Unarmouring.{IsBadGroup};
-ghost use Rattle.armour_core.specs.declared.text_end.TextEnd.TheVariants.{TooLong};
+ghost use Rattle.armour_core.specs.declared.text_end.TextEnd.TheVariants.{TooLong, Whole};
 
 use crate::base64_groups::is_character;
 use crate::errors::ArmourError;
@@ -41,6 +41,7 @@ impl ArmourReader {
         requires unused { pieces ≡ record { taken = 0; piece = [] } }
         ensures outlook { (text : List ℕ) → reader_outlook result text ≡ text_outlook text }
         ensures none { result.pieces.taken ≡ 0 }
+        ensures goes { result.ending ≡ None }
     {
         ArmourReader {
             pieces,
@@ -84,6 +85,7 @@ impl ArmourReader {
             ≡ reader_outlook self.old text }
         ensures pieces { self.new.pieces ≡ self.old.pieces }
         ensures falls { self.old.at < self.new.at }
+        ensures whole { self.new.ending ≡ Some Whole → self.old.ending ≡ Some Whole }
     {
         match self.unarmour.step(&self.pieces.piece()[self.at..]) {
             Ok(used) => {
@@ -109,6 +111,7 @@ impl ArmourReader {
         ensures spent { result ≡ false → IsSpent self.new }
         ensures keeps { 1 ≤ length (pending self.old) → 1 ≤ length (pending self.new) }
         ensures goes { self.new.ending ≡ None → self.old.ending ≡ None }
+        ensures whole { self.new.ending ≡ Some Whole → self.old.ending ≡ Some Whole }
     {
         while self.may_read() {
             self.read_group();
@@ -191,6 +194,7 @@ impl ArmourReader {
             ≡ with_front (take result out.new) (reader_outlook self.new text) }
         ensures pieces { self.new.pieces ≡ self.old.pieces }
         ensures goes { self.new.ending ≡ None → self.old.ending ≡ None }
+        ensures whole { self.new.ending ≡ Some Whole → self.old.ending ≡ Some Whole }
         ensures room { result ≤ length out.old }
         ensures some { 1 ≤ length (pending self.old) → 1 ≤ length out.old → 1 ≤ result }
     {
@@ -210,6 +214,7 @@ impl ArmourReader {
             ≡ with_front (take result out.new) (reader_outlook self.new text) }
         ensures pieces { self.new.pieces ≡ self.old.pieces }
         ensures goes { self.new.ending ≡ None → self.old.ending ≡ None }
+        ensures whole { self.new.ending ≡ Some Whole → self.old.ending ≡ Some Whole }
         ensures room { result ≤ length out.old }
         ensures some { 1 ≤ length (pending self.old) → 1 ≤ length out.old → 1 ≤ result }
     {
@@ -232,6 +237,7 @@ impl ArmourReader {
         ensures wants { result ≡ true → IsSpent self.new × (self.new.ending ≡ None) }
         ensures has { result ≡ false → self.new.ending ≡ None → 1 ≤ length (pending self.new) }
         ensures goes { self.new.ending ≡ None → self.old.ending ≡ None }
+        ensures whole { self.new.ending ≡ Some Whole → self.old.ending ≡ Some Whole }
     {
         if self.has_some() {
             return false;

@@ -1,6 +1,6 @@
 //! A source of armour text as a source of the bytes that it gives.
 
-ghost use Rattle.std.specs.Prelude.{◌≡◌, ◌-◌, ◌^◌, ◌≤◌, List, [], ℕ, None, Some, IfOk, IfSome, OnErr, OnOk, length};
+ghost use Rattle.std.specs.Prelude.{◌≡◌, ◌-◌, ◌^◌, ◌≤◌, List, [], ℕ, None, Some, false, IfOk, IfSome, OnErr, OnOk, length};
 ghost use Rattle.std.specs.Option.{option_map};
 ghost use Rattle.armour_core.specs.declared.text_end.TextEnd.{TextEnd};
 ghost use Rattle.armour_core.specs.declared.text_end.TextEnd.TheVariants.{TooLong};
@@ -11,6 +11,7 @@ ghost use Rattle.std.proofs.Common.{◌∙◌, refl};
 use crate::reader::ArmourReader;
 use crate::text_end::TextEnd;
 use esdk_base::{Failed, Source};
+use esdk_seen::SeenBytes;
 use std::alloc::{AllocError, Global};
 use whole_input::Pieces;
 
@@ -27,6 +28,8 @@ pub struct UnarmouredSource<'a, S> {
     reader: ArmourReader,
     given: u64,
     faults: u64,
+    came: SeenBytes,
+    ended: bool,
     ghost few: { given ≤ 2 ^ 64 - 1 },
     ghost counted: { faults ≤ 2 ^ 64 - 1 },
 }
@@ -42,8 +45,11 @@ impl<'a, S: Source> UnarmouredSource<'a, S> {
         ensures outlook { IfOk result (λ s. (bytes : List ℕ)
             → reader_outlook s.reader bytes ≡ text_outlook bytes) }
         ensures none { IfOk result (λ s. s.reader.pieces.taken ≡ 0) }
+        ensures goes { IfOk result (λ s. s.reader.ending ≡ None) }
         ensures given { IfOk result (λ s. s.given ≡ 0) }
         ensures faults { IfOk result (λ s. s.faults ≡ 0) }
+        ensures came { IfOk result (λ s. s.came.bytes ≡ []) }
+        ensures ended { IfOk result (λ s. s.ended ≡ false) }
     {
         let pieces = Pieces::new(alloc)?;
         Ok(UnarmouredSource::over(pieces, text))
@@ -57,14 +63,19 @@ impl<'a, S: Source> UnarmouredSource<'a, S> {
         ensures outlook { (bytes : List ℕ)
             → reader_outlook result.reader bytes ≡ text_outlook bytes }
         ensures none { result.reader.pieces.taken ≡ 0 }
+        ensures goes { result.reader.ending ≡ None }
         ensures given { result.given ≡ 0 }
         ensures faults { result.faults ≡ 0 }
+        ensures came { result.came.bytes ≡ [] }
+        ensures ended { result.ended ≡ false }
     {
         UnarmouredSource {
             text,
             reader: ArmourReader::new(pieces),
             given: 0,
             faults: 0,
+            came: SeenBytes::new(),
+            ended: false,
         }
     }
 
@@ -105,6 +116,8 @@ impl<'a, S: Source> UnarmouredSource<'a, S> {
             → 1 ≤ length (pending self.new.reader)) }
         ensures spent { OnErr result (self.old.faults ≡ 0 → gives self.new.reader [] ≡ 0) }
         ensures given { self.new.given ≡ self.old.given }
+        ensures came { self.new.came.bytes ≡ self.old.came.bytes }
+        ensures ended { self.new.ended ≡ self.old.ended }
         ensures cause { HasCause self.old.faults self.new.faults result }
     {
         if self.faults > 0 {
@@ -137,6 +150,8 @@ impl<'a, S: Source> UnarmouredSource<'a, S> {
             (Rose (S.state self.old.text.now).faults (S.state self.new.text.now).faults) }
         ensures spent { OnErr result (gives self.new.reader [] ≡ 0) }
         ensures given { self.new.given ≡ self.old.given }
+        ensures came { self.new.came.bytes ≡ self.old.came.bytes }
+        ensures ended { self.new.ended ≡ self.old.ended }
         ensures faults { self.new.faults ≡ self.old.faults }
     {
         while self.reader.wants_text() {
@@ -150,7 +165,8 @@ impl<'a, S: Source> UnarmouredSource<'a, S> {
 }
 
 /// Between two moments it is the same text, of which more was taken: a last piece of it only for a
-/// byte that was handed on, or since all bytes that the text gave were.
+/// byte that was handed on, or since all bytes that the text gave were. Those bytes came from here
+/// that the text gives which came from its source, whether that tells what is left or not.
 impl<'a, S: Source> Source for UnarmouredSource<'a, S> {
     ghost use Rattle.armour_core.specs.ReaderOutlook.{Outlasts, reader_outlook};
     ghost use Rattle.armour_core.specs.ReaderLaws.{outlasts_more, outlasts_none};
@@ -159,12 +175,15 @@ impl<'a, S: Source> Source for UnarmouredSource<'a, S> {
       left = option_map (λ text. (reader_outlook s.reader text).bytes) (S.state s.text.now).left;
       given = s.given;
       faults = s.faults;
+      came = s.came.bytes;
+      ended = s.ended;
     } };
 
     ghost lasts = { λ old new. (new.text.ghost_name ≡ old.text.ghost_name)
         × S.lasts old.text.now new.text.now
         × Outlasts (S.state old.text.now) (S.state new.text.now) old.reader new.reader
-        old.given new.given old.faults new.faults };
+        old.given new.given old.faults new.faults old.came.bytes new.came.bytes
+        old.ended new.ended };
 
     fn read(&mut self, out: &mut [u8]) -> Result<usize, Failed> {
         if out.is_empty() {
@@ -176,13 +195,15 @@ impl<'a, S: Source> Source for UnarmouredSource<'a, S> {
         }
         let count = self.reader.fill(out);
         self.given = self.given.saturating_add(count as u64);
+        self.came.see(&out[..count]);
+        self.ended = count == 0;
         Ok(count)
     }
 
     ghost lasts_none = { λ s. (
       refl,
       S.lasts_none s.text.now,
-      outlasts_none (S.state s.text.now) s.reader s.given s.faults s.few,
+      outlasts_none (S.state s.text.now) s.reader s.given s.faults s.came.bytes s.ended s.few,
     ) };
 
     ghost lasts_more = { λ r s t first second. (
@@ -190,6 +211,6 @@ impl<'a, S: Source> Source for UnarmouredSource<'a, S> {
       S.lasts_more r.text.now s.text.now t.text.now first.1 second.1,
       outlasts_more (S.state r.text.now) (S.state s.text.now) (S.state t.text.now)
           r.reader s.reader t.reader r.given s.given t.given r.faults s.faults t.faults
-          first.2 second.2,
+          r.came.bytes s.came.bytes t.came.bytes r.ended s.ended t.ended first.2 second.2,
     ) };
 }

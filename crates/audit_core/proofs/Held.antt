@@ -31,11 +31,11 @@ use Rattle.audit_core.proofs.Told.{before_of, after_of, later_all, names_what_op
 
 -- ---- one message
 
-abbrev held_message : List ℕ → List KeyValue → Message
+abbrev pub held_message : List ℕ → List KeyValue → Message
 held_message bytes given = record { bytes = bytes; given = given }
 
 -- its bytes begin with this header
-audited_begins : (leaves : List (List WrapKeyValue)) (told : List ℕ) (given : List KeyValue) (h : HeaderValue) (end : Place) → BeginsWith no_limits told h end
+pub audited_begins : (leaves : List (List WrapKeyValue)) (told : List ℕ) (given : List KeyValue) (h : HeaderValue) (end : Place) → BeginsWith no_limits told h end
     → audited leaves (held_message told given) ≡ audited_header leaves h given
 unfolding audited
 audited_begins leaves told given h end begins =
@@ -50,12 +50,12 @@ held_header leaves old new name told given h has holds =
     audited_begins leaves told given h (followed has.end rest)
     (subst (λ (b : List ℕ). BeginsWith no_limits b h (followed has.end rest)) (sym (has.reads.read.front told holds)) (BeginsWith-append no_limits has.bytes rest h has.end has.begins))
 
-audited_refused : (leaves : List (List WrapKeyValue)) (told : List ℕ) (given : List KeyValue) (fault : faults.Fault) (at : ℕ) → header no_limits (start told) ≡ Refused fault at
+pub audited_refused : (leaves : List (List WrapKeyValue)) (told : List ℕ) (given : List KeyValue) (fault : faults.Fault) (at : ℕ) → header no_limits (start told) ≡ Refused fault at
     → audited leaves (held_message told given) ≡ Fault fault
 unfolding audited
 audited_refused leaves told given fault at refused = ap (audited_reading leaves (held_message told given)) refused
 
-audited_wanting : (leaves : List (List WrapKeyValue)) (told : List ℕ) (given : List KeyValue) → header no_limits (start told) ≡ Wanting → audited leaves (held_message told given) ≡ Fault Truncated
+pub audited_wanting : (leaves : List (List WrapKeyValue)) (told : List ℕ) (given : List KeyValue) → header no_limits (start told) ≡ Wanting → audited leaves (held_message told given) ≡ Fault Truncated
 unfolding audited
 audited_wanting leaves told given wanting = ap (audited_reading leaves (held_message told given)) wanting
 
@@ -94,7 +94,7 @@ same_told c h (a ∷ answers) are =
     cc
 
 -- What a message's leaves keep: what they tell, and counts of faults that don't fall.
-record LeavesKeep (before after : List KeyringMeaning) : Type 0 where
+pub record LeavesKeep (before after : List KeyringMeaning) : Type 0 where
   pub told : told_by after ≡ told_by before
   pub later : all_faults before ≤ all_faults after
 
@@ -107,7 +107,7 @@ named_keep before after h given numbers names = record {
 same_keep : (before after : List KeyringMeaning) → after ≡ before → LeavesKeep before after
 same_keep before after same = record { told = ap told_by same; later = omega (arith, ap all_faults same) }
 
-found_keep : (old new : ShelfState) (before after : List KeyringMeaning) (m : AuditMessage) (x : Audited) → FindsOf old new before after m x → LeavesKeep before after
+pub found_keep : (old new : ShelfState) (before after : List KeyringMeaning) (m : AuditMessage) (x : Audited) → FindsOf old new before after m x → LeavesKeep before after
 found_keep old new before after m (OpenedBy numbers) found = named_keep before after found.header m.given numbers found.names
 found_keep old new before after m (Fault fault) found = same_keep before after found.1
 

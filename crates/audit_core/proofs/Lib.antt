@@ -3,6 +3,7 @@ pub mod Trying
 pub mod Told
 pub mod Unlocked
 pub mod Needed
+pub mod Came
 pub mod Deleting
 pub mod Rows
 pub mod Taking

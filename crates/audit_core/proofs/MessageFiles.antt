@@ -14,6 +14,7 @@ use Rattle.esdk_base.specs.Streams.{FailsToRead, ShelfState, SourceState}
 use Rattle.header_codec.specs.Header.{HeaderValue}
 use Rattle.header_codec.specs.Table.{header, opening}
 use Rattle.header_input.specs.Taking.{EndCame, FaultCame, IsTooLong, ReadFailed}
+use Rattle.whole_input.specs.FileReads.{ComesFrom, ReadsRow, SeesEnd}
 use Rattle.whole_input.specs.FileSource.{ReadsOn, file_left, left_from}
 use Rattle.whole_input.specs.Taken.{Came}
 use Rattle.esdk_report.specs.declared.failure.Failure.{Failure}
@@ -22,9 +23,10 @@ use Rattle.audit_core.specs.Messages.{no_limits}
 use Rattle.audit_core.specs.MessageFiles.{FindsHeader, FindsNoHeader, HasHeaderFault, HasHeader, IsCut, IsEndless, HeaderUnread, ReadsWell, ReadsFront}
 use Rattle.audit_core.specs.Taking.{HeaderCame, TakesHeader, TakesNone}
 
--- the source of a file that came so far and failed so often
-abbrev pub source_at : ShelfState → List ℕ → ℕ → ℕ → SourceState
-source_at s name at count = record { left = file_left s.files name at; given = at; faults = count }
+-- the source of a file that came so far and failed so often, and what came from it
+abbrev pub source_at : ShelfState → List ℕ → ℕ → ℕ → List ℕ → Bool → SourceState
+source_at s name at count came ended =
+    record { left = file_left s.files name at; given = at; faults = count; came = came; ended = ended }
 
 -- ---- what is told
 
@@ -57,20 +59,21 @@ whole_told (Some held) (Some rest) front told consumed end is =
 
 -- ---- what was read
 
-module _ (old new : ShelfState) (name : List ℕ) (at count : ℕ) (on : ReadsOn old new name 0 at 0 count) where
-  reads_front : (taken : List ℕ) → Came (source_at old name 0 0) (source_at new name at count) taken → ReadsFront old new name taken
-  reads_front taken came = record {
-    front = λ told holds. front_told (file_left old.files name 0) (file_left new.files name at) taken told came.consumed (left_held old.files name told holds);
-    given = omega (arith, on.given, came.most);
+module _ (old new : ShelfState) (name : List ℕ) (at count : ℕ) (came : List ℕ) (ended : Bool) (on : ReadsOn old new name 0 at 0 count) (comes : ComesFrom name 0 at old.calls new.calls [] came false ended) where
+  reads_front : (taken : List ℕ) → Came (source_at old name 0 0 [] false) (source_at new name at count came ended) taken → ReadsFront old new name taken
+  reads_front taken is = record {
+    came = subst (ReadsRow name 0 old.calls new.calls) (sym comes.more ∙ is.told) comes.row;
+    front = λ told holds. front_told (file_left old.files name 0) (file_left new.files name at) taken told is.consumed (left_held old.files name told holds);
+    given = omega (arith, on.given, is.most);
     files = on.files;
   }
 
   -- a missing file gives nothing
-  none_given : (taken : List ℕ) → Came (source_at old name 0 0) (source_at new name at count) taken → is_missing old.files name ≡ true → length taken ≡ 0
-  none_given taken came missing = omega (arith, (on.absent missing).0, came.given)
+  none_given : (taken : List ℕ) → Came (source_at old name 0 0 [] false) (source_at new name at count came ended) taken → is_missing old.files name ≡ true → length taken ≡ 0
+  none_given taken is missing = omega (arith, (on.absent missing).0, is.given)
 
-  reads : (taken : List ℕ) → Came (source_at old name 0 0) (source_at new name at count) taken → count ≡ 0 → is_missing old.files name ≡ false → ReadsWell old new name taken
-  reads taken came none there = record { read = reads_front taken came; there = there; faults = on.same none (omega (arith, none)) }
+  reads : (taken : List ℕ) → Came (source_at old name 0 0 [] false) (source_at new name at count came ended) taken → count ≡ 0 → is_missing old.files name ≡ false → ReadsWell old new name taken
+  reads taken is none there = record { read = reads_front taken is; there = there; faults = on.same none (omega (arith, none)) }
 
 empty_wanting : header no_limits (start []) ≡ Wanting
 unfolding header opening
@@ -90,22 +93,22 @@ unless_missing : (missing : Bool) → (missing ≡ true → ⊥) → missing ≡
 unless_missing true never = absurd (never refl)
 unless_missing false never = refl
 
-module _ (old new : ShelfState) (name : List ℕ) (at count : ℕ) (on : ReadsOn old new name 0 at 0 count) where
-  came_header : (h : HeaderValue) → HeaderCame h (source_at old name 0 0) (source_at new name at count) → HasHeader old new name h
-  came_header h came =
+module _ (old new : ShelfState) (name : List ℕ) (at count : ℕ) (came : List ℕ) (ended : Bool) (on : ReadsOn old new name 0 at 0 count) (comes : ComesFrom name 0 at old.calls new.calls [] came false ended) where
+  came_header : (h : HeaderValue) → HeaderCame h (source_at old name 0 0 [] false) (source_at new name at count came ended) → HasHeader old new name h
+  came_header h found =
       let there = unless_missing (is_missing old.files name) (λ missing.
-      (let wanting = read_none came.bytes (none_given old new name at count on came.bytes came.came missing) in
-      let read = came.begins.read in
+      (let wanting = read_none found.bytes (none_given old new name at count came ended on comes found.bytes found.came missing) in
+      let read = found.begins.read in
       cc)) in
-      record { bytes = came.bytes; end = came.end; reads = reads old new name at count on came.bytes came.came came.faults there; begins = came.begins; few = came.few }
+      record { bytes = found.bytes; end = found.end; reads = reads old new name at count came ended on comes found.bytes found.came found.faults there; begins = found.begins; few = found.few }
 
-  came_fault : (fault : Fault) → FaultCame no_limits fault (source_at old name 0 0) (source_at new name at count) → HasHeaderFault old new name fault
-  came_fault fault came =
+  came_fault : (fault : Fault) → FaultCame no_limits fault (source_at old name 0 0 [] false) (source_at new name at count came ended) → HasHeaderFault old new name fault
+  came_fault fault found =
       let there = unless_missing (is_missing old.files name) (λ missing.
-      (let wanting = read_none came.bytes (none_given old new name at count on came.bytes came.came missing) in
-      let refused = came.refused in
+      (let wanting = read_none found.bytes (none_given old new name at count came ended on comes found.bytes found.came missing) in
+      let refused = found.refused in
       cc)) in
-      record { bytes = came.bytes; at = came.at; reads = reads old new name at count on came.bytes came.came came.faults there; refused = came.refused; few = came.few }
+      record { bytes = found.bytes; at = found.at; reads = reads old new name at count came ended on comes found.bytes found.came found.faults there; refused = found.refused; few = found.few }
 
   -- the end of a missing file isn't seen
   missing_unseen : IsAtEnd (file_left new.files name at) → is_missing old.files name ≡ true → ⊥
@@ -116,17 +119,27 @@ module _ (old new : ShelfState) (name : List ℕ) (at count : ℕ) (on : ReadsOn
       not_at_end : IsAtEnd (Some (0 ∷ [])) → ⊥
       not_at_end is = cc
 
-  came_end : EndCame no_limits (source_at old name 0 0) (source_at new name at count) → IsCut old new name
-  came_end came =
-      let there = unless_missing (is_missing old.files name) (missing_unseen came.end.end) in
+  -- and where it's seen, a read gave nothing behind the bytes that came
+  sees_end : (taken : List ℕ) → came ≡ taken → ended ≡ true → SeesEnd name (length taken) old.calls new.calls
+  sees_end taken told seen =
+      let far : at ≡ length taken = omega (arith, comes.on, ap length (sym comes.more ∙ told)) in
+      elim (comes.end seen) [
+        | inl was ↦ absurd cc
+        | inr sees ↦ subst (λ (n : ℕ). SeesEnd name n old.calls new.calls) far sees
+      ]
+
+  came_end : EndCame no_limits (source_at old name 0 0 [] false) (source_at new name at count came ended) → IsCut old new name
+  came_end found =
+      let there = unless_missing (is_missing old.files name) (missing_unseen found.end.end) in
       record {
-        bytes = came.bytes;
-        reads = reads old new name at count on came.bytes came.came came.end.faults there;
-        whole = λ told holds. whole_told (file_left old.files name 0) (file_left new.files name at) came.bytes told came.came.consumed came.end.end (left_held old.files name told holds);
-        wanting = came.wanting;
+        bytes = found.bytes;
+        reads = reads old new name at count came ended on comes found.bytes found.came found.end.faults there;
+        end = sees_end found.bytes found.came.told found.end.seen;
+        whole = λ told holds. whole_told (file_left old.files name 0) (file_left new.files name at) found.bytes told found.came.consumed found.end.end (left_held old.files name told holds);
+        wanting = found.wanting;
       }
 
-  takes_header : (taken : Result HeaderValue Fault) → TakesHeader (source_at old name 0 0) (source_at new name at count) taken → FindsHeader old new name taken
+  takes_header : (taken : Result HeaderValue Fault) → TakesHeader (source_at old name 0 0 [] false) (source_at new name at count came ended) taken → FindsHeader old new name taken
   takes_header (Ok h) came = came_header h came
   takes_header (Err fault) (inl came) = inl (came_fault fault came)
   takes_header (Err fault) (inr came) = inr (came.0, came_end came.1)
@@ -136,19 +149,19 @@ module _ (old new : ShelfState) (name : List ℕ) (at count : ℕ) (on : ReadsOn
   read_failed true is rose few = inr (is, (on.absent is).1)
   read_failed false is rose few = inl (on.failed (omega (arith, rose)) (omega (arith, few)) is)
 
-  came_unread : ReadFailed no_limits (source_at old name 0 0) (source_at new name at count) → at ≤ 2 ^ 62 → HeaderUnread old new name
-  came_unread came few = record {
-    bytes = came.bytes;
-    read = reads_front old new name at count on came.bytes came.came;
-    wanting = came.wanting;
-    cause = read_failed (is_missing old.files name) refl came.rose few;
+  came_unread : ReadFailed no_limits (source_at old name 0 0 [] false) (source_at new name at count came ended) → at ≤ 2 ^ 62 → HeaderUnread old new name
+  came_unread found few = record {
+    bytes = found.bytes;
+    read = reads_front old new name at count came ended on comes found.bytes found.came;
+    wanting = found.wanting;
+    cause = read_failed (is_missing old.files name) refl found.rose few;
   }
 
-  came_endless : IsTooLong no_limits (source_at old name 0 0) (source_at new name at count) → IsEndless old new name
-  came_endless came =
-      record { bytes = came.bytes; read = reads_front old new name at count on came.bytes came.came; wanting = came.wanting; count = came.most.count }
+  came_endless : IsTooLong no_limits (source_at old name 0 0 [] false) (source_at new name at count came ended) → IsEndless old new name
+  came_endless found =
+      record { bytes = found.bytes; read = reads_front old new name at count came ended on comes found.bytes found.came; wanting = found.wanting; count = found.most.count }
 
-  takes_none : (failure : Failure) → at ≤ 2 ^ 62 → TakesNone (source_at old name 0 0) (source_at new name at count) failure → FindsNoHeader old new name failure
+  takes_none : (failure : Failure) → at ≤ 2 ^ 62 → TakesNone (source_at old name 0 0 [] false) (source_at new name at count came ended) failure → FindsNoHeader old new name failure
   takes_none (failures.Outside outsides.ShelfFault) few came = came_unread came few
   takes_none (failures.Outside outsides.InputTooLong) few came = came_endless came
   takes_none failures.Memory few came = tt
@@ -163,41 +176,50 @@ module _ (old new : ShelfState) (name : List ℕ) (at count : ℕ) (on : ReadsOn
 -- ---- the source begins at the front of the file
 
 -- What is known of a source over a shelf once a header was taken from it.
-pub record IsSource (old mid : ShelfState) (name first_name last_name : List ℕ) (first : ShelfState) (begun at before count : ℕ) : Type 0 where
+pub record IsSource (old mid : ShelfState) (name first_name last_name : List ℕ) (first : ShelfState) (begun at before count : ℕ) (begun_came came : List ℕ) (begun_ended ended : Bool) : Type 0 where
   pub same : first ≡ old
   pub named : first_name ≡ name
   pub still : last_name ≡ first_name
   pub zero_at : begun ≡ 0
   pub zero_faults : before ≡ 0
+  pub nothing : begun_came ≡ []
+  pub unseen : begun_ended ≡ false
   pub on : ReadsOn first mid first_name begun at before count
+  pub comes : ComesFrom first_name begun at first.calls mid.calls begun_came came begun_ended ended
   pub few : at ≤ begun + 2 ^ 62
 
 -- what is so of it is so of the file from its front on
-module _ (old mid : ShelfState) (name first_name last_name : List ℕ) (first : ShelfState) (begun at before count : ℕ) (is : IsSource old mid name first_name last_name first begun at before count) where
-  of_front : (So : ShelfState → List ℕ → List ℕ → ℕ → ℕ → Type 0) → So first first_name last_name begun before → So old name name 0 0
+module _ (old mid : ShelfState) (name first_name last_name : List ℕ) (first : ShelfState) (begun at before count : ℕ) (begun_came came : List ℕ) (begun_ended ended : Bool) (is : IsSource old mid name first_name last_name first begun at before count begun_came came begun_ended ended) where
+  of_front : (So : ShelfState → List ℕ → List ℕ → ℕ → ℕ → List ℕ → Bool → Type 0) → So first first_name last_name begun before begun_came begun_ended → So old name name 0 0 [] false
   of_front So is_so =
-      subst (λ (b : ℕ). So old name name 0 b) is.zero_faults
-      (subst (λ (b : ℕ). So old name name b before) is.zero_at
-      (subst (λ (n : List ℕ). So old name n begun before) (is.still ∙ is.named)
-      (subst (λ (n : List ℕ). So old n last_name begun before) is.named (subst (λ (s : ShelfState). So s first_name last_name begun before) is.same is_so))))
+      subst (λ (e : Bool). So old name name 0 0 [] e) is.unseen
+      (subst (λ (c : List ℕ). So old name name 0 0 c begun_ended) is.nothing
+      (subst (λ (b : ℕ). So old name name 0 b begun_came begun_ended) is.zero_faults
+      (subst (λ (b : ℕ). So old name name b before begun_came begun_ended) is.zero_at
+      (subst (λ (n : List ℕ). So old name n begun before begun_came begun_ended) (is.still ∙ is.named)
+      (subst (λ (n : List ℕ). So old n last_name begun before begun_came begun_ended) is.named
+      (subst (λ (s : ShelfState). So s first_name last_name begun before begun_came begun_ended) is.same is_so))))))
 
   on_front : ReadsOn old mid name 0 at 0 count
-  on_front = of_front (λ s n l b f. ReadsOn s mid n b at f count) is.on
+  on_front = of_front (λ s n l b f c e. ReadsOn s mid n b at f count) is.on
 
-pub header_found : (old mid new : ShelfState) (name first_name last_name : List ℕ) (first : ShelfState) (begun at before count : ℕ) (r : Result (Result HeaderValue Fault) Failure) → new ≡ mid
-    → IsSource old mid name first_name last_name first begun at before count
-    → IfOk r (TakesHeader (source_at first first_name begun before) (source_at mid last_name at count)) → IfOk r (FindsHeader old new name)
-header_found old mid new name first_name last_name first begun at before count (Err failure) end is takes = tt
-header_found old mid new name first_name last_name first begun at before count (Ok taken) end is takes =
+  comes_front : ComesFrom name 0 at old.calls mid.calls [] came false ended
+  comes_front = of_front (λ s n l b f c e. ComesFrom n b at s.calls mid.calls c came e ended) is.comes
+
+pub header_found : (old mid new : ShelfState) (name first_name last_name : List ℕ) (first : ShelfState) (begun at before count : ℕ) (begun_came came : List ℕ) (begun_ended ended : Bool) (r : Result (Result HeaderValue Fault) Failure) → new ≡ mid
+    → IsSource old mid name first_name last_name first begun at before count begun_came came begun_ended ended
+    → IfOk r (TakesHeader (source_at first first_name begun before begun_came begun_ended) (source_at mid last_name at count came ended)) → IfOk r (FindsHeader old new name)
+header_found old mid new name first_name last_name first begun at before count begun_came came begun_ended ended (Err failure) end is takes = tt
+header_found old mid new name first_name last_name first begun at before count begun_came came begun_ended ended (Ok taken) end is takes =
     subst (λ (s : ShelfState). FindsHeader old s name taken) (sym end)
-    (takes_header old mid name at count (on_front old mid name first_name last_name first begun at before count is) taken
-    (of_front old mid name first_name last_name first begun at before count is (λ s n l b f. TakesHeader (source_at s n b f) (source_at mid l at count) taken) takes))
+    (takes_header old mid name at count came ended (on_front old mid name first_name last_name first begun at before count begun_came came begun_ended ended is) (comes_front old mid name first_name last_name first begun at before count begun_came came begun_ended ended is) taken
+    (of_front old mid name first_name last_name first begun at before count begun_came came begun_ended ended is (λ s n l b f c e. TakesHeader (source_at s n b f c e) (source_at mid l at count came ended) taken) takes))
 
-pub header_not_found : (old mid new : ShelfState) (name first_name last_name : List ℕ) (first : ShelfState) (begun at before count : ℕ) (r : Result (Result HeaderValue Fault) Failure) → new ≡ mid
-    → IsSource old mid name first_name last_name first begun at before count
-    → IfErr r (TakesNone (source_at first first_name begun before) (source_at mid last_name at count)) → IfErr r (FindsNoHeader old new name)
-header_not_found old mid new name first_name last_name first begun at before count (Ok taken) end is takes = tt
-header_not_found old mid new name first_name last_name first begun at before count (Err failure) end is takes =
+pub header_not_found : (old mid new : ShelfState) (name first_name last_name : List ℕ) (first : ShelfState) (begun at before count : ℕ) (begun_came came : List ℕ) (begun_ended ended : Bool) (r : Result (Result HeaderValue Fault) Failure) → new ≡ mid
+    → IsSource old mid name first_name last_name first begun at before count begun_came came begun_ended ended
+    → IfErr r (TakesNone (source_at first first_name begun before begun_came begun_ended) (source_at mid last_name at count came ended)) → IfErr r (FindsNoHeader old new name)
+header_not_found old mid new name first_name last_name first begun at before count begun_came came begun_ended ended (Ok taken) end is takes = tt
+header_not_found old mid new name first_name last_name first begun at before count begun_came came begun_ended ended (Err failure) end is takes =
     subst (λ (s : ShelfState). FindsNoHeader old s name failure) (sym end)
-    (takes_none old mid name at count (on_front old mid name first_name last_name first begun at before count is) failure (omega (arith, is.few, is.zero_at))
-    (of_front old mid name first_name last_name first begun at before count is (λ s n l b f. TakesNone (source_at s n b f) (source_at mid l at count) failure) takes))
+    (takes_none old mid name at count came ended (on_front old mid name first_name last_name first begun at before count begun_came came begun_ended ended is) (comes_front old mid name first_name last_name first begun at before count begun_came came begun_ended ended is) failure (omega (arith, is.few, is.zero_at))
+    (of_front old mid name first_name last_name first begun at before count begun_came came begun_ended ended is (λ s n l b f c e. TakesNone (source_at s n b f c e) (source_at mid l at count came ended) failure) takes))

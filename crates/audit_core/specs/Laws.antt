@@ -14,7 +14,7 @@ use Rattle.multi_keyring.specs.Tree.{all_faults}
 use Rattle.audit_core.specs.declared.audited.Audited.{Audited}
 use Rattle.audit_core.specs.declared.audited.Audited.TheVariants.{OpenedBy, Fault}
 use Rattle.audit_core.specs.Asking.{NamesOpeners}
-use Rattle.audit_core.specs.MessageFiles.{AreHeld, FindsEach}
+use Rattle.audit_core.specs.MessageFiles.{AreHeld, FindsEach, HaveCome}
 use Rattle.audit_core.specs.Messages.{Message, audited, no_limits}
 use Rattle.audit_core.specs.Openers.{needed_for, openers}
 
@@ -106,3 +106,20 @@ FindsWhatIsHeld =
     → FindsEach old new before after messages found → AreHeld old.files messages held
     → told_by before ≡ Some leaves → Stayed (all_faults before) (all_faults after)
     → found ≡ map (audited leaves) held
+
+-- These messages came from the shelf, and that was found which their bytes say.
+pub record FindsOfWhatCame (old new : ShelfState) (messages : List AuditMessage)
+    (found : List Audited) (leaves : List (List WrapKeyValue)) : Type 0 where
+  pub came : List Message
+  pub have : HaveCome old.calls new.calls messages came
+  pub are : found ≡ map (audited leaves) came
+
+-- Where the leaves tell their wrapping keys and none of them failed, of each message that is found
+-- which the bytes say that the shelf gave of its file, whatever becomes of the file meanwhile.
+abbrev pub FindsWhatCame : Type 0
+FindsWhatCame =
+    (old new : ShelfState) (before after : List KeyringMeaning) (messages : List AuditMessage)
+    (found : List Audited) (leaves : List (List WrapKeyValue))
+    → FindsEach old new before after messages found → told_by before ≡ Some leaves
+    → Stayed (all_faults before) (all_faults after)
+    → FindsOfWhatCame old new messages found leaves

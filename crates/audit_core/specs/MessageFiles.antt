@@ -9,6 +9,7 @@ use Rattle.esdk_fields.specs.declared.faults.Fault.TheVariants.{Truncated}
 use Rattle.esdk_fields.specs.declared.refusals.Outside.TheVariants as outsides
 use Rattle.esdk_fields.specs.Place.{Place, start}
 use Rattle.esdk_fields.specs.Reading.{Refused, Wanting}
+use Rattle.esdk_seen.specs.Calls.{ShelfCall}
 use Rattle.esdk_base.specs.Shelf.{Files, Holds, is_missing}
 use Rattle.esdk_base.specs.Streams.{FailsToRead, ShelfState}
 use Rattle.header_codec.specs.Header.{HeaderValue}
@@ -17,6 +18,7 @@ use Rattle.keyring_trait.specs.Keyring.{KeyringMeaning}
 use Rattle.keyring_trait.specs.Unlocking.{pair_offence}
 use Rattle.multi_keyring.specs.Tree.{all_faults}
 use Rattle.whole_input.specs.File.{IsFront}
+use Rattle.whole_input.specs.FileReads.{ReadsRow, SeesEnd}
 use Rattle.whole_input.specs.Pieces.{most_piece}
 use Rattle.job_file.specs.declared.audit.AuditMessage.{AuditMessage}
 use Rattle.esdk_report.specs.declared.failure.Failure.{Failure}
@@ -28,9 +30,10 @@ use Rattle.audit_core.specs.Messages.{Message, no_limits}
 
 -- ---- the header in a file
 
--- These bytes stand at the front of the file, where the shelf tells, and no more were given; the
--- files of the shelf stayed.
+-- These bytes are what the calls between gave, which read the file in a row from its front. They
+-- stand there, where the shelf tells, and no more were given; the files of the shelf stayed.
 pub record ReadsFront (old new : ShelfState) (name bytes : List ℕ) : Type 0 where
+  pub came : ReadsRow name 0 old.calls new.calls bytes
   pub front : IsFront old.files name bytes
   pub given : new.given ≤ old.given + length bytes
   pub files : new.files ≡ old.files
@@ -59,10 +62,11 @@ pub record HasHeaderFault (old new : ShelfState) (name : List ℕ) (fault : faul
   pub refused : header no_limits (start bytes) ≡ Refused fault at
   pub few : length bytes < at + most_piece
 
--- The whole file was read, and its header isn't whole.
+-- The whole file was read, since a read gave nothing at its end, and its header isn't whole.
 pub record IsCut (old new : ShelfState) (name : List ℕ) : Type 0 where
   pub bytes : List ℕ
   pub reads : ReadsWell old new name bytes
+  pub end : SeesEnd name (length bytes) old.calls new.calls
   pub whole : (told : List ℕ) → Holds old.files name told → told ≡ bytes
   pub wanting : header no_limits (start bytes) ≡ Wanting
 
@@ -181,3 +185,25 @@ AreHeld files [] (h ∷ hs) = ⊥
 AreHeld files (m ∷ ms) [] = ⊥
 AreHeld files (m ∷ ms) (h ∷ hs) =
     Holds files m.from h.bytes × (h.given ≡ m.given) × AreHeld files ms hs
+
+-- ---- bytes that came
+
+-- The calls of the shelf read the file of this message in a row from its front, and these bytes are
+-- what they gave; where these are the beginning of a header, a read gave nothing behind them. So it
+-- is of the others, behind it.
+pub record FirstCame (old : List ShelfCall) (m : AuditMessage) (h : Message)
+    (Others : List ShelfCall → Type 0) : Type 0 where
+  pub between : List ShelfCall
+  pub row : ReadsRow m.from 0 old between h.bytes
+  pub end : header no_limits (start h.bytes) ≡ Wanting
+      → SeesEnd m.from (length h.bytes) old between
+  pub given : h.given ≡ m.given
+  pub others : Others between
+
+-- The calls between read the files of these messages, one behind another, and nothing else. These
+-- bytes came from them.
+abbrev pub HaveCome : List ShelfCall → List ShelfCall → List AuditMessage → List Message → Type 0
+HaveCome old new [] [] = new ≡ old
+HaveCome old new [] (h ∷ hs) = ⊥
+HaveCome old new (m ∷ ms) [] = ⊥
+HaveCome old new (m ∷ ms) (h ∷ hs) = FirstCame old m h (λ between. HaveCome between new ms hs)

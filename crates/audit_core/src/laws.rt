@@ -1,6 +1,6 @@
 //! Laws about openers. A law is a function that does nothing: its contract is what is proved.
 
-ghost use Rattle.audit_core.specs.Laws.{FindsWhatIsHeld, LeavesOpeners, NamesWhatOpens};
+ghost use Rattle.audit_core.specs.Laws.{FindsWhatCame, FindsWhatIsHeld, LeavesOpeners, NamesWhatOpens};
 ghost use Rattle.audit_core.specs.Laws.{OpenersUnlock, OpensWithout};
 
 /// A leaf stands in a message's line exactly where it unlocks the message by itself.
@@ -29,4 +29,10 @@ pub fn what_opens_is_named()
 /// which the files' bytes say.
 pub fn what_is_held_is_found()
     ensures { FindsWhatIsHeld }
+{}
+
+/// Of messages whose files were read from any shelf, and leaves that tell their wrapping keys, that
+/// is found which the bytes say that the shelf gave.
+pub fn what_came_is_found()
+    ensures { FindsWhatCame }
 {}

@@ -20,7 +20,7 @@ pub use audited::{Audited, Openers, all_opened};
 pub use errors::AuditError;
 pub use laws::{
     openers_unlock_by_themselves, trees_open_without_a_needless_leaf,
-    unneeded_leaves_leave_openers, what_is_held_is_found, what_opens_is_named,
+    unneeded_leaves_leave_openers, what_came_is_found, what_is_held_is_found, what_opens_is_named,
 };
 pub use lines::audit_text;
 pub use messages::audit_messages;

@@ -1,5 +1,5 @@
 -- What a step says of an input, said of bytes that are all known.
-use Rattle.std.proofs.Common.{◌≡◌, ◌∙◌, ◌⊎◌, ℕ, List, [], ◌++◌, length, Some, inl, inr, refl, sym, ap, subst, arith, append_assoc, append-nil}
+use Rattle.std.proofs.Common.{◌≡◌, ◌∙◌, ◌⊎◌, ℕ, List, [], ◌++◌, length, Some, false, true, inl, inr, refl, sym, ap, subst, arith, append_assoc, append-nil}
 use Rattle.esdk_fields.specs.declared.faults.Fault.{Fault}
 use Rattle.esdk_fields.specs.declared.refusals.Outside.TheVariants as outsides
 use Rattle.esdk_fields.specs.declared.refusals.Refusal.{Refusal}
@@ -41,14 +41,14 @@ use Rattle.callers.specs.Resealing.{ResealerFails, HasFault, IsWholeAnd, OpensAn
 
 -- an input that tells these bytes
 abbrev pub told : List ℕ → SourceState
-told bytes = record { left = Some bytes; given = 0; faults = 0 }
+told bytes = record { left = Some bytes; given = 0; faults = 0; came = []; ended = false }
 
 -- and what it is once the first of them came
 abbrev pub left : List ℕ → List ℕ → SourceState
-left taken more = record { left = Some more; given = length taken; faults = 0 }
+left taken more = record { left = Some more; given = length taken; faults = 0; came = taken; ended = true }
 
 pub came_so : (taken more : List ℕ) → Came (told (taken ++ more)) (left taken more) taken
-came_so taken more = record { consumed = refl; given = omega arith; most = omega arith }
+came_so taken more = record { told = refl; consumed = refl; given = omega arith; most = omega arith }
 
 -- ---- what is answered to the header, when more follows
 

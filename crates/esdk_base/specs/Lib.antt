@@ -5,3 +5,4 @@ pub mod ReceiverLaws
 pub mod Shelf
 pub mod Sink
 pub mod Streams
+pub mod Told

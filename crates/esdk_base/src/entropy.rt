@@ -2,6 +2,7 @@
 
 ghost use Rattle.esdk_fields.specs.Counts.{HasCause};
 ghost use Rattle.esdk_base.specs.Entropy.{FillConsumes};
+ghost use Rattle.esdk_base.specs.Told.{FillDraws};
 
 use crate::Failed;
 
@@ -10,8 +11,8 @@ use crate::Failed;
 pub trait Entropy {
     ghost use Rattle.esdk_base.specs.Streams.{EntropyState};
 
-    /// The bytes to come, where the entropy tells them; and how often it failed so far, at most
-    /// 2^64 - 1.
+    /// The bytes to come, where the entropy tells them; how often it failed so far, at most
+    /// 2^64 - 1; and the bytes that were drawn from it so far.
     ghost state: { Self → EntropyState };
 
     /// Fills all of `out` with the first of the bytes to come, and takes them away. After `Failed`
@@ -19,5 +20,6 @@ pub trait Entropy {
     fn fill(&mut self, out: &mut [u8]) -> Result<(), Failed>
         ensures bytes { FillConsumes (state self.old).to_come
             (state self.new).to_come result out.new }
-        ensures cause { HasCause (state self.old).faults (state self.new).faults result };
+        ensures cause { HasCause (state self.old).faults (state self.new).faults result }
+        ensures drawn { FillDraws (state self.old).drawn (state self.new).drawn result out.new };
 }

@@ -24,4 +24,4 @@ pub use entropy::Entropy;
 pub use receiver::{FeedError, Receiver};
 pub use shelf::{Readers, Shelf};
 pub use sink::Sink;
-pub use source::{Failed, Source};
+pub use source::{Failed, Source, sees_end};

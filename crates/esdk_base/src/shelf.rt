@@ -3,6 +3,8 @@
 ghost use Rattle.std.specs.Prelude.{◌≡◌};
 ghost use Rattle.std.specs.Io.{ReadsAtMost};
 ghost use Rattle.esdk_fields.specs.Counts.{CountsGiven, HasCause};
+ghost use Rattle.esdk_seen.specs.Calls.{creates, finishes};
+ghost use Rattle.esdk_base.specs.Told.{TellsAppend, TellsCall, TellsRead, whom};
 ghost use Rattle.esdk_base.specs.Shelf.{AppendsTo, Creates, EndsAt, HasCauseOrMissing, ReadsFrom, is_missing};
 
 use crate::Failed;
@@ -28,7 +30,8 @@ pub trait Shelf {
     ghost use Rattle.esdk_base.specs.Streams.{ShelfState};
 
     /// The files, where the shelf tells them; how many bytes it gave so far, and how often it
-    /// failed, each at most 2^64 - 1.
+    /// failed, each at most 2^64 - 1; and its calls so far but those of `will_read`, in their
+    /// order, with what went through them.
     ghost state: { Self → ShelfState };
 
     /// Puts bytes of the file from the offset `at` on into the front of `out`, and answers how
@@ -43,14 +46,18 @@ pub trait Shelf {
         ensures stays { (state self.new).files ≡ (state self.old).files }
         ensures given { CountsGiven (state self.old).given (state self.new).given result }
         ensures cause { HasCauseOrMissing (is_missing (state self.old).files name.now)
-            (state self.old).faults (state self.new).faults result };
+            (state self.old).faults (state self.new).faults result }
+        ensures calls { TellsRead (state self.old).calls
+            (state self.new).calls result name.now at out.new };
 
     /// Makes the name hold no bytes, whether it was there or not. After `Failed` the files are as
     /// before or as after `Ok`.
     fn create(&mut self, name: &str) -> Result<(), Failed>
         ensures bytes { Creates (state self.old).files (state self.new).files result name.now }
         ensures given { (state self.new).given ≡ (state self.old).given }
-        ensures cause { HasCause (state self.old).faults (state self.new).faults result };
+        ensures cause { HasCause (state self.old).faults (state self.new).faults result }
+        ensures calls { TellsCall (state self.old).calls
+            (state self.new).calls result (creates name.now) };
 
     /// Appends `bytes` to the file. After `Failed` a front of them, which may be empty or all, was
     /// appended, and nothing where the name isn't there.
@@ -59,7 +66,9 @@ pub trait Shelf {
             (state self.new).files result name.now bytes.now }
         ensures given { (state self.new).given ≡ (state self.old).given }
         ensures cause { HasCauseOrMissing (is_missing (state self.old).files name.now)
-            (state self.old).faults (state self.new).faults result };
+            (state self.old).faults (state self.new).faults result }
+        ensures calls { TellsAppend (state self.old).calls
+            (state self.new).calls result name.now bytes.now };
 
     /// Says that this name is going to be read, so that nothing is put in the place of what it
     /// names now. Fails only where memory runs out.
@@ -72,5 +81,7 @@ pub trait Shelf {
     fn finish(&mut self, name: &str, readers: Readers) -> Result<(), Failed>
         ensures stays { (state self.new).files ≡ (state self.old).files }
         ensures given { (state self.new).given ≡ (state self.old).given }
-        ensures cause { HasCause (state self.old).faults (state self.new).faults result };
+        ensures cause { HasCause (state self.old).faults (state self.new).faults result }
+        ensures calls { TellsCall (state self.old).calls
+            (state self.new).calls result (finishes name.now (whom readers)) };
 }

@@ -1,8 +1,10 @@
 //! Where bytes come from.
 
+ghost use Rattle.std.specs.Prelude.{◌≡◌, ◌<◌, ◌==◌};
 ghost use Rattle.std.specs.Io.{ReadsAtMost};
 ghost use Rattle.std.specs.Io.KnownBytes.{ReadConsumes};
 ghost use Rattle.esdk_fields.specs.Counts.{CountsGiven, HasCause};
+ghost use Rattle.esdk_base.specs.Told.{ReadComes, ReadSeesEnd};
 
 use std::error::Error;
 use std::fmt;
@@ -29,7 +31,8 @@ pub trait Source {
     ghost use Rattle.esdk_base.specs.Streams.{SourceState};
 
     /// The bytes left, where the source tells them; how many bytes it gave so far, and how often it
-    /// failed, each at most 2^64 - 1.
+    /// failed, each at most 2^64 - 1; the bytes that came from it so far, and whether the last read
+    /// into some room saw the end.
     ghost state: { Self → SourceState };
 
     /// What is so between a source and the same one later, whatever was read meanwhile. A source
@@ -46,6 +49,8 @@ pub trait Source {
         ensures bytes { ReadConsumes (state self.old).left (state self.new).left result out.new }
         ensures given { CountsGiven (state self.old).given (state self.new).given result }
         ensures cause { HasCause (state self.old).faults (state self.new).faults result }
+        ensures came { ReadComes (state self.old).came (state self.new).came result out.new }
+        ensures ended { ReadSeesEnd (state self.old).ended (state self.new).ended result out.new }
         ensures lasts { lasts self.old self.new };
 
     /// It lasts from each moment to the same one.
@@ -53,4 +58,13 @@ pub trait Source {
 
     /// It lasts over reads in a row.
     ghost lasts_more: { (r s t : Self) → lasts r s → lasts s t → lasts r t };
+}
+
+/// Whether a source tells that its end was seen, once a read that didn't fail gave `count` bytes
+/// into this room, in bytes. A read into no room sees nothing new.
+pub fn sees_end(before: bool, room: usize, count: usize) -> bool
+    ensures some { 0 < room → result ≡ (count == 0) }
+    ensures none { room ≡ 0 → result ≡ before }
+{
+    if room == 0 { before } else { count == 0 }
 }

@@ -33,7 +33,7 @@ well_more first old new count bytes v well next = record {
 pub well_ends : (first old new : SourceState) (count : ℕ) (bytes : List ℕ) (v : PiecesValue) (end : End) → CameWell first old count bytes → NextPiece {T = Unit {0}} count old new v (Err end)
     → Came first new bytes × InputEnds first new bytes end
 well_ends first old new count bytes v ends.Seen well next =
-    (came_still first old new bytes well.came next.0, record { end = next.1; faults = next.2 ∙ well.faults; few = omega (arith, well.size, next.3) })
+    (came_still first old new bytes well.came next.0, record { end = next.1; seen = next.5; faults = next.2 ∙ well.faults; few = omega (arith, well.size, next.3) })
 well_ends first old new count bytes v ends.Failed well next =
     (came_still first old new bytes well.came next.0, omega (arith, next.1, well.faults))
 well_ends first old new count bytes v ends.TooLong well next = (

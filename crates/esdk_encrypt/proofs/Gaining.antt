@@ -6,7 +6,7 @@ use Rattle.esdk_fields.specs.declared.refusals.Refusal.{Refusal}
 use Rattle.stream_seal.specs.Start.{message_of}
 use Rattle.esdk_encrypt.specs.Encrypt.{Encrypts, drawn_id}
 use Rattle.esdk_encrypt.specs.Gaining.{Form, Whole, gained_as}
-use Rattle.esdk_encrypt.specs.Laws.{GainsMessage}
+use Rattle.esdk_encrypt.specs.Laws.{GainsMessage, SealsWhatCame}
 use Rattle.esdk_encrypt.specs.Told.{Writer, asked_by, message_by}
 
 -- what was consumed of told bytes is their front
@@ -44,4 +44,21 @@ gains_message form writer refusal old new text before input taken output put ent
       count = drew.count;
       first = subst (λ (n : ℕ). OnTold entropy.to_come (λ coming. drawn ≡ take n coming)) drew.count (consumed_first entropy.to_come spent.to_come drawn drew.consumed);
       gained = appended_told put.written before (form Whole (message_by writer drawn text)) gained;
+    }
+
+-- what went through: the text that came is sealed with the bytes drawn
+pub seals_what_came : (form : Form) (writer : Writer) (refusal : Option Refusal) (old new : ℕ) (input taken : SourceState) (output put : SinkState) (entropy spent : EntropyState)
+    → Encrypts (asked_by writer refusal old new) input taken (gained_as form output put) entropy spent
+    → SealsWhatCame form writer input taken output put entropy spent
+seals_what_came form writer refusal old new input taken output put entropy spent encrypts =
+    let drawn : List ℕ = encrypts.drawn in
+    let writes = encrypts.writes in
+    record {
+      text = writes.text;
+      came = writes.came.told;
+      end = writes.end.seen;
+      drawn = drawn;
+      count = encrypts.started.drew.count;
+      drew = encrypts.started.drew.told;
+      gained = subst (λ m. Appends output.written put.written (form Whole (message_of m writer.size (drawn_id drawn) writes.text))) encrypts.started.given.1 writes.gained;
     }

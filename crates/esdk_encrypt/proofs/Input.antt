@@ -1,5 +1,5 @@
 -- An input that is fed to a sealer piece by piece, whose frames a receiver takes.
-use Rattle.std.proofs.Common.{◌≡◌, ◌∙◌, ℕ, ◌+◌, ◌-◌, ◌<◌, ◌≤◌, ◌^◌, List, [], ◌++◌, length, take, Some, Ok, Err, inr, inl, refl, sym, ap, subst, arith, length-append, length-take}
+use Rattle.std.proofs.Common.{◌≡◌, ◌∙◌, ℕ, ◌+◌, ◌-◌, ◌<◌, ◌≤◌, ◌^◌, List, [], ◌++◌, length, take, true, Some, Ok, Err, inr, inl, refl, sym, ap, subst, arith, length-append, length-take}
 use Rattle.std.specs.Io.KnownBytes.{IsAtEnd}
 use Rattle.esdk_base.specs.declared.receiver.FeedError.TheVariants as fed_errors
 use Rattle.esdk_base.specs.Streams.{SourceState}
@@ -67,11 +67,11 @@ module _ {R : Type 0} (takes : R → R → List ℕ → Type 0) (m : EncMaterial
       (feeding : FeedingInput takes m size id input now output mid old count) where
     -- ---- no piece came
 
-    pub input_ends : (next : SourceState) → Came now next [] → IsAtEnd next.left → next.faults ≡ now.faults → count < 2 ^ 62 → IsFedInput takes m size id input next output mid old
-    input_ends next none end faults few = record {
+    pub input_ends : (next : SourceState) → Came now next [] → IsAtEnd next.left → next.ended ≡ true → next.faults ≡ now.faults → count < 2 ^ 62 → IsFedInput takes m size id input next output mid old
+    input_ends next none end seen faults few = record {
       text = feeding.text;
       came = came_still input now next feeding.text feeding.came none;
-      end = record { end = end; faults = faults ∙ feeding.faults; few = omega (arith, few, feeding.count_is) };
+      end = record { end = end; seen = seen; faults = faults ∙ feeding.faults; few = omega (arith, few, feeding.count_is) };
       short = feeding.short;
       stands = feeding.stands;
       gained = feeding.gained;

@@ -22,7 +22,8 @@ use Rattle.esdk_encrypt.specs.declared.errors.EncryptError.{EncryptError}
 use Rattle.esdk_encrypt.specs.declared.errors.EncryptError.TheVariants as errors
 use Rattle.esdk_encrypt.specs.Gaining.{Front, Gaining, Whole}
 
--- how many bytes are drawn: 32 of message id, 32 of data key, and 12 of IV for each wrap of the data key
+-- how many bytes are drawn: 32 of message id, 32 of data key, and 12 of IV for each wrap of the
+-- data key
 abbrev pub draws : ℕ → ℕ
 draws wraps = 64 + 12 * wraps
 
@@ -33,8 +34,10 @@ drawn_id drawn = take 32 drawn
 abbrev pub drawn_rest : List ℕ → List ℕ
 drawn_rest drawn = drop 32 drawn
 
--- Just these bytes came from the entropy, and no fill failed.
+-- Just these bytes came from the entropy: they are those that it tells to have been drawn, and the
+-- first of those to come, where it tells these. No fill failed.
 pub record Drew (wraps : ℕ) (old new : EntropyState) (drawn : List ℕ) : Type 0 where
+  pub told : new.drawn ≡ old.drawn ++ drawn
   pub count : length drawn ≡ draws wraps
   pub consumed : Consumes old.to_come new.to_come drawn
   pub faults : new.faults ≡ old.faults
@@ -45,8 +48,9 @@ pub record Drew (wraps : ℕ) (old new : EntropyState) (drawn : List ℕ) : Type
 abbrev pub header_and_frames : EncMaterialsValue → ℕ → List ℕ → List ℕ → ℕ → List ℕ
 header_and_frames m size id text frames = start_of m size id ++ regular_frames size (under m.key id) text frames
 
--- what is written of a text while the input goes on: all of its message but the last frame. So m regular frames are, m being the least number for which (m + 1) * size bytes
--- are enough for the text.
+-- what is written of a text while the input goes on: all of its message but the last frame. So m
+-- regular frames are, m being the least number for which (m + 1) * size bytes are enough for the
+-- text.
 abbrev pub written_so_far : EncMaterialsValue → ℕ → List ℕ → List ℕ → List ℕ
 written_so_far m size id text = header_and_frames m size id text (frames_given (length text) size)
 
@@ -58,7 +62,8 @@ pub record Writes (m : EncMaterialsValue) (size : ℕ) (id : List ℕ) (input ta
   pub short : length text ≤ most_text size
   pub gained : gains.took Whole (message_of m size id text)
 
--- A read failed. The bytes taken before have room in a message, and the output gained what is written of them while the input goes on.
+-- A read failed. The bytes taken before have room in a message, and the output gained what is
+-- written of them while the input goes on.
 pub record SourceFails (m : EncMaterialsValue) (size : ℕ) (id : List ℕ) (input taken : SourceState) (gains : Gaining) : Type 0 where
   pub text : List ℕ
   pub came : Came input taken text
@@ -66,7 +71,8 @@ pub record SourceFails (m : EncMaterialsValue) (size : ℕ) (id : List ℕ) (inp
   pub short : length text ≤ most_text size
   pub gained : gains.took Front (written_so_far m size id text)
 
--- 2^62 bytes were taken, and have room in a message. The output gained what is written of them while the input goes on.
+-- 2^62 bytes were taken, and have room in a message. The output gained what is written of them
+-- while the input goes on.
 pub record IsTooLong (m : EncMaterialsValue) (size : ℕ) (id : List ℕ) (input taken : SourceState) (gains : Gaining) : Type 0 where
   pub text : List ℕ
   pub came : Came input taken text
@@ -74,7 +80,8 @@ pub record IsTooLong (m : EncMaterialsValue) (size : ℕ) (id : List ℕ) (input
   pub short : length text ≤ most_text size
   pub gained : gains.took Front (written_so_far m size id text)
 
--- The last piece has a byte beyond those that have room in a message. The output gained all regular frames of the message of those that have, and no final frame.
+-- The last piece has a byte beyond those that have room in a message. The output gained all regular
+-- frames of the message of those that have, and no final frame.
 pub record HasTooMany (m : EncMaterialsValue) (size : ℕ) (id : List ℕ) (input taken : SourceState) (gains : Gaining) : Type 0 where
   pub text : List ℕ
   pub came : Came input taken text
@@ -87,12 +94,14 @@ pub record HeaderFails (m : EncMaterialsValue) (size : ℕ) (id : List ℕ) (gai
   pub none : text ≡ []
   pub stopped : gains.stopped Front [] (start_of m size id)
 
--- Bytes that come first have room in a message, and what is written of them while the input goes on was; but not all that is written of all that have room.
+-- Bytes that come first have room in a message, and what is written of them while the input goes on
+-- was; but not all that is written of all that have room.
 pub record WritesFrames (m : EncMaterialsValue) (size : ℕ) (id : List ℕ) (gains : Gaining) (text first : List ℕ) : Type 0 where
   pub short : length first ≤ most_text size
   pub stopped : gains.stopped Front (written_so_far m size id first) (written_so_far m size id (take (most_text size) text))
 
--- The output failed at the final frame: the input's end was seen, and what comes before that frame was written.
+-- The output failed at the final frame: the input's end was seen, and what comes before that frame
+-- was written.
 pub record FinalFails (m : EncMaterialsValue) (size : ℕ) (id : List ℕ) (input taken : SourceState) (gains : Gaining) (text : List ℕ) : Type 0 where
   pub end : EndSeen input taken text
   pub short : length text ≤ most_text size
@@ -114,7 +123,8 @@ StopsSo m size id input taken gains error = ⊥
 
 -- ---- the whole run
 
--- What a run is about: how many wraps the manager makes, what it gives for random bytes, and why it gives nothing; the frame length and the limit on entries.
+-- What a run is about: how many wraps the manager makes, what it gives for random bytes, and why it
+-- gives nothing; the frame length and the limit on entries.
 pub record Asked : Type 1 where
   pub wraps : ℕ
   pub gives : List ℕ → EncMaterialsValue → Type 0
@@ -156,6 +166,7 @@ pub record EndsAfter (asked : Asked) (input taken : SourceState) (gains : Gainin
 pub record EntropyFails (entropy spent : EntropyState) (untouched unasked : Type 0) : Type 0 where
   pub rose : Rose entropy.faults spent.faults
   pub kept : Keeps entropy.to_come spent.to_come
+  pub none : spent.drawn ≡ entropy.drawn
   pub same : untouched
   pub manager : unasked
 
@@ -166,7 +177,8 @@ pub record GivesNothing (asked : Asked) (entropy spent : EntropyState) (error : 
   pub cause : asked.gives_none error
   pub same : untouched
 
--- Bytes were drawn, the manager gave materials, and no header can be made of these, though each of their entries is one; nothing was taken or written.
+-- Bytes were drawn, the manager gave materials, and no header can be made of these, though each of
+-- their entries is one; nothing was taken or written.
 pub record RefusesStart (asked : Asked) (entropy spent : EntropyState) (refusal : Refusal) (untouched : Type 0) : Type 0 where
   pub drawn : List ℕ
   pub materials : EncMaterialsValue
@@ -182,8 +194,9 @@ pub record HasNoMemory (asked : Asked) (entropy spent : EntropyState) (untouched
   pub drew : Drew asked.wraps entropy spent drawn
   pub same : untouched
 
--- Why an input wasn't encrypted, and what that left. `untouched` says that the input and the output are as before, `unasked` that the manager is. Want of memory is free before
--- anything is taken or written, and can't come later.
+-- Why an input wasn't encrypted, and what that left. `untouched` says that the input and the output
+-- are as before, `unasked` that the manager is. Want of memory is free before anything is taken or
+-- written, and can't come later.
 abbrev pub EncryptEnds : Asked → SourceState → SourceState → Gaining → EntropyState → EntropyState → Type 0 → Type 0 → EncryptError → Type 0
 EncryptEnds asked input taken gains entropy spent untouched unasked (errors.Outside outsides.EntropyFault) = EntropyFails entropy spent untouched unasked
 EncryptEnds asked input taken gains entropy spent untouched unasked (errors.Outside outsides.KeyringFault) = GivesNothing asked entropy spent managers.KeyringFault untouched

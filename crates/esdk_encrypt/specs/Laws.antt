@@ -1,5 +1,7 @@
--- What the laws of this crate say of an encryption over a manager that is exact and plain, and tells its wrapping keys.
-use Rattle.std.specs.Prelude.{◌≡◌, ℕ, ◌^◌, ◌<◌, ◌≤◌, List, ◌++◌, length, take, ⊤, IfSome, None, Option, Some}
+-- What the laws of this crate say of an encryption over a manager that is exact and plain, and
+-- tells its wrapping keys.
+use Rattle.std.specs.Prelude.{◌≡◌, ℕ, ◌^◌, ◌<◌, ◌≤◌, List, ◌++◌, length, take, true, ⊤, IfSome, None, Option, Some}
+use Rattle.std.specs.Io.KnownBytes.{Appends}
 use Rattle.esdk_fields.specs.Counts.{Stayed}
 use Rattle.esdk_fields.specs.declared.refusals.Refusal.{Refusal}
 use Rattle.esdk_base.specs.Sink.{AppendsFront}
@@ -17,7 +19,8 @@ use Rattle.esdk_encrypt.specs.Told.{Writer, asked_by, message_by, wraps_of}
 
 -- ---- what is written
 
--- The output gained the message of this text behind what it had, in this form. It was made with the first bytes to come, where the entropy tells them.
+-- The output gained the message of this text behind what it had, in this form. It was made with the
+-- first bytes to come, where the entropy tells them.
 pub record GainsMessage (form : Form) (writer : Writer) (text before : List ℕ) (entropy : EntropyState) (put : SinkState) : Type 0 where
   pub drawn : List ℕ
   pub count : length drawn ≡ draws (wraps_of writer)
@@ -31,15 +34,39 @@ GainsTheMessage = (form : Form) (writer : Writer) (refusal : Option Refusal) (ol
     → Encrypts (asked_by writer refusal old new) input taken (gained_as form output put) entropy spent
     → GainsMessage form writer text before entropy put
 
+-- ---- what went through
+
+-- The output gained the message of the text that came from the input, whose end was seen, in this
+-- form. It was made with the bytes that were drawn meanwhile. Every object tells what went through
+-- it, so that this says as much of a real one as of one in memory.
+pub record SealsWhatCame (form : Form) (writer : Writer) (input taken : SourceState)
+    (output put : SinkState) (entropy spent : EntropyState) : Type 0 where
+  pub text : List ℕ
+  pub came : taken.came ≡ input.came ++ text
+  pub end : taken.ended ≡ true
+  pub drawn : List ℕ
+  pub count : length drawn ≡ draws (wraps_of writer)
+  pub drew : spent.drawn ≡ entropy.drawn ++ drawn
+  pub gained : Appends output.written put.written (form Whole (message_by writer drawn text))
+
+-- An encryption that is done sealed what came.
+abbrev pub SealsAllThatCame : Type 0
+SealsAllThatCame = (form : Form) (writer : Writer) (refusal : Option Refusal) (old new : ℕ)
+    (input taken : SourceState) (output put : SinkState) (entropy spent : EntropyState)
+    → Encrypts (asked_by writer refusal old new) input taken (gained_as form output put) entropy spent
+    → SealsWhatCame form writer input taken output put entropy spent
+
 -- ---- what is encrypted
 
--- The pairs are a context, and at most 64 keys wrap, which the limit on entries allows. So many entries have room in every header.
+-- The pairs are a context, and at most 64 keys wrap, which the limit on entries allows. So many
+-- entries have room in every header.
 pub record IsWithin (writer : Writer) : Type 0 where
   pub context : IsContext writer.context
   pub few : wraps_of writer ≤ 64
   pub allowed : IfSome writer.max_keys (λ most. wraps_of writer ≤ most)
 
--- The input tells these bytes, a message of this frame length has room for them, and they are fewer than are taken of an input at the most.
+-- The input tells these bytes, a message of this frame length has room for them, and they are fewer
+-- than are taken of an input at the most.
 pub record FitsMessage (size : ℕ) (input : SourceState) (text : List ℕ) : Type 0 where
   pub told : input.left ≡ Some text
   pub room : length text ≤ most_text size
@@ -60,7 +87,8 @@ EncryptsInputsThatFit = (form : Form) (writer : Writer) (old new : ℕ) (text : 
 
 -- ---- what is left where it ends early
 
--- These bytes were taken, and the output gained a front of their message in this form, as far as a message has room for them.
+-- These bytes were taken, and the output gained a front of their message in this form, as far as a
+-- message has room for them.
 pub record GainsFront (form : Form) (m : EncMaterialsValue) (size : ℕ) (id : List ℕ) (input taken : SourceState) (output put : SinkState) : Type 0 where
   pub text : List ℕ
   pub came : Came input taken text
@@ -71,6 +99,7 @@ abbrev pub LeavesAFront : Type 0
 LeavesAFront = (form : Form) (m : EncMaterialsValue) (size : ℕ) (id : List ℕ) (input taken : SourceState) (output put : SinkState) (error : EncryptError)
     → KeepsFronts form → 1 ≤ size → StopsSo m size id input taken (gained_as form output put) error → GainsFront form m size id input taken output put
 
--- What is written while the input goes on are m frames, m being the least number for which m frames of so many bytes and one more have room for the text.
+-- What is written while the input goes on are m frames, m being the least number for which m frames
+-- of so many bytes and one more have room for the text.
 abbrev pub WritesAllButTheLast : Type 0
 WritesAllButTheLast = (count size : ℕ) → 1 ≤ size → IsLeast count size (frames_given count size)

@@ -1,6 +1,6 @@
 //! The bytes that a message is made with.
 
-ghost use Rattle.std.specs.Prelude.{◌≡◌, ◌≤◌, length, IfOk, IfErr};
+ghost use Rattle.std.specs.Prelude.{◌≡◌, ◌≤◌, length, IfOk, IfErr, OnErr};
 ghost use Rattle.std.specs.Io.KnownBytes.{Keeps};
 ghost use Rattle.esdk_fields.specs.Counts.{HasCause};
 ghost use Rattle.esdk_encrypt.specs.Encrypt.{Drew, drawn_id, drawn_rest};
@@ -63,6 +63,7 @@ pub fn draw<W: Entropy>(entropy: &mut W, wraps: u32) -> Result<Draws, Failed>
         (W.state entropy.new) drawn) }
     ensures kept { IfErr result (λ _. Keeps (W.state entropy.old).to_come
         (W.state entropy.new).to_come) }
+    ensures none { OnErr result ((W.state entropy.new).drawn ≡ (W.state entropy.old).drawn) }
     ensures cause { HasCause (W.state entropy.old).faults (W.state entropy.new).faults result }
 {
     let count = 64 + 12 * wraps as usize;

@@ -1,7 +1,7 @@
 //! Laws about encryption. A law is a function that does nothing: its contract is what is proved.
 
 ghost use Rattle.esdk_encrypt.specs.Gaining.{GainsAs, KeepsFronts, as_bytes, gained_as, gaining, sink_fails, sink_takes};
-ghost use Rattle.esdk_encrypt.specs.Laws.{EncryptsInputsThatFit, GainsTheMessage, LeavesAFront, WritesAllButTheLast};
+ghost use Rattle.esdk_encrypt.specs.Laws.{EncryptsInputsThatFit, GainsTheMessage, LeavesAFront, SealsAllThatCame, WritesAllButTheLast};
 
 use esdk_base::Sink;
 
@@ -14,6 +14,13 @@ pub fn what_fits_is_encrypted()
 /// An output that tells its bytes has gained the message of all bytes of an input that tells them.
 pub fn the_output_gains_the_message()
     ensures { GainsTheMessage }
+{}
+
+/// An encryption that is done has put out the message of just the bytes that came from the input,
+/// whose end was seen, made with just the bytes that were drawn. It is said of what went through
+/// the objects, which each of them tells.
+pub fn what_came_is_sealed()
+    ensures { SealsAllThatCame }
 {}
 
 /// Where the writing of a message ends early, whatever the reason, the output has gained a front of

@@ -2,17 +2,19 @@
 use Rattle.std.specs.Prelude.{ℕ, List, [], Bool, ◌&&◌, ◌||◌, not, ◌-◌, length, min, is_none, unwrap_or, if◌then◌else◌}
 use Rattle.std.specs.FinMap.{get, insert}
 use Rattle.esdk_fields.specs.Counts.{counted}
+use Rattle.esdk_seen.specs.Calls.{ShelfCall}
 use Rattle.esdk_memory.specs.CallPlan.{Plan, fails_next, after_call}
 use Rattle.esdk_memory.specs.MemFiles.{ByName, is_too_long, with_room}
 use Rattle.esdk_base.specs.Shelf.{Files, appended, created}
 
 -- The files, how many bytes each name may hold where room was taken for it, how many bytes were
--- given, and which calls are to fail.
+-- given, and which calls are to fail; the calls that didn't fail so far, in their order.
 pub record MemShelfState : Type 0 where
   pub files : Files
   pub rooms : ByName ℕ
   pub given : ℕ
   pub plan : Plan
+  pub calls : List ShelfCall
 
 -- the name isn't on the shelf
 abbrev pub is_absent : MemShelfState → List ℕ → Bool
@@ -37,7 +39,7 @@ read_fails shelf name = is_absent shelf name || fails_next shelf.plan
 abbrev pub read_faults : MemShelfState → List ℕ → Bool
 read_faults shelf name = not (is_absent shelf name) && fails_next shelf.plan
 
--- the shelf after a read from the offset on into so much room
+-- the shelf after a read from the offset on into so much room, but for its calls
 abbrev pub after_read : MemShelfState → List ℕ → ℕ → ℕ → MemShelfState
 after_read shelf name at count = record shelf {
   given = if read_fails shelf name then shelf.given
@@ -49,7 +51,7 @@ after_read shelf name at count = record shelf {
 abbrev pub create_fails : MemShelfState → List ℕ → Bool
 create_fails shelf name = fails_next shelf.plan || is_none (get shelf.rooms name)
 
--- the shelf after a create
+-- the shelf after a create, but for its calls
 abbrev pub after_create : MemShelfState → List ℕ → MemShelfState
 after_create shelf name = record shelf {
   files = if create_fails shelf name then shelf.files else created shelf.files name;
@@ -66,7 +68,7 @@ append_faults shelf name bytes =
       rooms = shelf.rooms;
     }) name (length bytes))
 
--- the shelf after an append
+-- the shelf after an append, but for its calls
 abbrev pub after_append : MemShelfState → List ℕ → List ℕ → MemShelfState
 after_append shelf name bytes = record shelf {
   files = if append_faults shelf name bytes then shelf.files else appended shelf.files name bytes;

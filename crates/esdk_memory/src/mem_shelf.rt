@@ -1,18 +1,21 @@
 //! A shelf in memory.
 
-ghost use Rattle.std.specs.Prelude.{◌≡◌, ◌||◌, IfOk, IsOk, OnErr, OnOk, Some, is_err, length};
+ghost use Rattle.std.specs.Prelude.{◌≡◌, ◌||◌, [], ◌∷◌, ◌++◌, IfOk, IsOk, OnErr, OnOk, Some, is_err, length};
 ghost use Rattle.std.specs.FinMap.{empty, get};
 ghost use Rattle.std.specs.Io.{ReadsAtMost};
 ghost use Rattle.std.specs.Option.{option_map};
 ghost use Rattle.esdk_fields.specs.Counts.{CountsGiven, HasCause};
 ghost use Rattle.esdk_memory.specs.MemShelf.{after_append, after_create, after_read, append_faults, create_fails, is_absent, placed, read_count, read_fails};
 ghost use Rattle.esdk_memory.specs.MemFiles.{with_room};
+ghost use Rattle.esdk_seen.specs.Calls.{creates, finishes};
+ghost use Rattle.esdk_base.specs.Told.{TellsAppend, TellsCall, TellsRead, whom};
 ghost use Rattle.esdk_base.specs.Shelf.{AppendsTo, Creates, EndsAt, HasCauseOrMissing, ReadsFrom, is_missing};
 
 use crate::call_plan::CallPlan;
 use crate::fronts::give_part;
 use crate::mem_files::MemFiles;
 use esdk_base::{Failed, Readers, Shelf};
+use esdk_seen::{Call, SeenCalls};
 use std::alloc::{AllocError, Global};
 use std::marker::Model;
 
@@ -22,23 +25,25 @@ pub struct MemShelf {
     files: MemFiles,
     given: u64,
     plan: CallPlan,
+    calls: SeenCalls,
 }
 
 impl Model for MemShelf {
     ghost use Rattle.std.specs.Coded.{codes};
     ghost use Rattle.esdk_memory.specs.MemFiles.{files_code, rooms_code};
+    ghost use Rattle.esdk_seen.specs.Calls.{calls_code};
     ghost use Rattle.esdk_memory.specs.MemShelf.{MemShelfState};
 
     ghost Value = { MemShelfState };
 
-    ghost coded = { Prim.hlevel (codes, files_code, rooms_code) };
+    ghost coded = { Prim.hlevel (codes, files_code, rooms_code, calls_code) };
 
     ghost view = { λ s. record {
       files = s.files.files;
       rooms = s.files.rooms;
       given = s.given;
-      plan
-          = s.plan;
+      plan = s.plan;
+      calls = s.calls.calls;
     } };
 }
 
@@ -52,12 +57,14 @@ impl MemShelf {
           rooms = empty;
           given = 0;
           plan = record { failing = failing.items; calls = 0; faults = 0 };
+          calls = [];
         } }
     {
         MemShelf {
             files: MemFiles::new(alloc),
             given: 0,
             plan: CallPlan::new(failing),
+            calls: SeenCalls::new(),
         }
     }
 
@@ -91,7 +98,12 @@ impl MemShelf {
 }
 
 impl Shelf for MemShelf {
-    ghost state = { λ s. record { files = Some s.files; given = s.given; faults = s.plan.faults } };
+    ghost state = { λ s. record {
+      files = Some s.files;
+      given = s.given;
+      faults = s.plan.faults;
+      calls = s.calls;
+    } };
 
     fn read_at(&mut self, name: &str, at: u64, out: &mut [u8]) -> Result<usize, Failed>
         ensures bound { ReadsAtMost result out.new }
@@ -101,9 +113,11 @@ impl Shelf for MemShelf {
         ensures given { CountsGiven self.old.given self.new.given result }
         ensures cause { HasCauseOrMissing (is_missing (Some self.old.files) name.now)
             self.old.plan.faults self.new.plan.faults result }
+        ensures calls { TellsRead self.old.calls self.new.calls result name.now at out.new }
         ensures failed { is_err result ≡ read_fails self.old name.now }
         ensures count { IfOk result (λ n. n ≡ read_count self.old name.now at (length out.old)) }
-        ensures shelf { self.new ≡ after_read self.old name.now at (length out.old) }
+        ensures shelf { self.new ≡ record (after_read self.old name.now at (length out.old))
+            { calls = self.new.calls } }
     {
         let Some(bytes) = self.files.held(name) else {
             self.plan.count();
@@ -114,6 +128,7 @@ impl Shelf for MemShelf {
         };
         let count = give_part(bytes, at, out);
         self.given = self.given.saturating_add(count as u64);
+        self.calls.see(&Call::Read(name, at, &out[..count]));
         Ok(count)
     }
 
@@ -121,14 +136,17 @@ impl Shelf for MemShelf {
         ensures bytes { Creates (Some self.old.files) (Some self.new.files) result name.now }
         ensures given { self.new.given ≡ self.old.given }
         ensures cause { HasCause self.old.plan.faults self.new.plan.faults result }
+        ensures calls { TellsCall self.old.calls self.new.calls result (creates name.now) }
         ensures failed { is_err result ≡ create_fails self.old name.now }
-        ensures shelf { self.new ≡ after_create self.old name.now }
+        ensures shelf { self.new ≡ record (after_create self.old name.now)
+            { calls = self.new.calls } }
     {
         let has_room = self.files.has_room(name);
         let Ok(()) = self.plan.begin(!has_room) else {
             return Err(Failed);
         };
         self.files.fill(name, &[]);
+        self.calls.see(&Call::Create(name));
         Ok(())
     }
 
@@ -139,9 +157,11 @@ impl Shelf for MemShelf {
         ensures given { self.new.given ≡ self.old.given }
         ensures cause { HasCauseOrMissing (is_missing (Some self.old.files) name.now)
             self.old.plan.faults self.new.plan.faults result }
+        ensures calls { TellsAppend self.old.calls self.new.calls result name.now bytes.now }
         ensures failed { is_err result ≡ (is_absent self.old name.now || append_faults self.old
             name.now bytes.now) }
-        ensures shelf { self.new ≡ after_append self.old name.now bytes.now }
+        ensures shelf { self.new ≡ record (after_append self.old name.now bytes.now)
+            { calls = self.new.calls } }
     {
         let Some(_) = self.files.held(name) else {
             self.plan.count();
@@ -152,6 +172,7 @@ impl Shelf for MemShelf {
             return Err(Failed);
         };
         self.files.append(name, bytes);
+        self.calls.see(&Call::Append(name, bytes));
         Ok(())
     }
 
@@ -163,9 +184,12 @@ impl Shelf for MemShelf {
 
     /// Is no call that is counted among those that may be planned to fail.
     fn finish(&mut self, name: &str, readers: Readers) -> Result<(), Failed>
-        ensures shelf { self.new ≡ self.old }
+        ensures shelf { self.new ≡ record self.old
+            { calls = self.old.calls ++ finishes name.now (whom readers) ∷ [] } }
         ensures ok { IsOk result }
     {
+        let for_owner = matches!(&readers, Readers::Owner);
+        self.calls.see(&Call::Finish(name, for_owner));
         Ok(())
     }
 }

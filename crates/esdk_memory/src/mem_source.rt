@@ -1,16 +1,18 @@
 //! A source in memory.
 
-ghost use Rattle.std.specs.Prelude.{◌≡◌, ◌≤◌, ⊤, IfOk, Some, is_err, length};
+ghost use Rattle.std.specs.Prelude.{◌≡◌, ◌≤◌, ⊤, [], false, IfOk, Some, is_err, length};
 ghost use Rattle.std.specs.Io.{ReadsAtMost};
 ghost use Rattle.std.specs.Io.KnownBytes.{ReadConsumes};
 ghost use Rattle.esdk_memory.specs.CallPlan.{fails_next};
+ghost use Rattle.esdk_base.specs.Told.{ReadComes, ReadSeesEnd};
 ghost use Rattle.esdk_fields.specs.Counts.{CountsGiven, HasCause};
 ghost use Rattle.esdk_memory.specs.MemSource.{after_read, read_count};
 
 use crate::call_plan::CallPlan;
 use crate::fronts::give_front;
-use esdk_base::{Failed, Source};
+use esdk_base::{Failed, Source, sees_end};
 use esdk_fields::Blob;
+use esdk_seen::SeenBytes;
 use std::marker::Model;
 
 /// A source that gives the bytes of a `Blob`, at most so many for each read.
@@ -21,6 +23,8 @@ pub struct MemSource {
     most: usize,
     given: u64,
     plan: CallPlan,
+    came: SeenBytes,
+    ended: bool,
 }
 
 impl Model for MemSource {
@@ -33,8 +37,9 @@ impl Model for MemSource {
       left = drop s.at s.bytes;
       most = s.most;
       given = s.given;
-      plan =
-          s.plan;
+      plan = s.plan;
+      came = s.came.bytes;
+      ended = s.ended;
     } };
 
     ghost invariant = { λ s. (s.at ≤ length s.bytes) × (1 ≤ s.most) };
@@ -50,6 +55,8 @@ impl MemSource {
           most = most;
           given = 0;
           plan = record { failing = failing.items; calls = 0; faults = 0 };
+          came = [];
+          ended = false;
         } }
     {
         MemSource {
@@ -58,6 +65,8 @@ impl MemSource {
             most,
             given: 0,
             plan: CallPlan::new(failing),
+            came: SeenBytes::new(),
+            ended: false,
         }
     }
 
@@ -70,7 +79,13 @@ impl MemSource {
 }
 
 impl Source for MemSource {
-    ghost state = { λ s. record { left = Some s.left; given = s.given; faults = s.plan.faults } };
+    ghost state = { λ s. record {
+      left = Some s.left;
+      given = s.given;
+      faults = s.plan.faults;
+      came = s.came;
+      ended = s.ended;
+    } };
 
     ghost lasts = { λ _ _. ⊤ };
 
@@ -83,9 +98,12 @@ impl Source for MemSource {
         ensures bytes { ReadConsumes (Some self.old.left) (Some self.new.left) result out.new }
         ensures given { CountsGiven self.old.given self.new.given result }
         ensures cause { HasCause self.old.plan.faults self.new.plan.faults result }
+        ensures came { ReadComes self.old.came self.new.came result out.new }
+        ensures ended { ReadSeesEnd self.old.ended self.new.ended result out.new }
         ensures failed { is_err result ≡ fails_next self.old.plan }
         ensures count { IfOk result (λ n. n ≡ read_count (length out.old) self.old) }
-        ensures source { self.new ≡ after_read (length out.old) self.old }
+        ensures source { self.new ≡ record (after_read (length out.old) self.old)
+            { came = self.new.came; ended = self.new.ended } }
     {
         let Ok(()) = self.plan.begin(false) else {
             return Err(Failed);
@@ -93,6 +111,8 @@ impl Source for MemSource {
         let count = give_front(&self.bytes.bytes()[self.at..], self.most, out);
         self.at += count;
         self.given = self.given.saturating_add(count as u64);
+        self.came.see(&out[..count]);
+        self.ended = sees_end(self.ended, out.len(), count);
         Ok(count)
     }
 }

@@ -189,7 +189,7 @@ module _ {R : Type 0} (state : R → SinkState) (old new : R) (asked : Asked) (i
 pub ends_untouched : (asked : Asked) (input taken : SourceState) (gains : Gaining) (entropy spent : EntropyState) (from to unasked : Type 0) (error : EncryptError) → (from → to)
     → EncryptEnds asked input taken gains entropy spent from unasked error → EncryptEnds asked input taken gains entropy spent to unasked error
 ends_untouched asked input taken gains entropy spent from to unasked (errors.Outside outsides.EntropyFault) so ends =
-    record { rose = ends.rose; kept = ends.kept; same = so ends.same; manager = ends.manager }
+    record { rose = ends.rose; kept = ends.kept; none = ends.none; same = so ends.same; manager = ends.manager }
 ends_untouched asked input taken gains entropy spent from to unasked (errors.Outside outsides.KeyringFault) so ends =
     record { drawn = ends.drawn; drew = ends.drew; cause = ends.cause; same = so ends.same }
 ends_untouched asked input taken gains entropy spent from to unasked (errors.Outside outside) so ends = ends

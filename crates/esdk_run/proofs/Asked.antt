@@ -62,7 +62,7 @@ pub extract_asked : (trees : Trees) (words : Result Request WordsFault) (asked :
 extract_asked trees words asked before after unchanged code is runs =
     subst (λ (w : Result Request WordsFault). RunsAs trees w before after unchanged code) is runs
 
-audit_asked : (trees : Trees) (words : Result Request WordsFault) (name : List ℕ) (before after : Objects) (unchanged : Unchanged) (code : ℕ)
+pub audit_asked : (trees : Trees) (words : Result Request WordsFault) (name : List ℕ) (before after : Objects) (unchanged : Unchanged) (code : ℕ)
     → words ≡ Ok (requests.Audit name) → RunsAs trees words before after unchanged code → AuditRuns trees name before after unchanged code
 audit_asked trees words name before after unchanged code is runs =
     subst (λ (w : Result Request WordsFault). RunsAs trees w before after unchanged code) is runs

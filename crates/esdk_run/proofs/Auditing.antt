@@ -153,7 +153,7 @@ audit_fails trees name old read new file left leaves messages failure audits are
 -- ---- what it says of files that the shelf tells
 
 -- as many leaves tell their keys as there are
-told_many : (meanings : List KeyringMeaning) (told : List (List WrapKeyValue)) → told_by meanings ≡ Some told → length told ≡ length meanings
+pub told_many : (meanings : List KeyringMeaning) (told : List (List WrapKeyValue)) → told_by meanings ≡ Some told → length told ≡ length meanings
 told_many [] told is = let none : [] ≡ told = cc in ap length (sym none)
 told_many (m ∷ ms) told is = both_many m.keys (told_by ms) told is (told_many ms)
   where

@@ -157,7 +157,7 @@ chain_goes {N} meaning p q left is_left went =
 ends_unasked : (asked : Asked) (input taken : SourceState) (gains : Gaining) (entropy spent : EntropyState) (untouched unasked : Type 0) (error : EncryptError)
     → EncryptEnds asked input taken gains entropy spent untouched unasked error → EncryptEnds asked input taken gains entropy spent untouched ⊤ error
 ends_unasked asked input taken gains entropy spent untouched unasked (errors.Outside outsides.EntropyFault) ends =
-    record { rose = ends.rose; kept = ends.kept; same = ends.same; manager = tt }
+    record { rose = ends.rose; kept = ends.kept; none = ends.none; same = ends.same; manager = tt }
 ends_unasked asked input taken gains entropy spent untouched unasked (errors.Outside outsides.KeyringFault) ends = ends
 ends_unasked asked input taken gains entropy spent untouched unasked (errors.Outside outside) ends = ends
 ends_unasked asked input taken gains entropy spent untouched unasked (errors.Refusal refusals.TooManyFrames) ends = ends

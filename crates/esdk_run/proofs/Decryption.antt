@@ -44,7 +44,7 @@ use Rattle.esdk_run.proofs.UnarmouredTelling.{armoured_bytes, text_fault, text_m
 -- ---- who reads is determined by the words and the tree
 
 -- a decryption with the tree ended as the reader's with the tree's keys does, where no keyring failed
-reader_ends : (asked : DecryptWords) (before after : Objects) (unwritten : Type 0) (code : ℕ) (pairs given : List KeyValue) (tree left : KeyringMeaning)
+pub reader_ends : (asked : DecryptWords) (before after : Objects) (unwritten : Type 0) (code : ℕ) (pairs given : List KeyValue) (tree left : KeyringMeaning)
     (keys : List WrapKeyValue) → pairs ≡ given → tree.keys ≡ Some keys → Stayed tree.faults left.faults
     → Ending asked.armour (decrypt_asked asked pairs tree left) before after unwritten code → Ending asked.armour (asked_by (reader_of asked given keys)) before after unwritten code
 reader_ends asked before after unwritten code pairs given tree left keys is told stayed (inl (context, done, shown)) =

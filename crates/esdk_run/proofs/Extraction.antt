@@ -28,6 +28,7 @@ use Rattle.extract_core.specs.Laws.{EndsAsItBegins, ExtractsOfWhole}
 use Rattle.extract_core.proofs.Judged.{extracts_whole}
 use Rattle.extract_core.proofs.Allowed.{extract_ends_allowed, extracts_allowed}
 use Rattle.whole_input.specs.File.{most_file}
+use Rattle.whole_input.specs.FileReads.{Grows, IsSeenAs}
 use Rattle.whole_input.specs.Pieces.{most_piece}
 use Rattle.esdk_report.specs.Report.{Reports}
 use Rattle.esdk_report.specs.declared.failure.Failure.{Failure}
@@ -67,14 +68,14 @@ extraction_fails trees asked before after unchanged errors.Memory fails = inr fa
 pub extraction_ran : (trees : Trees) (asked : ExtractWords) (before after : Objects) (unchanged : Unchanged) (code : ℕ) (r : Result ℕ ExtractError) (t : HasTreeFor trees asked before after)
     → IfOk r (Extracts (extract_asked asked t.given t.tree t.left) (range_asked asked) t.middle after.shelf asked.from before.output after.output)
     → IfErr r (ExtractEnds (extract_asked asked t.given t.tree t.left) (range_asked asked) t.middle after.shelf asked.from before.output after.output unchanged.output)
-    → IfOk r (λ written. after.shelf.faults ≡ t.middle.faults) → UnlessMemory r (ReadsOfFile asked t.middle after.shelf)
+    → IfOk r (λ written. after.shelf.faults ≡ t.middle.faults) → Grows t.middle.calls after.shelf.calls → UnlessMemory r (ReadsOfFile asked t.middle after.shelf)
     → OnOk r (IsDone code before.report after.report) → IfErr r (λ error. Reports (extraction_failure error) code before.report after.report)
     → ExtractRuns trees asked before after unchanged code
-extraction_ran trees asked before after unchanged code (Ok written) t done ends faults reads is said =
-    inl (is, record { tree_for = t; written = written; done = done; faults = faults; reads = reads })
-extraction_ran trees asked before after unchanged code (Err error) t done ends faults reads is said = inr (record {
+extraction_ran trees asked before after unchanged code (Ok written) t done ends faults grown reads is said =
+    inl (is, record { tree_for = t; written = written; done = done; faults = faults; grown = grown; reads = reads })
+extraction_ran trees asked before after unchanged code (Err error) t done ends faults grown reads is said = inr (record {
   failure = extraction_failure error;
-  because = extraction_fails trees asked before after unchanged error (record { tree_for = t; ended = ends; reads = error_reads error (ReadsOfFile asked t.middle after.shelf) reads });
+  because = extraction_fails trees asked before after unchanged error (record { tree_for = t; ended = ends; grown = grown; reads = error_reads error (ReadsOfFile asked t.middle after.shelf) reads });
   said = said;
 })
   where
@@ -84,7 +85,7 @@ extraction_ran trees asked before after unchanged code (Err error) t done ends f
 -- ---- a run that read a tree
 
 -- The extraction ended so.
-abbrev Ended : Asked → ExtractWords → ShelfState → Objects → Objects → Type 0 → ℕ → Type 0
+abbrev pub Ended : Asked → ExtractWords → ShelfState → Objects → Objects → Type 0 → ℕ → Type 0
 Ended about asked middle before after unwritten code =
     (IsDone code before.report after.report × ((written : ℕ) × Extracts about (range_asked asked) middle after.shelf asked.from before.output after.output written))
     ⊎ ((error : ExtractError) × (ExtractEnds about (range_asked asked) middle after.shelf asked.from before.output after.output unwritten error
@@ -148,7 +149,7 @@ extract_comes_back trees asked before after unchanged code runs = record {
 
 -- ---- who reads is determined by the words and the tree
 
-reader_ended : (asked : ExtractWords) (middle : ShelfState) (before after : Objects) (unwritten : Type 0) (code : ℕ) (pairs given : List KeyValue) (tree left : KeyringMeaning) (keys : List WrapKeyValue)
+pub reader_ended : (asked : ExtractWords) (middle : ShelfState) (before after : Objects) (unwritten : Type 0) (code : ℕ) (pairs given : List KeyValue) (tree left : KeyringMeaning) (keys : List WrapKeyValue)
     → pairs ≡ given → tree.keys ≡ Some keys → Stayed tree.faults left.faults → Ended (extract_asked asked pairs tree left) asked middle before after unwritten code
     → Ended (asked_by (extract_reader asked given keys)) asked middle before after unwritten code
 reader_ended asked middle before after unwritten code pairs given tree left keys is told stayed (inl (done, (written, extracts))) =
@@ -188,7 +189,7 @@ taken_read reader bytes range answer before middle after answers few read =
 held_then : (before : Objects) (middle : ShelfState) (name bytes : List ℕ) → middle.files ≡ before.shelf.files → Holds before.shelf.files name bytes → Holds middle.files name bytes
 held_then before middle name bytes same held = subst (λ (f : Option Files). Holds f name bytes) (sym same) held
 
-range_gained : (reader : Reader) (asked : ExtractWords) (middle : ShelfState) (before after : Objects) (unwritten : Type 0) (code : ℕ) (bytes : List ℕ) → Holds middle.files asked.from bytes
+pub range_gained : (reader : Reader) (asked : ExtractWords) (middle : ShelfState) (before after : Objects) (unwritten : Type 0) (code : ℕ) (bytes : List ℕ) → IsSeenAs middle after.shelf asked.from bytes
     → middle.given ≤ before.shelf.given + most_file + most_piece → code ≡ 0 → Ended (asked_by reader) asked middle before after unwritten code → GainsRange reader asked bytes before after
 range_gained reader asked middle before after unwritten code bytes held few is_zero (inl (done, (written, extracts))) =
     let w = extracts.writes bytes held in
@@ -207,7 +208,7 @@ record EndsByFault (reader : Reader) (asked : ExtractWords) (middle : ShelfState
   pub read : middle.given ≤ before.shelf.given + most_file + most_piece → ReadsTaken reader bytes (range_asked asked) before.shelf after.shelf
 
 -- an end that is called a fault is that fault
-fault_ended : (reader : Reader) (asked : ExtractWords) (middle : ShelfState) (before after : Objects) (unwritten : Type 0) (bytes : List ℕ) (fault : Fault) (error : ExtractError) → Holds middle.files asked.from bytes
+fault_ended : (reader : Reader) (asked : ExtractWords) (middle : ShelfState) (before after : Objects) (unwritten : Type 0) (bytes : List ℕ) (fault : Fault) (error : ExtractError) → IsSeenAs middle after.shelf asked.from bytes
     → extraction_failure error ≡ failures.Fault fault → ExtractEnds (asked_by reader) (range_asked asked) middle after.shelf asked.from before.output after.output unwritten error
     → EndsByFault reader asked middle before after bytes fault
 fault_ended reader asked middle before after unwritten bytes fault (errors.Fault other) held is ends =
@@ -222,7 +223,7 @@ fault_ended reader asked middle before after unwritten bytes fault (errors.Fault
 fault_ended reader asked middle before after unwritten bytes fault (errors.Outside outside) held is ends = absurd cc
 fault_ended reader asked middle before after unwritten bytes fault errors.Memory held is ends = absurd cc
 
-fault_named : (reader : Reader) (asked : ExtractWords) (middle : ShelfState) (before after : Objects) (unwritten : Type 0) (code : ℕ) (bytes : List ℕ) → Holds middle.files asked.from bytes → middle.given ≤ before.shelf.given + most_file + most_piece → code ≡ 1
+pub fault_named : (reader : Reader) (asked : ExtractWords) (middle : ShelfState) (before after : Objects) (unwritten : Type 0) (code : ℕ) (bytes : List ℕ) → IsSeenAs middle after.shelf asked.from bytes → middle.given ≤ before.shelf.given + most_file + most_piece → code ≡ 1
     → Ended (asked_by reader) asked middle before after unwritten code → NamesExtractFault reader asked bytes before after
 fault_named reader asked middle before after unwritten code bytes held few one (inl (done, (written, extracts))) = absurd (omega (arith, done.status, one))
 fault_named reader asked middle before after unwritten code bytes held few one (inr (error, (ends, said))) =
@@ -235,8 +236,8 @@ pub says_what_it_extracts : (trees : Trees) (asked : ExtractWords) (before after
 says_what_it_extracts trees asked before after unchanged code runs given keys bytes reads =
     over_reader _ trees asked before after unchanged code given keys bytes runs reads
     (λ middle files faults few ended. (
-      λ is_zero. range_gained (extract_reader asked given keys) asked middle before after unchanged.output code bytes (held_then before middle asked.from bytes files reads.held) few is_zero ended,
-      λ one. fault_named (extract_reader asked given keys) asked middle before after unchanged.output code bytes (held_then before middle asked.from bytes files reads.held) few one ended,
+      λ is_zero. range_gained (extract_reader asked given keys) asked middle before after unchanged.output code bytes (inl (held_then before middle asked.from bytes files reads.held)) few is_zero ended,
+      λ one. fault_named (extract_reader asked given keys) asked middle before after unchanged.output code bytes (inl (held_then before middle asked.from bytes files reads.held)) few one ended,
     ))
 
 -- ---- only want of memory keeps a range without a fault from being extracted
@@ -245,7 +246,7 @@ no_other_error : (reader : Reader) (asked : ExtractWords) (middle : ShelfState) 
     → middle.faults ≡ before.shelf.faults → (extracted_by reader bytes (range_asked asked)).fault ≡ None → NothingFailsOf before after
     → ExtractEnds (asked_by reader) (range_asked asked) middle after.shelf asked.from before.output after.output unwritten error → error ≡ errors.Memory
 no_other_error reader asked middle before after unwritten code bytes (errors.Fault fault) held same sound nothing ends =
-    let found = fault_ended reader asked middle before after unwritten bytes fault (errors.Fault fault) held refl ends in absurd (let no : None ≡ Some fault = sym sound ∙ found.cause in cc)
+    let found = fault_ended reader asked middle before after unwritten bytes fault (errors.Fault fault) (inl held) refl ends in absurd (let no : None ≡ Some fault = sym sound ∙ found.cause in cc)
 no_other_error reader asked middle before after unwritten code bytes (errors.Outside outsides.SourceFault) held same sound nothing ends = absurd ends
 no_other_error reader asked middle before after unwritten code bytes (errors.Outside outsides.SinkFault) held same sound nothing ends = absurd (omega (arith, nothing.writing, ends.rose))
 no_other_error reader asked middle before after unwritten code bytes (errors.Outside outsides.ShelfFault) held same sound nothing ends =
@@ -338,7 +339,7 @@ extracts_of_content trees asked before after unchanged code runs given keys byte
 both_read : (trees : Trees) (asked : ExtractWords) (before after : Objects) (bytes : List ℕ) (t : HasTreeFor trees asked before after) → Holds before.shelf.files asked.from bytes → ReadsOfFile asked t.middle after.shelf
     → after.shelf.given ≤ before.shelf.given + most_file + most_piece + most_read no_limits (range_asked asked) bytes
 both_read trees asked before after bytes t held reads =
-    let more = reads bytes (held_then before t.middle asked.from bytes t.files held) in
+    let more = reads bytes (inl (held_then before t.middle asked.from bytes t.files held)) in
     omega (arith, more, t.has.file.file.most, t.has.file.file.few)
 
 failure_reads : (trees : Trees) (asked : ExtractWords) (before after : Objects) (unchanged : Unchanged) (code : ℕ) (bytes : List ℕ) (failure : Failure) → (unchanged.shelf → after.shelf ≡ before.shelf)

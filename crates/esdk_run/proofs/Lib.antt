@@ -36,3 +36,5 @@ mod Promising
 pub mod Unplugged
 pub mod Resealing
 pub mod ResealTold
+mod FilesCame
+mod WhatCame

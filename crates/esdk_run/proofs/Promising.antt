@@ -14,7 +14,7 @@ use Rattle.esdk_run.specs.Promises.{Promises, Ticks, Words}
 use Rattle.esdk_run.specs.Run.{RunsAs}
 use Rattle.esdk_run.specs.Trees.{IsUntouched, Trees}
 use Rattle.esdk_run.specs.UnarmouredList.{ListEndsAs}
-use Rattle.esdk_run.proofs.Asked.{audited_asked, decrypt_asked, done_asked, encrypt_asked, extract_asked, judgement_asked, judgements_asked, jobs_asked, limits_asked, line_asked, migration_asked, openers_asked, others_asked, reads_asked, reseal_asked, round_trip_asked, whole_asked}
+use Rattle.esdk_run.proofs.Asked.{audit_asked, audited_asked, decrypt_asked, done_asked, encrypt_asked, extract_asked, judgement_asked, judgements_asked, jobs_asked, limits_asked, line_asked, migration_asked, openers_asked, others_asked, reads_asked, reseal_asked, round_trip_asked, whole_asked}
 use Rattle.esdk_run.proofs.EarlyEnds.{leaves_a_front}
 use Rattle.esdk_run.proofs.Encryption.{encrypt_comes_back, encrypts_what_fits, writes_the_message}
 use Rattle.esdk_run.proofs.Extraction.{extract_comes_back, extracts_of_content, extracts_sound_ranges, reads_no_more, says_what_it_extracts}
@@ -22,6 +22,8 @@ use Rattle.esdk_run.proofs.Keeping.{Keeps}
 use Rattle.esdk_run.proofs.ResealTold.{gives_back_first, reseals_whole_messages, rotates_what_is_written, says_what_it_reseals}
 use Rattle.esdk_run.proofs.TreesBack.{decrypt_comes_back, none_is_some}
 use Rattle.esdk_run.proofs.Unarmouring.{unread_text}
+use Rattle.esdk_run.proofs.FilesCame.{audits_if_done, extracts_if_done, names_if_fault}
+use Rattle.esdk_run.proofs.WhatCame.{opens_if_done, seals_if_done}
 
 pub promised : (trees : Trees) (words : Words) (before after : Objects) (unchanged : Unchanged) (time : Ticks) (code : ℕ)
     → (unchanged.output → after.output ≡ before.output) → (unchanged.shelf → after.shelf ≡ before.shelf) → RunsAs trees words before after unchanged code → Keeps words before after unchanged time code
@@ -35,10 +37,12 @@ promised trees words before after unchanged time code same unread runs keeps = r
   taken = keeps.taken;
   judged = keeps.judged;
   encrypt_tree = λ asked is. encrypt_comes_back trees asked before after unchanged code (encrypt_asked trees words asked before after unchanged code is runs);
+  sealed = λ asked is. seals_if_done trees asked before after unchanged code (encrypt_asked trees words asked before after unchanged code is runs);
   message = λ asked is. writes_the_message trees asked before after unchanged code (encrypt_asked trees words asked before after unchanged code is runs);
   fits = λ asked is. encrypts_what_fits trees asked before after unchanged code (encrypt_asked trees words asked before after unchanged code is runs);
   front = λ asked is. leaves_a_front trees asked before after unchanged code (encrypt_asked trees words asked before after unchanged code is runs);
   decrypt_tree = λ asked is. decrypt_comes_back trees asked before after (without_entropy unchanged) code (decrypt_asked trees words asked before after unchanged code is runs);
+  opened = λ asked is. opens_if_done trees asked before after (without_entropy unchanged) code same (decrypt_asked trees words asked before after unchanged code is runs);
   reads = λ asked is. reads_asked trees words asked before after unchanged code same is runs;
   judgement = λ asked is. judgement_asked trees words asked before after unchanged code is runs;
   whole = λ asked is. whole_asked trees words asked before after unchanged code is runs;
@@ -52,6 +56,8 @@ promised trees words before after unchanged time code same unread runs keeps = r
   jobs = λ name is. done_asked trees words name before after unchanged code is runs;
   generator = λ seed size is. line_asked trees words seed size before after unchanged code is runs;
   extract_tree = λ asked is. extract_comes_back trees asked before after unchanged code (extract_asked trees words asked before after unchanged code is runs);
+  extracted = λ asked is. extracts_if_done trees asked before after unchanged code (extract_asked trees words asked before after unchanged code is runs);
+  extract_fault = λ asked is. names_if_fault trees asked before after unchanged code (extract_asked trees words asked before after unchanged code is runs);
   extraction = λ asked is. says_what_it_extracts trees asked before after unchanged code (extract_asked trees words asked before after unchanged code is runs);
   sound_range = λ asked is. extracts_sound_ranges trees asked before after unchanged code (extract_asked trees words asked before after unchanged code is runs);
   range_of_content = λ asked is. extracts_of_content trees asked before after unchanged code (extract_asked trees words asked before after unchanged code is runs);
@@ -60,6 +66,7 @@ promised trees words before after unchanged time code same unread runs keeps = r
   resealing = λ asked is. says_what_it_reseals trees asked before after unchanged code (reseal_asked trees words asked before after unchanged code is runs);
   resealed_whole = λ asked is. reseals_whole_messages trees asked before after unchanged code (reseal_asked trees words asked before after unchanged code is runs);
   rotation = λ asked is. rotates_what_is_written trees asked before after unchanged code (reseal_asked trees words asked before after unchanged code is runs);
+  audit_came = λ name is. audits_if_done trees name before after unchanged code (audit_asked trees words name before after unchanged code is runs);
   audit = λ name is. openers_asked trees words name before after unchanged code is runs;
   audited = λ name is. audited_asked trees words name before after unchanged code is runs;
 }

@@ -94,7 +94,7 @@ second_has {N} meaning trees asked between new node made is has = subst (λ (n :
 ends_unasked : (run : Resealing) (input taken : SourceState) (output put : SinkState) (entropy spent : EntropyState) (same unasked : Type 0) (error : InputError)
     → ResealEnds run input taken output put entropy spent same unasked error → ResealEnds run input taken output put entropy spent same ⊤ error
 ends_unasked run input taken output put entropy spent same unasked (errors.Outside outsides.EntropyFault) ends =
-    record { rose = ends.rose; kept = ends.kept; same = ends.same; manager = tt }
+    record { rose = ends.rose; kept = ends.kept; none = ends.none; same = ends.same; manager = tt }
 ends_unasked run input taken output put entropy spent same unasked (errors.Outside outside) ends = ends
 ends_unasked run input taken output put entropy spent same unasked (errors.Fault fault) ends = ends
 ends_unasked run input taken output put entropy spent same unasked (errors.Refusal refusal) ends = ends

@@ -11,7 +11,7 @@ use Rattle.esdk_run.specs.Unarmoured.{InputEnds, ReadsAll, ReadsText, TextEnds}
 abbrev pub Implies : (So To : SourceState → SourceState → Type 0) → Type 0
 Implies So To = (seen read : SourceState) → So seen read → To seen read
 
-pub reads_then : (Reach : List ℕ → ℕ → Type 0) (input taken : SourceState) (So To : SourceState → SourceState → Type 0) → Implies So To → ReadsText Reach input taken So → ReadsText Reach input taken To
+pub reads_then : (Reach : List ℕ → List ℕ → Type 0) (input taken : SourceState) (So To : SourceState → SourceState → Type 0) → Implies So To → ReadsText Reach input taken So → ReadsText Reach input taken To
 reads_then Reach input taken So To then x = record {
   text = x.text;
   came = x.came;
@@ -20,6 +20,10 @@ reads_then Reach input taken So To then x = record {
   read = x.read;
   gives = x.gives;
   begins = x.begins;
+  none = x.none;
+  rest = x.rest;
+  bytes = x.bytes;
+  count = x.count;
   reach = x.reach;
   stayed = x.stayed;
   so = then x.seen x.read x.so;

@@ -1,5 +1,5 @@
 -- What `decrypt` says of an input that tells an armour text.
-use Rattle.std.proofs.Common.{◌≡◌, ◌∙◌, ℕ, ◌^◌, ◌<◌, true, List, ◌++◌, length, Option, Some, None, refl, sym, ap, subst, arith}
+use Rattle.std.proofs.Common.{◌≡◌, ◌∙◌, ℕ, ◌^◌, ◌<◌, true, false, List, [], ◌++◌, length, Option, Some, None, refl, sym, ap, subst, arith}
 use Rattle.std.specs.Prelude.{⊤}
 use Rattle.std.proofs.lemmas.List.{append-nil}
 use Rattle.std.specs.Io.KnownBytes.{Appends, Consumes, IsAtEnd}
@@ -37,13 +37,13 @@ use Rattle.esdk_run.specs.UnarmouredTold.{IsWholeText, input_fault}
 use Rattle.esdk_run.proofs.Unarmouring.{of_told}
 
 -- what a reader has of a text that is told
-pub text_seen : {Reach : List ℕ → ℕ → Type 0} (input taken : SourceState) (So : SourceState → SourceState → Type 0) (text : List ℕ) (x : ReadsText Reach input taken So) → input.left ≡ Some text
+pub text_seen : {Reach : List ℕ → List ℕ → Type 0} (input taken : SourceState) (So : SourceState → SourceState → Type 0) (text : List ℕ) (x : ReadsText Reach input taken So) → input.left ≡ Some text
     → x.seen.left ≡ Some (text_outlook text).bytes
 text_seen input taken So text x told = x.gives ∙ ap (λ (l : Option (List ℕ)). given_by l) told
 
 -- ---- only want of memory keeps a whole message in a whole text from being decrypted
 
-inner_memory : {Reach : List ℕ → ℕ → Type 0} (reader : Reader) (before after : Objects) (unwritten : Type 0) (text : List ℕ) (error : DecryptError) → IsWholeText reader before.input text → NothingFails before after
+inner_memory : {Reach : List ℕ → List ℕ → Type 0} (reader : Reader) (before after : Objects) (unwritten : Type 0) (text : List ℕ) (error : DecryptError) → IsWholeText reader before.input text → NothingFails before after
     → ReadsText Reach before.input after.input (λ seen read. DecryptEnds (asked_by reader) seen read before.output after.output unwritten error) → error ≡ errors.Memory
 inner_memory reader before after unwritten text error whole nothing x =
     memory_alone reader x.seen x.read before.output after.output unwritten (text_outlook text).bytes error
@@ -98,7 +98,7 @@ fault_is reader seen read before after unwritten fault (errors.Outside outside) 
 fault_is reader seen read before after unwritten fault errors.Memory is ends = absurd (cc is)
 
 -- what was read is the first fault of all that the text gives
-first_of : {Reach : List ℕ → ℕ → Type 0} (reader : Reader) (before after : Objects) (unwritten : Type 0) (text : List ℕ) (fault : Fault) (error : DecryptError) → before.input.left ≡ Some text
+first_of : {Reach : List ℕ → List ℕ → Type 0} (reader : Reader) (before after : Objects) (unwritten : Type 0) (text : List ℕ) (fault : Fault) (error : DecryptError) → before.input.left ≡ Some text
     → decryption_failure error ≡ failures.Fault fault → ReadsText Reach before.input after.input (λ seen read. DecryptEnds (asked_by reader) seen read before.output after.output unwritten error)
     → (fault_at_end (judged_by reader (text_outlook text).bytes).verdict ≡ Some fault)
     × Appends before.output.written after.output.written (content (judged_by reader (text_outlook text).bytes))
@@ -147,7 +147,7 @@ written_text reader writers m input written fits told few =
     let bytes : List ℕ = written_message m in
     let gives = armoured_bytes bytes fits few in
     let short : length bytes < 2 ^ 62 = subst (λ (b : List ℕ). length b < 2 ^ 62) gives (outlook_few (armour_text bytes)) in
-    let source : SourceState = record { left = Some bytes; given = 0; faults = 0 } in
+    let source : SourceState = record { left = Some bytes; given = 0; faults = 0; came = []; ended = false } in
     let whole : IsWholeInput reader source bytes = written_whole reader writers m source written refl short in
     record {
       told = told;

@@ -1,12 +1,11 @@
 -- An input that is read as armour text, by what its source keeps.
-use Rattle.std.proofs.Common.{◌≡◌, ◌⊎◌, ◌∙◌, ℕ, ◌+◌, ◌^◌, ◌≤◌, Bool, true, false, List, [], ◌++◌, length, Option, Some, None, Ok, Err, refl, sym, ap, subst, arith, inl, inr}
+use Rattle.std.proofs.Common.{◌≡◌, ◌⊎◌, ◌∙◌, ℕ, ◌+◌, ◌^◌, ◌<◌, ◌≤◌, Bool, true, false, List, [], ◌∷◌, ◌++◌, length, Option, Some, None, Ok, Err, refl, sym, ap, subst, arith, inl, inr}
 use Rattle.std.specs.Prelude.{IfSome}
 use Rattle.std.specs.declared.result.Result.{Result}
 use Rattle.std.specs.Option.{option_map}
 use Rattle.std.proofs.lemmas.Bool.{cases_lt}
-use Rattle.std.proofs.lemmas.List.{length-append, take_all}
+use Rattle.std.proofs.lemmas.List.{append-nil, length-append, take_all}
 use Rattle.whole_input.proofs.Coming.{came_more, came_none}
-use Rattle.std.specs.Io.KnownBytes.{Consumes, IsAtEnd}
 use Rattle.esdk_fields.specs.Counts.{Rose, Stayed}
 use Rattle.esdk_fields.specs.declared.faults.Fault.TheVariants.{BadArmour, Truncated}
 use Rattle.esdk_fields.specs.declared.refusals.Outside.TheVariants.{InputTooLong, SourceFault}
@@ -17,18 +16,18 @@ use Rattle.armour_core.specs.declared.reader.ArmourReader.{ArmourReader}
 use Rattle.armour_core.specs.declared.source.UnarmouredSource.{UnarmouredSource}
 use Rattle.armour_core.specs.declared.text_end.TextEnd.{TextEnd}
 use Rattle.armour_core.specs.declared.text_end.TextEnd.TheVariants.{Bad, TooLong, Whole}
-use Rattle.armour_core.specs.Outlook.{Outlook, text_outlook}
+use Rattle.armour_core.specs.Outlook.{Outlook, text_outlook, with_front}
 use Rattle.armour_core.specs.Unarmoured.{groups_read, unarmoured}
-use Rattle.armour_core.specs.ReaderLaws.{fails_more, fails_none, gives_behind, reads_none, wanted_before}
-use Rattle.armour_core.specs.ReaderOutlook.{FailsAs, IsWanted, KeepsOutlook, Outlasts, ReadsOn, coming, gives, pending, reader_outlook, told_end}
+use Rattle.armour_core.specs.ReaderLaws.{ends_so, fails_more, fails_none, reads_more, reads_none, seen_more, wanted_before}
+use Rattle.armour_core.specs.ReaderOutlook.{FailsAs, IsOver, IsWanted, KeepsOutlook, Outlasts, ReadsOn, coming, gives, pending, reader_outlook, told_end}
 use Rattle.armour_core.proofs.Sizes.{outlook_few}
 use Rattle.esdk_decrypt.specs.declared.errors.DecryptError.{DecryptError}
 use Rattle.esdk_decrypt.specs.declared.errors.DecryptError.TheVariants as errors
 use Rattle.esdk_report.specs.declared.failure.Failure.{Failure}
 use Rattle.esdk_report.specs.declared.failure.Failure.TheVariants as failures
 use Rattle.esdk_run.specs.Failures.{decryption_failure}
-use Rattle.esdk_run.specs.Unarmoured.{AllRead, EndsText, IsLongText, NoMoreTaken, ReadsText, TextEnds, given_by}
-use Rattle.esdk_run.specs.UnarmouredEnd.{IsReadOut, LooksOn, SeesAs, SeesEnd, left_of}
+use Rattle.esdk_run.specs.Unarmoured.{AllRead, EndsSo, EndsText, IsLongText, NoMoreTaken, ReadsText, TextEnds, given_by}
+use Rattle.esdk_run.specs.UnarmouredEnd.{IsBehind, IsReadOut, LooksOn, SeesAs, SeesEnd, left_of}
 
 -- ---- what is told
 
@@ -56,7 +55,10 @@ pub record ReadsOver (input taken seen read : SourceState) (sound : Bool) (judge
   pub none : r.pieces.taken ≡ 0
   pub unread : seen.given ≡ 0
   pub zero : f ≡ 0
-  pub first : Outlasts input mid r s seen.given read.given f m
+  pub goes : r.ending ≡ None
+  pub none_came : seen.came ≡ []
+  pub unseen : seen.ended ≡ false
+  pub first : Outlasts input mid r s seen.given read.given f m seen.came read.came seen.ended read.ended
   pub later : LooksOn mid taken s t m n sound
   pub seen_left : seen.left ≡ left_of input r
   pub seen_faults : seen.faults ≡ f
@@ -67,16 +69,17 @@ pub record ReadsOver (input taken seen read : SourceState) (sound : Bool) (judge
 
 -- what such a source tells and counts
 abbrev pub source_of : {S : Type 0} → (S → SourceState) → UnarmouredSource S → SourceState
-source_of state s = record { left = left_of (state s.text.now) s.reader; given = s.given; faults = s.faults }
+source_of state s = record { left = left_of (state s.text.now) s.reader; given = s.given; faults = s.faults; came = s.came.bytes; ended = s.ended }
 
 pub reads_over : {S : Type 0} (state : S → SourceState) (input back : S) (made read now : UnarmouredSource S) (called sound : Bool) (judged : Result (Unit {0}) DecryptError)
     → made.text.now ≡ input → ((text : List ℕ) → reader_outlook made.reader text ≡ text_outlook text) → made.reader.pieces.taken ≡ 0 → made.given ≡ 0 → made.faults ≡ 0
-    → Outlasts (state made.text.now) (state read.text.now) made.reader read.reader made.given read.given made.faults read.faults
+    → made.reader.ending ≡ None → made.came.bytes ≡ [] → made.ended ≡ false
+    → Outlasts (state made.text.now) (state read.text.now) made.reader read.reader made.given read.given made.faults read.faults made.came.bytes read.came.bytes made.ended read.ended
     → LooksOn (state read.text.now) (state now.text.now) read.reader now.reader read.faults now.faults called
     → called ≡ sound → (called ≡ true → read.faults ≡ 0 → SeesAs (state read.text.now) (state now.text.now) read.reader now.reader judged)
     → (called ≡ false → judged ≡ Ok tt) → back ≡ now.text.now
     → ReadsOver (state input) (state back) (source_of state made) (source_of state read) sound judged
-reads_over {S} state input back made read now called sound judged text outlook none unread zero first later is sees passes is_back =
+reads_over {S} state input back made read now called sound judged text outlook none unread zero goes none_came unseen first later is sees passes is_back =
     let all : ReadsOver (state made.text.now) (state now.text.now) (source_of state made) (source_of state read) sound judged = record {
       mid = state read.text.now;
       r = made.reader;
@@ -89,6 +92,9 @@ reads_over {S} state input back made read now called sound judged text outlook n
       none = none;
       unread = unread;
       zero = zero;
+      goes = goes;
+      none_came = none_came;
+      unseen = unseen;
       first = first;
       later = subst (λ (b : Bool). LooksOn (state read.text.now) (state now.text.now) read.reader now.reader read.faults now.faults b) is later;
       seen_left = refl;
@@ -108,26 +114,28 @@ gives_left : (r : ArmourReader) (left : Option (List ℕ)) → ((text : List ℕ
 gives_left r None outlook = refl
 gives_left r (Some text) outlook = ap (λ (o : Outlook). Some o.bytes) (outlook text)
 
-rest_none : (left : Option (List ℕ)) (all bytes : List ℕ) → Consumes (Some all) left bytes → IsAtEnd left → left ≡ Some []
-rest_none None all bytes none end = absurd none
-rest_none (Some rest) all bytes is end = ap (λ (b : List ℕ). Some b) end
+nothing_left : (xs : List ℕ) → length xs ≡ 0 → xs ≡ []
+nothing_left [] none = refl
+nothing_left (x ∷ xs) none = absurd (omega (arith, none))
 
 always_sound : (sound : Bool) (judged : Result (Unit {0}) DecryptError) (error : DecryptError) → judged ≡ Err error → (sound ≡ false → judged ≡ Ok tt) → sound ≡ true
 always_sound true judged error is passes = refl
 always_sound false judged error is passes = let none : judged ≡ Ok tt = passes refl in absurd (cc none)
 
 -- text of which no more than 2^62 bytes are taken
-count_is : (text : List ℕ) → length text ≤ 2 ^ 62 → length (text_outlook text).bytes ≡ length (unarmoured text).bytes
+pub bytes_are : (text : List ℕ) → length text ≤ 2 ^ 62 → (text_outlook text).bytes ≡ (unarmoured text).bytes
 unfolding text_outlook
-count_is text few = ap (λ (t : List ℕ). length (unarmoured t).bytes) (take_all most_input text few)
+bytes_are text few = ap (λ (t : List ℕ). (unarmoured t).bytes) (take_all most_input text few)
 
-none_given : length (unarmoured []).bytes ≡ 0
+-- what is to come behind text that was read on and then looked at
+both_all : (a b c : SourceState) (r s t : ArmourReader) (h : List ℕ) (one : ReadsOn a b r s h) (two : ReadsOn b c s t []) (more : List ℕ) → (IsOver t → c.ended ≡ true → more ≡ [])
+    → reader_outlook r ((one.text ++ two.text) ++ more) ≡ with_front h (reader_outlook t more)
+unfolding reads_more
+both_all a b c r s t h one two more may = (reads_more a b c r s t h [] one two).all more may ∙ ap (λ (l : List ℕ). with_front l (reader_outlook t more)) (append-nil h)
+
+none_given : (unarmoured []).bytes ≡ []
 unfolding unarmoured groups_read
 none_given = refl
-
--- what is so whatever is told
-always : (left : Option (List ℕ)) (P : Type 0) → P → OnTold left (λ bytes. P)
-always left P holds = on_told left (λ bytes. P) (λ bytes is. holds)
 
 -- ---- what is so of the text
 
@@ -160,9 +168,6 @@ module _ {input taken seen read : SourceState} {sound : Bool} {judged : Result (
   seen_gives : seen.left ≡ given_by input.left
   seen_gives = x.seen_left ∙ gives_left x.r input.left x.outlook
 
-  seen_told : (text : List ℕ) → input.left ≡ Some text → seen.left ≡ Some (text_outlook text).bytes
-  seen_told text is = seen_gives ∙ ap (λ (l : Option (List ℕ)). given_by l) is
-
   -- ---- how far the text was taken
 
   taken_whole : x.t.pieces.taken ≡ length (whole_text x)
@@ -176,44 +181,59 @@ module _ {input taken seen read : SourceState} {sound : Bool} {judged : Result (
 
   -- so many bytes a front of it gives
   gives_count : (text : List ℕ) → length text ≤ 2 ^ 62 → gives x.r text ≡ length (unarmoured text).bytes
-  gives_count text few = ap (λ (o : Outlook). length o.bytes) (x.outlook text) ∙ count_is text few
+  gives_count text few = ap (λ (o : Outlook). length o.bytes) (x.outlook text) ∙ ap length (bytes_are text few)
 
-  gives_whole : gives x.r (whole_text x) ≡ x.first.handed + gives x.t []
-  gives_whole =
-      let first = x.first.reads.all x.later.awaits.reads.text (λ over. (x.later.awaits.reads.over over).0) in
-      let later = gives_behind x.mid taken x.s x.t 0 x.later.awaits.reads in
-      omega (arith, first, later)
+  -- what it gives and how it ends, whatever follows it
+  whole_outlook : (more : List ℕ) → (IsOver x.t → taken.ended ≡ true → more ≡ []) → text_outlook (whole_text x ++ more) ≡ with_front x.first.handed (reader_outlook x.t more)
+  whole_outlook more may = sym (x.outlook (whole_text x ++ more)) ∙ both_all input x.mid taken x.r x.s x.t x.first.handed x.first.reads x.later.awaits.reads more may
 
-  -- so many were read
-  read_count : read.given ≡ x.first.handed
+  -- the bytes that weren't read
+  abbrev rest_there : List ℕ
+  rest_there = (reader_outlook x.t []).bytes
+
+  whole_bytes : (unarmoured (whole_text x)).bytes ≡ x.first.handed ++ rest_there
+  whole_bytes =
+      sym (bytes_are (whole_text x) few_whole) ∙ ap (λ (t : List ℕ). (text_outlook t).bytes) (sym (append-nil (whole_text x)))
+      ∙ ap (λ (o : Outlook). o.bytes) (whole_outlook [] (λ _ _. refl))
+
+  gives_whole : length (unarmoured (whole_text x)).bytes ≡ length x.first.handed + gives x.t []
+  gives_whole = ap length whole_bytes ∙ length-append x.first.handed rest_there
+
+  -- those that were
+  came_is : read.came ≡ x.first.handed
+  came_is = x.first.came ∙ ap (λ (l : List ℕ). l ++ x.first.handed) x.none_came
+
+  read_count : read.given ≡ length x.first.handed
   read_count =
-      let few = ap (λ (o : Outlook). length o.bytes) (x.outlook (whole_text x)) in
+      let few = ap length (bytes_are (whole_text x) few_whole) in
       omega (arith, x.first.given, x.unread, gives_whole, few, outlook_few (whole_text x))
 
-  all_read : IsReadOut x.t → AllRead (whole_text x) read.given
-  all_read out = let count = gives_count (whole_text x) few_whole in omega (arith, count, gives_whole, read_count, out)
+  all_read : IsReadOut x.t → AllRead (whole_text x) read.came
+  all_read out = whole_bytes ∙ ap (λ (l : List ℕ). x.first.handed ++ l) (nothing_left rest_there out) ∙ append-nil x.first.handed ∙ sym came_is
 
-  wanted_reach : IsWanted x.r (whole_text x) (x.first.handed + 0) → NoMoreTaken (whole_text x) read.given
-  wanted_reach (inl all) = let count = gives_count (whole_text x) few_whole in inl (omega (arith, count, all, read_count))
+  wanted_reach : IsWanted x.r (whole_text x) (length (x.first.handed ++ [])) → NoMoreTaken (whole_text x) read.came
+  wanted_reach (inl all) =
+      let count = gives_count (whole_text x) few_whole in
+      let size = length-append x.first.handed [] in inl (all_read (omega (arith, count, all, gives_whole, size)))
   wanted_reach (inr last) =
       let size = ap length last.all in
       let count = gives_count last.before (omega (arith, size, length-append last.before last.piece, few_whole)) in
-      inr (record { before = last.before; piece = last.piece; all = last.all; few = last.few; was = omega (arith, count, last.was, read_count) })
+      let was : length (unarmoured last.before).bytes < length read.came = omega (arith, count, last.was, length-append x.first.handed [], ap length came_is) in
+      inr (record { before = last.before; piece = last.piece; all = last.all; few = last.few; was = was })
 
   -- where it isn't looked for the end
-  reach_still : sound ≡ false → NoMoreTaken (whole_text x) read.given
+  reach_still : sound ≡ false → NoMoreTaken (whole_text x) read.came
   reach_still unsound = by_first x.first.wanted
     where
       none : x.later.awaits.reads.text ≡ []
       none = x.later.still unsound
 
-      by_first : (x.first.reads.text ≡ []) ⊎ IsWanted x.r x.first.reads.text x.first.handed → NoMoreTaken (whole_text x) read.given
+      by_first : (x.first.reads.text ≡ []) ⊎ IsWanted x.r x.first.reads.text (length x.first.handed) → NoMoreTaken (whole_text x) read.came
       by_first (inl empty) =
           let both : whole_text x ≡ [] = ap (λ (t : List ℕ). t ++ x.later.awaits.reads.text) empty ∙ none in
-          let count = gives_count (whole_text x) few_whole in
-          let nothing = ap (λ (t : List ℕ). length (unarmoured t).bytes) both in
-          inl (omega (arith, nothing, none_given, count, gives_whole, read_count))
-      by_first (inr wanted) = wanted_reach (wanted_before input x.mid taken x.r x.s x.t x.first.handed 0 x.first.reads x.later.awaits.reads none wanted)
+          let nothing : (unarmoured (whole_text x)).bytes ≡ [] = ap (λ (t : List ℕ). (unarmoured t).bytes) both ∙ none_given in
+          inl (all_read (omega (arith, ap length nothing, gives_whole)))
+      by_first (inr wanted) = wanted_reach (wanted_before input x.mid taken x.r x.s x.t x.first.handed [] x.first.reads x.later.awaits.reads none wanted)
 
   -- where a read failed, all bytes were read
   failed_out : Rose seen.faults read.faults → IsReadOut x.t
@@ -244,7 +264,7 @@ module _ {input taken seen read : SourceState} {sound : Bool} {judged : Result (
 
   -- ---- what was read
 
-  pub text_reads : (Reach : List ℕ → ℕ → Type 0) (So : SourceState → SourceState → Type 0) → So seen read → OnTold input.left (λ whole. Reach (whole_text x) read.given) → ReadsText Reach input taken So
+  pub text_reads : (Reach : List ℕ → List ℕ → Type 0) (So : SourceState → SourceState → Type 0) → So seen read → Reach (whole_text x) read.came → ReadsText Reach input taken So
   text_reads Reach So so reach = record {
     text = whole_text x;
     came = came_whole;
@@ -253,16 +273,20 @@ module _ {input taken seen read : SourceState} {sound : Bool} {judged : Result (
     read = read;
     gives = seen_gives;
     begins = x.unread;
+    none = x.none_came;
+    rest = rest_there;
+    bytes = whole_bytes ∙ ap (λ (l : List ℕ). l ++ rest_there) (sym came_is);
+    count = read_count ∙ ap length (sym came_is);
     reach = reach;
     stayed = still_stayed;
     so = so;
   }
 
   pub still_reads : (So : SourceState → SourceState → Type 0) → sound ≡ false → So seen read → ReadsText NoMoreTaken input taken So
-  still_reads So unsound so = text_reads NoMoreTaken So so (always input.left _ (reach_still unsound))
+  still_reads So unsound so = text_reads NoMoreTaken So so (reach_still unsound)
 
   out_reads : (So : SourceState → SourceState → Type 0) → IsReadOut x.t → So seen read → ReadsText AllRead input taken So
-  out_reads So out so = text_reads AllRead So so (always input.left _ (all_read out))
+  out_reads So out so = text_reads AllRead So so (all_read out)
 
   -- ---- how the text ends
 
@@ -276,49 +300,55 @@ module _ {input taken seen read : SourceState} {sound : Bool} {judged : Result (
       x.first.reads.end (text_outlook text).end
       (ap (λ (l : Option (List ℕ)). option_map (λ t. (reader_outlook x.r t).end) l) is ∙ ap (λ (o : Outlook). Some o.end) (x.outlook text))
 
-  ends_text : (end : TextEnd) → read.faults ≡ seen.faults → SeesEnd x.mid taken x.s end → EndsText input taken end
+  -- the end of what came
+  ends_so_there : (end : TextEnd) → x.t.ending ≡ Some end → EndsSo taken (whole_text x) end
+  ends_so_there end is more may = ap (λ (o : Outlook). o.end) (whole_outlook more (λ over ended. may ended)) ∙ ends_so x.t end more is
+
+  -- it was seen, where the text is whole
+  seen_there : (end : TextEnd) → x.t.ending ≡ Some end → end ≡ Whole → taken.ended ≡ true
+  seen_there end is whole =
+      seen_more input x.mid taken x.r x.s x.t x.first.handed [] x.first.reads x.later.awaits.reads x.goes (is ∙ ap (λ (e : TextEnd). Some e) whole)
+
+  ends_text : (end : TextEnd) → read.faults ≡ seen.faults → SeesEnd x.mid taken x.s x.t end → EndsText input taken end
   ends_text end same sees = record {
+    text = whole_text x;
+    came = came_whole;
+    ends = ends_so_there end sees.ending;
+    seen = seen_there end sees.ending;
     told = on_told input.left (λ text. (text_outlook text).end ≡ end) (λ text is. sees.told (text_outlook text).end (told_mid text is));
     faults = sees.faults ∙ none_failed same;
   }
 
-  is_long : read.faults ≡ seen.faults → SeesEnd x.mid taken x.s TooLong → x.t.pieces.taken ≡ most_input → IsLongText input taken
+  is_long : read.faults ≡ seen.faults → SeesEnd x.mid taken x.s x.t TooLong → x.t.pieces.taken ≡ most_input → IsLongText input taken
   is_long same sees taken_is =
       let ends = ends_text TooLong same sees in
       record {
         text = whole_text x;
         came = came_whole;
         most = record { faults = ends.faults; count = omega (arith, taken_whole, taken_is) };
+        ends = ends_so_there TooLong sees.ending;
         told = ends.told;
       }
 
   -- no text gives so many bytes
   never_most : MostCame seen read → ⊥
   never_most long =
-      let few = ap (λ (o : Outlook). length o.bytes) (x.outlook (whole_text x)) in
+      let few = ap length (bytes_are (whole_text x) few_whole) in
       omega (arith, long.came.given, long.most.count, x.unread, read_count, gives_whole, few, outlook_few (whole_text x))
 
 module _ {input taken seen read : SourceState} {sound : Bool} (x : ReadsOver input taken seen read sound (Ok tt)) where
-  -- behind all bytes that are told
-  sees_whole : sound ≡ true → AllCame seen read → (text : List ℕ) → input.left ≡ Some text → SeesEnd x.mid taken x.s Whole × IsReadOut x.t
-  sees_whole is all text told =
-      let seen_is : seen.left ≡ Some (text_outlook text).bytes = seen_told x text told in
-      let none : read.left ≡ Some [] =
-      rest_none read.left (text_outlook text).bytes all.bytes (subst (λ (l : Option (List ℕ)). Consumes l read.left all.bytes) seen_is all.came.consumed) all.end.end in
-      (sees_end x is all.end.faults).1 (sym x.read_left ∙ none)
+  -- behind the end of the bytes it was seen how the text ends
+  over_there : read.ended ≡ true → IsOver x.s
+  over_there ended = elim (x.first.ended ended) [
+    | inl before ↦ let e = sym x.unseen ∙ before in cc e
+    | inr over ↦ over.0
+  ]
 
-  -- the text is whole behind sound bytes of which all came
-  text_whole : sound ≡ true → AllCame seen read → EndsText input taken Whole
-  text_whole is all = record {
-    told = on_told input.left (λ text. (text_outlook text).end ≡ Whole) (λ text told. (sees_whole is all text told).0.told (text_outlook text).end (told_mid x text told));
-    faults = (sees_end x is all.end.faults).0 ∙ none_failed x all.end.faults;
-  }
+  sees_whole : sound ≡ true → AllCame seen read → SeesEnd x.mid taken x.s x.t Whole × IsReadOut x.t
+  sees_whole is all = (sees_end x is all.end.faults).1 (inr (over_there all.end.seen))
 
   pub whole_reads : (So : SourceState → SourceState → Type 0) → sound ≡ true → AllCame seen read → So seen read → EndsText input taken Whole × ReadsText AllRead input taken So
-  whole_reads So is all so = (
-    text_whole is all,
-    text_reads x AllRead So so (on_told input.left _ (λ text told. all_read x (sees_whole is all text told).1)),
-  )
+  whole_reads So is all so = let sees = sees_whole is all in (ends_text x Whole all.end.faults sees.0, out_reads x So sees.1 so)
 
   -- a command ends by what it read
   pub text_ends : (So All Sound : SourceState → SourceState → Type 0) (failure : Failure) → So seen read → IsOfBytes failure seen read sound (Sound seen read)
@@ -351,7 +381,7 @@ text_decides So All Sound errors.Memory x same all front = absurd (sees_end x (j
 
 pub unread_text : (input : SourceState) (So : SourceState → SourceState → Type 0) → ((seen : SourceState) → So seen seen) → ReadsText NoMoreTaken input input So
 unread_text input So so =
-    let seen : SourceState = record { left = given_by input.left; given = 0; faults = 0 } in
+    let seen : SourceState = record { left = given_by input.left; given = 0; faults = 0; came = []; ended = false } in
     record {
       text = [];
       came = came_none input;
@@ -360,7 +390,11 @@ unread_text input So so =
       read = seen;
       gives = refl;
       begins = refl;
-      reach = always input.left _ (inl none_given);
+      none = refl;
+      rest = (unarmoured []).bytes;
+      bytes = refl;
+      count = refl;
+      reach = inl none_given;
       stayed = λ _. omega arith;
       so = so seen;
     }
@@ -377,10 +411,11 @@ pub of_end : (ending : Option TextEnd) (end : TextEnd) (P : Type 0) → ending �
 of_end ending end P is holds = subst (λ (o : Option TextEnd). IfSome o (λ e. P)) is holds
 
 -- the end that was seen is the one that is told
-pub end_seen : (before now : SourceState) (old new : ArmourReader) (ending : Option TextEnd) (end : TextEnd) → ReadsOn before now old new 0
+pub end_seen : (before now : SourceState) (old new : ArmourReader) (ending : Option TextEnd) (end : TextEnd) → ReadsOn before now old new [] → ending ≡ new.ending
     → ((told : TextEnd) → told_end now new ≡ Some told → IfSome ending (λ e. e ≡ told)) → ending ≡ Some end → now.faults ≡ before.faults
-    → SeesEnd before now old end
-end_seen before now old new ending end reads seen is same = record {
+    → SeesEnd before now old new end
+end_seen before now old new ending end reads from seen is same = record {
+  ending = sym from ∙ is;
   told = λ told tells.
       let other : IfSome ending (λ e. e ≡ told) = seen told (reads.end told tells) in
       let one : end ≡ told = subst (λ (o : Option TextEnd). IfSome o (λ e. e ≡ told)) is other in
@@ -389,7 +424,7 @@ end_seen before now old new ending end reads seen is same = record {
 }
 
 -- behind all bytes it was seen
-pub none_unseen : (before now : SourceState) (old new : ArmourReader) → KeepsOutlook before now old new → (new.ending ≡ None → 1 ≤ length (pending new)) → left_of before old ≡ Some []
+none_unseen : (before now : SourceState) (old new : ArmourReader) → KeepsOutlook before now old new → (new.ending ≡ None → 1 ≤ length (pending new)) → left_of before old ≡ Some []
     → new.ending ≡ None → ⊥
 unfolding reader_outlook
 none_unseen before now old new keeps some left unseen = by_left before.left refl
@@ -404,3 +439,8 @@ none_unseen before now old new keeps some left unseen = by_left before.left refl
         let none : (reader_outlook new k.0).bytes ≡ [] = ap (λ (o : Outlook). o.bytes) k.2 ∙ cc all in
         let some_pending : 1 ≤ length (pending new) = some unseen in
         omega (arith, some_pending, ap length none, length-append (pending new) (coming new.ending new k.0).bytes)
+
+pub none_behind : (before now : SourceState) (old new : ArmourReader) → ReadsOn before now old new [] → KeepsOutlook before now old new → (new.ending ≡ None → 1 ≤ length (pending new)) → IsBehind before old
+    → new.ending ≡ None → ⊥
+none_behind before now old new reads keeps some (inl left) unseen = none_unseen before now old new keeps some left unseen
+none_behind before now old new reads keeps some (inr over) unseen = (reads.over over).1 unseen

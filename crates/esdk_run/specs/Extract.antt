@@ -10,6 +10,7 @@ use Rattle.keyring_trait.specs.Wrapping.{WrapKeyValue}
 use Rattle.esdk_batch.specs.Answering.{no_limits}
 use Rattle.esdk_decrypt.specs.Decrypt.{Asked}
 use Rattle.esdk_decrypt.specs.Told.{Reader}
+use Rattle.whole_input.specs.FileReads.{Grows}
 use Rattle.extract_core.specs.declared.errors.ExtractError.{ExtractError}
 use Rattle.extract_core.specs.declared.errors.ExtractError.TheVariants as errors
 use Rattle.extract_core.specs.Extracted.{ByteRange}
@@ -61,7 +62,7 @@ pub record HasTreeFor (trees : Trees) (asked : ExtractWords) (before after : Obj
 -- that the range names; where the manager answered, `Extracts` and `ExtractEnds` say: and the slots
 -- that are taken.
 abbrev pub ReadsOfFile : ExtractWords → ShelfState → ShelfState → Type 0
-ReadsOfFile asked middle after = OnFile middle asked.from
+ReadsOfFile asked middle after = OnFile middle after asked.from
     (λ bytes. after.given ≤ middle.given + most_read no_limits (range_asked asked) bytes)
 
 -- The range was written, as far as the message has it.
@@ -72,6 +73,7 @@ pub record ExtractsRange (trees : Trees) (asked : ExtractWords) (before after : 
   pub done : Extracts (extract_asked asked tree_for.given tree_for.tree tree_for.left) (range_asked asked)
       tree_for.middle after.shelf asked.from before.output after.output written
   pub faults : after.shelf.faults ≡ tree_for.middle.faults
+  pub grown : Grows tree_for.middle.calls after.shelf.calls
   pub reads : ReadsOfFile asked tree_for.middle after.shelf
 
 -- The extraction ended with this error.
@@ -80,6 +82,7 @@ pub record ExtractionFails (trees : Trees) (asked : ExtractWords) (before after 
   pub tree_for : HasTreeFor trees asked before after
   pub ended : ExtractEnds (extract_asked asked tree_for.given tree_for.tree tree_for.left) (range_asked asked)
       tree_for.middle after.shelf asked.from before.output after.output unwritten error
+  pub grown : Grows tree_for.middle.calls after.shelf.calls
   pub reads : UnlessMemory {T = ℕ} (Err error) (ReadsOfFile asked tree_for.middle after.shelf)
 
 -- Why a range wasn't extracted, and what that left. Want of memory is free.

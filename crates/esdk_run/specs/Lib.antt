@@ -32,3 +32,5 @@ pub mod UnarmouredDecrypt
 pub mod UnarmouredEnd
 pub mod UnarmouredList
 pub mod UnarmouredTold
+pub mod FilesCame
+pub mod WhatCame

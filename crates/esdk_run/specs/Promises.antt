@@ -9,6 +9,7 @@ use Rattle.esdk_base.specs.Clock.{Moments}
 use Rattle.esdk_base.specs.Streams.{OnTold}
 use Rattle.esdk_list.specs.List.{input_fault}
 use Rattle.esdk_run.specs.Ages.{KeepsAges}
+use Rattle.esdk_run.specs.FilesCame.{AuditsIfDone, ExtractsIfDone, NamesIfFault}
 use Rattle.esdk_run.specs.ExtractTold.{ExtractsOfContent, ExtractsSoundRanges, ReadsNoMore}
 use Rattle.esdk_run.specs.ExtractTold.{SaysWhatItExtracts}
 use Rattle.esdk_run.specs.AuditTold.{AuditsWhatIsHeld, SaysTheOpeners}
@@ -25,6 +26,7 @@ use Rattle.esdk_run.specs.Told.{EncryptsWhatFits, MigratesWhatIsHeld, ReadsBack}
 use Rattle.esdk_run.specs.Told.{SaysTheJudgement, SaysWhatItReads, WritesTheMessage}
 use Rattle.esdk_run.specs.Trees.{Trees}
 use Rattle.esdk_run.specs.Unarmoured.{outlook_of}
+use Rattle.esdk_run.specs.WhatCame.{OpensIfDone, SealsIfDone}
 
 -- what the words ask for, or why they are refused
 abbrev pub Words : Type 0
@@ -70,6 +72,10 @@ pub record Promises (trees : Trees) (words : Words) (before after : Objects)
   -- tells that it holds one, and doesn't fail, that is given back, unless memory runs out.
   pub encrypt_tree : On requests.Encrypt words
       (λ asked. ComesBack trees asked.pairs asked.keyring before.shelf after.shelf code)
+  -- `encrypt`: over any objects, once it is done the output gained the message of the bytes that came
+  -- from the input to its end, under the keys of the tree that came from the shelf, with the bytes that
+  -- were drawn.
+  pub sealed : On requests.Encrypt words (λ asked. SealsIfDone trees asked before after code)
   -- `encrypt`: the output gains the message of the input, as it is or as armour text.
   pub message : On requests.Encrypt words
       (λ asked. WritesTheMessage trees asked before after code)
@@ -83,6 +89,10 @@ pub record Promises (trees : Trees) (words : Words) (before after : Objects)
   -- `decrypt`: the same is so of its tree.
   pub decrypt_tree : On requests.Decrypt words
       (λ asked. ComesBack trees asked.pairs asked.keyring before.shelf after.shelf code)
+  -- `decrypt`: over any objects, once it is done the bytes that came from the input to its end, or those
+  -- that they give as armour text, are a whole message to the keys of the tree that came from the
+  -- shelf, and the output gained its content.
+  pub opened : On requests.Decrypt words (λ asked. OpensIfDone trees asked before after code)
   -- `decrypt`: of the bytes taken, what the keys of the tree read of them decides, whatever the
   -- objects tell.
   pub reads : On requests.Decrypt words (λ asked. SaysWhatItReads trees asked before after code)
@@ -123,6 +133,14 @@ pub record Promises (trees : Trees) (words : Words) (before after : Objects)
   -- tells that it holds one, and doesn't fail, that is given back, unless memory runs out.
   pub extract_tree : On requests.Extract words
       (λ asked. ComesBackBefore trees asked.pairs asked.keyring before.shelf after.shelf code)
+  -- `extract`: over any objects, once it is done the output gained the range of any bytes that
+  -- agree with what the reads of the message's file gave, under the keys of the tree that came from
+  -- the shelf.
+  pub extracted : On requests.Extract words
+      (λ asked. ExtractsIfDone trees asked before after code)
+  -- `extract`: and where it ends with a fault, that is the one of these bytes.
+  pub extract_fault : On requests.Extract words
+      (λ asked. NamesIfFault trees asked before after code)
   -- `extract`: of a file that the shelf tells the range is written, and the fault that ends it is
   -- named; no slot behind those that are taken is read.
   pub extraction : On requests.Extract words
@@ -151,6 +169,9 @@ pub record Promises (trees : Trees) (words : Words) (before after : Objects)
   -- keys, its text and its whole context.
   pub rotation : On requests.Reseal words
       (λ asked. RotatesWhatIsWritten trees asked before after code)
+  -- `audit`: over any objects, once it is done the lines are those of the bytes that came from the
+  -- shelf: of the file of the audit, of the keyring file, and of the front of each message's file.
+  pub audit_came : On requests.Audit words (λ name. AuditsIfDone trees name before after code)
   -- `audit`: of files that the shelf tells the lines say which leaves of a tree that tells its keys
   -- open which messages, and which messages a leaf is needed for.
   pub audit : On requests.Audit words (λ name. SaysTheOpeners trees name before after code)

@@ -1,6 +1,6 @@
 -- An input that is read as armour text, where the words ask for that: what it gives, and how a
 -- command ends that reads it so.
-use Rattle.std.specs.Prelude.{◌≡◌, ◌⊎◌, ℕ, ◌<◌, ◌≤◌, ◌^◌, Bool, true, false, List, length, Option}
+use Rattle.std.specs.Prelude.{◌≡◌, ◌⊎◌, ℕ, ◌<◌, ◌≤◌, ◌^◌, Bool, true, false, List, [], ◌++◌, length, Option}
 use Rattle.std.specs.Option.{option_map}
 use Rattle.esdk_fields.specs.Counts.{Rose, Stayed}
 use Rattle.esdk_fields.specs.declared.faults.Fault.TheVariants.{BadArmour, Truncated}
@@ -27,20 +27,20 @@ outlook_of false bytes = record { bytes = bytes; end = Whole }
 abbrev pub given_by : Option (List ℕ) → Option (List ℕ)
 given_by left = option_map (λ text. (text_outlook text).bytes) left
 
--- all bytes that the text gives were read, so many
-abbrev pub AllRead : (text : List ℕ) → (read : ℕ) → Type 0
-AllRead text read = length (unarmoured text).bytes ≡ read
+-- all bytes that the text gives were read
+abbrev pub AllRead : (text read : List ℕ) → Type 0
+AllRead text read = (unarmoured text).bytes ≡ read
 
 -- they were, or the last piece of the text was taken for a byte that was read
-abbrev pub NoMoreTaken : (text : List ℕ) → (read : ℕ) → Type 0
+abbrev pub NoMoreTaken : (text read : List ℕ) → Type 0
 NoMoreTaken text read = AllRead text read
-    ⊎ APieceBehind (λ front. length (unarmoured front).bytes < read) text
+    ⊎ APieceBehind (λ front. length (unarmoured front).bytes < length read) text
 
 -- At most 2^62 bytes of the input's text were taken, and of what the text gives this is so. That
 -- was seen as it stands behind the whole text at first, and was read on; where no read of the text
--- failed, none of this did. Where the text is told, `Reach` says how far of it was taken for so many
--- bytes that were read.
-pub record ReadsText (Reach : List ℕ → ℕ → Type 0) (input taken : SourceState)
+-- failed, none of this did. The bytes that were read are the first that the text gives which came,
+-- and `Reach` says how far of it was taken for them.
+pub record ReadsText (Reach : List ℕ → List ℕ → Type 0) (input taken : SourceState)
     (So : SourceState → SourceState → Type 0) : Type 0 where
   pub text : List ℕ
   pub came : Came input taken text
@@ -49,7 +49,11 @@ pub record ReadsText (Reach : List ℕ → ℕ → Type 0) (input taken : Source
   pub read : SourceState
   pub gives : seen.left ≡ given_by input.left
   pub begins : seen.given ≡ 0
-  pub reach : OnTold input.left (λ whole. Reach text read.given)
+  pub none : seen.came ≡ []
+  pub rest : List ℕ
+  pub bytes : (unarmoured text).bytes ≡ read.came ++ rest
+  pub count : read.given ≡ length read.came
+  pub reach : Reach text read.came
   pub stayed : Stayed input.faults taken.faults → Stayed seen.faults read.faults
   pub so : So seen read
 
@@ -61,20 +65,31 @@ ReadsInput false input taken So = So input taken
 
 -- ---- how the text ended
 
--- The text ended so, where it is told, and no read of it failed.
+-- the text that came ends so, whatever follows it; nothing does where its end was seen
+abbrev pub EndsSo : (taken : SourceState) → (text : List ℕ) → TextEnd → Type 0
+EndsSo taken text end = (more : List ℕ) → (taken.ended ≡ true → more ≡ [])
+    → (text_outlook (text ++ more)).end ≡ end
+
+-- The text that came ends so, and so does the one that is told; where it's whole, its end was seen.
+-- No read of it failed.
 pub record EndsText (input taken : SourceState) (end : TextEnd) : Type 0 where
+  pub text : List ℕ
+  pub came : Came input taken text
+  pub ends : EndsSo taken text end
+  pub seen : end ≡ Whole → taken.ended ≡ true
   pub told : OnTold input.left (λ text. (text_outlook text).end ≡ end)
   pub faults : taken.faults ≡ input.faults
 
--- 2^62 bytes of the text were taken, no read failed, and where it is told, no group of them is bad.
+-- 2^62 bytes of the text were taken, no read failed, and no group of them is bad.
 pub record IsLongText (input taken : SourceState) : Type 0 where
   pub text : List ℕ
   pub came : Came input taken text
   pub most : MostTaken input taken text
+  pub ends : EndsSo taken text TooLong
   pub told : OnTold input.left (λ text. (text_outlook text).end ≡ TooLong)
 
--- what is so of a whole input; one that is read as armour also ended with whole and good groups, and
--- all bytes that it gives were read
+-- what is so of a whole input; one that is read as armour also ended with whole and good groups,
+-- and all bytes that it gives were read
 abbrev pub ReadsAll : (armour : Bool) → SourceState → SourceState
     → (SourceState → SourceState → Type 0) → Type 0
 ReadsAll true input taken So = EndsText input taken Whole × ReadsText AllRead input taken So

@@ -1,5 +1,5 @@
 -- Files that are known.
-use Rattle.std.specs.Prelude.{ℕ, Contains}
+use Rattle.std.specs.Prelude.{Contains}
 use Rattle.esdk_system.specs.declared.identity.Identity.{Identity}
 use Rattle.esdk_system.specs.declared.identity.KnownFiles.{KnownFiles}
 

@@ -1,18 +1,20 @@
 //! The files of the system as a shelf.
 
-ghost use Rattle.std.specs.Prelude.{◌≡◌, ◌≤◌, None};
+ghost use Rattle.std.specs.Prelude.{◌≡◌, ◌≤◌, [], ◌∷◌, ◌++◌, None, OnErr, OnOk};
 ghost use Rattle.esdk_fields.specs.Counts.{HasCause, Rose};
+ghost use Rattle.esdk_seen.specs.Told.{call_of};
 
 use crate::identity::{Identity, KnownFiles};
 use crate::parts::Parts;
 use crate::read_files::ReadFiles;
 use esdk_base::{Failed, Readers, Shelf};
+use esdk_seen::{Call, SeenCalls};
 use std::alloc::AllocError;
 use std::marker::Model;
 use std::{fs, io};
 
-/// A shelf over the files of the system. A name is a path, as the user gave it. It tells no
-/// content.
+/// A shelf over the files of the system. A name is a path, as the user gave it. It tells what its
+/// calls read and wrote, and not what the files hold.
 ///
 /// Only regular files are read and written. A read from a file's front opens the file that has the
 /// name then, and the reads behind it go on with that file, whatever becomes of the name. At most
@@ -45,20 +47,25 @@ pub struct FileShelf {
     known: KnownFiles,
     given: u64,
     faults: u64,
+    calls: SeenCalls,
 }
 
 impl Model for FileShelf {
     ghost use Rattle.esdk_system.specs.FileShelf.{FileShelfState};
+    ghost use Rattle.esdk_seen.specs.Calls.{calls_code};
+    ghost use Rattle.std.specs.Coded.{codes};
 
     ghost Value = { FileShelfState };
 
-    ghost view = { λ s. record { given = s.given; faults = s.faults } };
+    ghost coded = { Prim.hlevel (codes, calls_code) };
+
+    ghost view = { λ s. record { given = s.given; faults = s.faults; calls = s.calls.calls } };
 }
 
 impl FileShelf {
     /// A shelf that has given nothing and not failed.
     pub fn new(rt: HostRuntime) -> FileShelf
-        ensures { result ≡ record { given = 0; faults = 0 } }
+        ensures { result ≡ record { given = 0; faults = 0; calls = [] } }
     {
         FileShelf {
             rt,
@@ -67,6 +74,7 @@ impl FileShelf {
             known: KnownFiles::new(rt.alloc()),
             given: 0,
             faults: 0,
+            calls: SeenCalls::new(),
         }
     }
 
@@ -80,6 +88,7 @@ impl FileShelf {
     /// Counts a fault.
     fn fault(&mut self) -> Failed
         ensures given { self.new.given ≡ self.old.given }
+        ensures calls { self.new.calls ≡ self.old.calls }
         ensures later { self.old.faults ≤ self.new.faults }
         ensures rose { Rose self.old.faults self.new.faults }
     {
@@ -87,25 +96,36 @@ impl FileShelf {
         Failed
     }
 
-    /// Counts a fault where there is an error.
-    fn count_fault(&mut self, ended: io::Result<()>) -> Result<(), Failed>
+    /// Notes the call where it didn't fail, and counts a fault where it did.
+    fn note(&mut self, ended: io::Result<()>, call: &Call<'_>) -> Result<(), Failed>
         ensures given { self.new.given ≡ self.old.given }
         ensures cause { HasCause self.old.faults self.new.faults result }
+        ensures noted { OnOk result (self.new.calls ≡ self.old.calls ++ call_of call.now ∷ []) }
+        ensures not_noted { OnErr result (self.new.calls ≡ self.old.calls) }
     {
         match ended {
-            Ok(()) => Ok(()),
+            Ok(()) => {
+                self.calls.see(call);
+                Ok(())
+            }
             Err(_) => Err(self.fault()),
         }
     }
 }
 
 impl Shelf for FileShelf {
-    ghost state = { λ s. record { files = None; given = s.given; faults = s.faults } };
+    ghost state = { λ s. record {
+      files = None;
+      given = s.given;
+      faults = s.faults;
+      calls = s.calls;
+    } };
 
     fn read_at(&mut self, name: &str, at: u64, out: &mut [u8]) -> Result<usize, Failed> {
         match self.read.read(&mut self.known, name, at, out) {
             Ok(count) => {
                 self.given = self.given.saturating_add(count as u64);
+                self.calls.see(&Call::Read(name, at, &out[..count]));
                 Ok(count)
             }
             Err(_) => Err(self.fault()),
@@ -114,12 +134,12 @@ impl Shelf for FileShelf {
 
     fn create(&mut self, name: &str) -> Result<(), Failed> {
         let created = self.parts.create(&self.known, name);
-        self.count_fault(created)
+        self.note(created, &Call::Create(name))
     }
 
     fn append(&mut self, name: &str, bytes: &[u8]) -> Result<(), Failed> {
         let appended = self.parts.append(name, bytes);
-        self.count_fault(appended)
+        self.note(appended, &Call::Append(name, bytes))
     }
 
     fn will_read(&mut self, name: &str) -> Result<(), AllocError> {
@@ -131,7 +151,8 @@ impl Shelf for FileShelf {
     }
 
     fn finish(&mut self, name: &str, readers: Readers) -> Result<(), Failed> {
+        let for_owner = matches!(&readers, Readers::Owner);
         let finished = self.parts.finish(&mut self.known, name, readers);
-        self.count_fault(finished)
+        self.note(finished, &Call::Finish(name, for_owner))
     }
 }

@@ -1,22 +1,26 @@
 //! Any reader of std as a source.
 
-ghost use Rattle.std.specs.Prelude.{◌≡◌, ⊤, None};
+ghost use Rattle.std.specs.Prelude.{◌≡◌, ⊤, [], None, false};
 ghost use Rattle.std.specs.Io.{ReadsAtMost};
 ghost use Rattle.std.specs.Io.KnownBytes.{ReadConsumes};
+ghost use Rattle.esdk_base.specs.Told.{ReadComes, ReadSeesEnd};
 ghost use Rattle.esdk_fields.specs.Counts.{CountsGiven, HasCause};
 
 use crate::interrupts::read_from;
-use esdk_base::{Failed, Source};
+use esdk_base::{Failed, Source, sees_end};
+use esdk_seen::SeenBytes;
 use std::io::Read;
 use std::marker::Model;
 
-/// A source over a reader of std, as standard input. It tells no content. A read that a signal
-/// interrupts is made again.
+/// A source over a reader of std, as standard input. It tells the bytes that came, and not those
+/// that are left. A read that a signal interrupts is made again.
 #[derive(Drop)]
 pub struct StdSource<R> {
     reader: R,
     given: u64,
     faults: u64,
+    came: SeenBytes,
+    ended: bool,
 }
 
 impl<R> Model for StdSource<R> {
@@ -24,24 +28,44 @@ impl<R> Model for StdSource<R> {
 
     ghost Value = { StdSourceState R };
 
-    ghost view = { λ s. record { reader = s.reader; given = s.given; faults = s.faults } };
+    ghost view = { λ s. record {
+      reader = s.reader;
+      given = s.given;
+      faults = s.faults;
+      came = s.came.bytes;
+      ended = s.ended;
+    } };
 }
 
 impl<R: Read> StdSource<R> {
     /// A source of what the reader gives from here on. It has given nothing and not failed.
     pub fn new(reader: R) -> StdSource<R>
-        ensures { result ≡ record { reader = reader; given = 0; faults = 0 } }
+        ensures { result ≡ record {
+          reader = reader;
+          given = 0;
+          faults = 0;
+          came = [];
+          ended = false;
+        } }
     {
         StdSource {
             reader,
             given: 0,
             faults: 0,
+            came: SeenBytes::new(),
+            ended: false,
         }
     }
 }
 
 impl<R: Read> Source for StdSource<R> {
-    ghost state = { λ s. record { left = None; given = s.given; faults = s.faults } };
+    ghost state = { λ s. record {
+      left = None;
+      given = s.given;
+      faults = s.faults;
+      came = s.came;
+      ended = s.ended;
+    } };
 
     ghost lasts = { λ _ _. ⊤ };
 
@@ -54,6 +78,8 @@ impl<R: Read> Source for StdSource<R> {
         ensures bytes { ReadConsumes None None result out.new }
         ensures given { CountsGiven self.old.given self.new.given result }
         ensures cause { HasCause self.old.faults self.new.faults result }
+        ensures came { ReadComes self.old.came self.new.came result out.new }
+        ensures ended { ReadSeesEnd self.old.ended self.new.ended result out.new }
 
         // The bytes are the reader's, where the reader tells them.
         ensures reader { ReadConsumes (R.remaining self.old.reader)
@@ -64,6 +90,8 @@ impl<R: Read> Source for StdSource<R> {
             return Err(Failed);
         };
         self.given = self.given.saturating_add(count as u64);
+        self.came.see(&out[..count]);
+        self.ended = sees_end(self.ended, out.len(), count);
         Ok(count)
     }
 }

@@ -8,18 +8,25 @@
 //! ones, calls it, and ends with its status.
 #![tactic(auto)]
 
-ghost use Rattle.std.specs.Prelude.{◌≡◌, length, IfOk};
+ghost use Rattle.std.specs.Prelude.{◌≡◌, ◌<◌, ◌^◌, length, IfOk, None};
+ghost use Rattle.esdk_args.specs.Words.{words_of};
+ghost use Rattle.esdk_run.specs.Objects.{as_before};
+ghost use Rattle.esdk_run.specs.Promises.{Promises, ticks};
+ghost use Rattle.esdk_run.specs.Run.{RunsAs};
+ghost use Rattle.esdk_run.specs.Trees.{trees_of};
+ghost use Rattle.esdk_tool.specs.RealObjects.{real_objects};
 
 use esdk_base::{Shelf, Sink};
 use esdk_fields::{Outside, Text};
 use esdk_report::{Failure, Status, report_failure};
-use esdk_run::run;
+use esdk_run::{Ended, run};
 use esdk_system::{FileShelf, HeldStreams, RngEntropy, StdSink, StdSource, SystemClock};
 use keydir_keyring::KeydirKeyring;
 use keyring_file::Plug;
+use keyring_trait::Keyring;
 use raw_aes_keyring::RawError;
-use std::alloc::AllocError;
-use std::io::ErrorKind;
+use std::alloc::{AllocError, Global};
+use std::io::{ErrorKind, Stdin, Stdout};
 use std::process::ExitCode;
 use std::{env, io};
 
@@ -65,7 +72,7 @@ fn run_words<R: Sink>(rt: HostRuntime, report: &mut R) -> Result<Status, Failure
     let mut shelf = shelf_of(rt)?;
     let mut entropy = RngEntropy::new(rand::make_rng(&rt).ok());
     let mut clock = SystemClock::new(rt);
-    let ended = run(
+    let ended = run_over(
         rt.alloc(),
         &words,
         &mut input,
@@ -78,6 +85,38 @@ fn run_words<R: Sink>(rt: HostRuntime, report: &mut R) -> Result<Status, Failure
     );
     shelf.remove_unfinished();
     Ok(ended.status)
+}
+
+/// Runs the program over the real objects. Its clauses are those of `run` over just their types:
+/// what it made of the bytes that standard input gave, of those that the reads of files gave, and
+/// of those that the generator gave, on what standard output took.
+fn run_over<P: Keyring, R: Sink>(
+    alloc: Global,
+    words: &[Text],
+    input: &mut StdSource<Stdin>,
+    output: &mut StdSink<Stdout>,
+    report: &mut R,
+    shelf: &mut FileShelf,
+    entropy: &mut RngEntropy,
+    clock: &mut SystemClock,
+    plugs: Vec<Plug<P>>,
+) -> Ended<P>
+    requires plugs { length plugs.items < 2 ^ 24 }
+    ensures runs { RunsAs (trees_of P.meaning plugs.items result.tree) (words_of words.now)
+        (real_objects input.old output.old shelf.old entropy.old (R.state report.old))
+        (real_objects input.new output.new shelf.new entropy.new (R.state report.new))
+        (as_before (input.new ≡ input.old) (output.new ≡ output.old)
+        (shelf.new ≡ shelf.old) (entropy.new ≡ entropy.old)) result.status.code }
+    ensures promises { Promises (trees_of P.meaning plugs.items result.tree) (words_of words.now)
+        (real_objects input.old output.old shelf.old entropy.old (R.state report.old))
+        (real_objects input.new output.new shelf.new entropy.new (R.state report.new))
+        (as_before (input.new ≡ input.old) (output.new ≡ output.old)
+        (shelf.new ≡ shelf.old) (entropy.new ≡ entropy.old))
+        (ticks None None (clock.new ≡ clock.old)) result.status.code }
+{
+    run(
+        alloc, words, input, output, report, shelf, entropy, clock, plugs,
+    )
 }
 
 /// A shelf over the files of the folder, that puts nothing in the place of the file `esdk.key`,

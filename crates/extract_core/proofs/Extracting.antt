@@ -11,7 +11,7 @@ use Rattle.esdk_fields.specs.declared.refusals.Outside.TheVariants as outsides
 use Rattle.esdk_fields.specs.Place.{start}
 use Rattle.esdk_fields.specs.Reading.{Reading, Read, Refused, Wanting}
 use Rattle.esdk_fields.proofs.Fronts.{left_is}
-use Rattle.esdk_base.specs.Shelf.{Holds, is_missing}
+use Rattle.esdk_base.specs.Shelf.{is_missing}
 use Rattle.esdk_base.specs.Streams.{ShelfState, SinkState}
 use Rattle.context_codec.specs.Context.{KeyValue}
 use Rattle.header_codec.specs.declared.settings.Settings.{Settings}
@@ -36,8 +36,10 @@ use Rattle.extract_core.specs.Extracted.{ByteRange, Extraction, OpenBody, body_b
 use Rattle.extract_core.specs.Extract.{ExtractEnds, Extracts, HasHeader, HasNoHeader, IsHeaderOf, OnFile, UnlessMemory, WritesBefore, WritesFront, WritesLess, answer_reach, body_begin, header_fault_at_end, header_reach, lock_reach, locked_as, most_header, most_read, most_taken, named_reach, taken_reach}
 use Rattle.extract_core.specs.Slots.{AreSlotsOf, OnBody, RangeFails, WritesRange, body_in, range_reach, slots_reach}
 use Rattle.extract_core.proofs.Definition.{taken_most}
-use Rattle.extract_core.proofs.Taking.{fails_from, holds_same}
+use Rattle.extract_core.proofs.Taking.{fails_from}
+use Rattle.whole_input.specs.FileReads.{Grows, IsSeenAs}
 use Rattle.whole_input.specs.Pieces.{most_piece}
+use Rattle.whole_input.proofs.Agreeing.{seen_first, seen_second}
 
 -- ---- the header that stands at the front
 
@@ -99,7 +101,7 @@ unfolding most_taken
 header_within settings range b answer = omega arith
 
 -- where a header is read, up to a piece behind it is
-header_read : (settings : Settings) (old mid : ShelfState) (name : List ℕ) (h : HeaderValue) → HasHeader settings old mid name h → OnFile old name (λ b. mid.given ≤ old.given + most_header settings b)
+header_read : (settings : Settings) (old mid : ShelfState) (name : List ℕ) (h : HeaderValue) → HasHeader settings old mid name h → OnFile old mid name (λ b. mid.given ≤ old.given + most_header settings b)
 header_read settings old mid name h has = λ b held.
     let is = has.is b held in
     omega (arith, has.given, is.begin, ap (header_reach b) is.begins.read)
@@ -136,7 +138,7 @@ writes_none asked range old new name output put unwritten same = record { front 
 -- ---- no header came
 
 pub without_header : (asked : Asked) (range : ByteRange) (old new : ShelfState) (name : List ℕ) (output : SinkState) (unwritten : Type 0) (error : ExtractError) → unwritten
-    → HasNoHeader asked.settings old new name error → UnlessMemory {T = HeaderValue} (Err error) (OnFile old name (λ b. new.given ≤ old.given + most_header asked.settings b)) → ExtractEnds asked range old new name output output unwritten error
+    → HasNoHeader asked.settings old new name error → UnlessMemory {T = HeaderValue} (Err error) (OnFile old new name (λ b. new.given ≤ old.given + most_header asked.settings b)) → ExtractEnds asked range old new name output output unwritten error
 without_header asked range old new name output unwritten (errors.Fault fault) same none given = record {
   there = none.0;
   writes = λ b h. ends_empty asked range old new output fault b (Refuses fault)
@@ -152,8 +154,8 @@ without_header asked range old new name output unwritten (errors.Outside outside
 without_header asked range old new name output unwritten errors.Memory same none given = writes_none asked range old new name output output unwritten same
 
 pub given_less : (T S : Type 0) (settings : Settings) (range : ByteRange) (old new : ShelfState) (name : List ℕ) (error : ExtractError)
-    → UnlessMemory {T = T} (Err error) (OnFile old name (λ b. new.given ≤ old.given + most_header settings b))
-    → UnlessMemory {T = S} (Err error) (OnFile old name (λ b. new.given ≤ old.given + most_read settings range b))
+    → UnlessMemory {T = T} (Err error) (OnFile old new name (λ b. new.given ≤ old.given + most_header settings b))
+    → UnlessMemory {T = S} (Err error) (OnFile old new name (λ b. new.given ≤ old.given + most_read settings range b))
 given_less T S settings range old new name (errors.Fault fault) given = λ b h. omega (arith, given b h)
 given_less T S settings range old new name (errors.Outside outside) given = λ b h. omega (arith, given b h)
 given_less T S settings range old new name errors.Memory given = tt
@@ -192,7 +194,7 @@ bears_locked old_m new_m now given h locks.Memory memory = memory
 
 -- how much is read where no slot is
 pub header_given : (settings : Settings) (range : ByteRange) (old mid : ShelfState) (name : List ℕ) (h : HeaderValue) → HasHeader settings old mid name h
-    → OnFile old name (λ b. mid.given ≤ old.given + most_read settings range b)
+    → OnFile old mid name (λ b. mid.given ≤ old.given + most_read settings range b)
 header_given settings range old mid name h has = λ b held. omega (arith, header_read settings old mid name h has b held)
 
 -- ---- the header is unlocked
@@ -208,55 +210,57 @@ body_same old_m new_m now settings given h opened begin s b u slots at =
     rw (content, slots.limit, key, id, first) refl
 
 -- What the run has, once the header is unlocked.
-pub record IsOpen (old_m new_m : ManagerNow) (now : ℕ) (settings : Settings) (given : List KeyValue) (old mid : ShelfState) (name : List ℕ) (s : Slots) : Type 0 where
+pub record IsOpen (old_m new_m : ManagerNow) (now : ℕ) (settings : Settings) (given : List KeyValue) (old mid after : ShelfState) (name : List ℕ) (s : Slots) : Type 0 where
   pub h : HeaderValue
   pub opened : Unlocked
   pub begin : ℕ
   pub has : HasHeader settings old mid name h
   pub files : mid.files ≡ old.files
+  pub grown : Grows old.calls mid.calls
+  pub later : Grows mid.calls after.calls
   pub unlocked : IsUnlocked old_m new_m now given h opened
   pub slots : AreSlotsOf opened begin settings.max_unit s
   pub at : begin ≡ body_begin h
 
-answer_in : (old_m new_m : ManagerNow) (now : ℕ) (settings : Settings) (given : List KeyValue) (old mid : ShelfState) (name : List ℕ) (s : Slots) → IsOpen old_m new_m now settings given old mid name s → Unlocking
-answer_in old_m new_m now settings given old mid name s o = Unlocks o.unlocked.materials.context o.unlocked.materials.only o.unlocked.materials.key
+answer_in : (old_m new_m : ManagerNow) (now : ℕ) (settings : Settings) (given : List KeyValue) (old mid after : ShelfState) (name : List ℕ) (s : Slots) → IsOpen old_m new_m now settings given old mid after name s → Unlocking
+answer_in old_m new_m now settings given old mid after name s o = Unlocks o.unlocked.materials.context o.unlocked.materials.only o.unlocked.materials.key
 
-open_answers : (old_m new_m : ManagerNow) (now : ℕ) (settings : Settings) (given : List KeyValue) (old mid : ShelfState) (name : List ℕ) (s : Slots) (o : IsOpen old_m new_m now settings given old mid name s) (b : List ℕ)
-    → Holds old.files name b
+open_answers : (old_m new_m : ManagerNow) (now : ℕ) (settings : Settings) (given : List KeyValue) (old mid after : ShelfState) (name : List ℕ) (s : Slots) (o : IsOpen old_m new_m now settings given old mid after name s) (b : List ℕ)
+    → IsSeenAs old mid name b
     → AnswersTo (asked_from old_m new_m now settings given).manager settings given b (Unlocks o.unlocked.materials.context o.unlocked.materials.only o.unlocked.materials.key)
-open_answers old_m new_m now settings given old mid name s o b held =
+open_answers old_m new_m now settings given old mid after name s o b held =
     let m = o.unlocked.materials in
     answers_of (asked_from old_m new_m now settings given).manager settings given b o.h (Unlocks m.context m.only m.key) (o.has.is b held) (m.served, o.unlocked.answered.found)
 
-open_extracts : (old_m new_m : ManagerNow) (now : ℕ) (settings : Settings) (given : List KeyValue) (old mid : ShelfState) (name : List ℕ) (s : Slots) (range : ByteRange) (o : IsOpen old_m new_m now settings given old mid name s) (b : List ℕ)
-    → Holds old.files name b
+open_extracts : (old_m new_m : ManagerNow) (now : ℕ) (settings : Settings) (given : List KeyValue) (old mid after : ShelfState) (name : List ℕ) (s : Slots) (range : ByteRange) (o : IsOpen old_m new_m now settings given old mid after name s) (b : List ℕ)
+    → IsSeenAs old mid name b
     → extracted b settings (Unlocks o.unlocked.materials.context o.unlocked.materials.only o.unlocked.materials.key) range ≡ extracted_body (body_in s b) range
-open_extracts old_m new_m now settings given old mid name s range o b held =
+open_extracts old_m new_m now settings given old mid after name s range o b held =
     let m = o.unlocked.materials in
     extracted_open b settings m.context m.only m.key range o.h (o.has.is b held) o.unlocked.sound
     ∙ ap (λ (x : OpenBody). extracted_body x range) (sym (body_same old_m new_m now settings given o.h o.opened o.begin s b o.unlocked o.slots o.at))
 
 -- how much is read, by what is read of the body
-open_reads : (old_m new_m : ManagerNow) (now : ℕ) (settings : Settings) (given : List KeyValue) (old mid after : ShelfState) (name : List ℕ) (s : Slots) (range : ByteRange) (o : IsOpen old_m new_m now settings given old mid name s)
-    → OnBody s mid name (λ b. after.given ≤ mid.given + range_reach b range)
-    → OnFile old name (λ b. after.given ≤ old.given + most_taken b settings (Unlocks o.unlocked.materials.context o.unlocked.materials.only o.unlocked.materials.key) range)
+open_reads : (old_m new_m : ManagerNow) (now : ℕ) (settings : Settings) (given : List KeyValue) (old mid after : ShelfState) (name : List ℕ) (s : Slots) (range : ByteRange) (o : IsOpen old_m new_m now settings given old mid after name s)
+    → OnBody s mid after name (λ b. after.given ≤ mid.given + range_reach b range)
+    → OnFile old after name (λ b. after.given ≤ old.given + most_taken b settings (Unlocks o.unlocked.materials.context o.unlocked.materials.only o.unlocked.materials.key) range)
 open_reads old_m new_m now settings given old mid after name s range o read = λ b held.
     let m = o.unlocked.materials in
-    let all = taken_open b settings m.context m.only m.key range o.h (o.has.is b held) o.unlocked.sound in
+    let all = taken_open b settings m.context m.only m.key range o.h (o.has.is b (seen_first old mid after name b o.grown o.later held)) o.unlocked.sound in
     let same = ap (λ (x : OpenBody). range_reach x range) (body_same old_m new_m now settings given o.h o.opened o.begin s b o.unlocked o.slots o.at) in
-    omega (arith, read b (holds_same old mid name b o.files held), o.has.given, all, same)
+    omega (arith, read b (seen_second old mid after name b o.files o.grown o.later held), o.has.given, all, same)
 
 pub extracts_all : (old_m new_m : ManagerNow) (now : ℕ) (settings : Settings) (given : List KeyValue) (old mid after : ShelfState) (name : List ℕ) (s : Slots) (range : ByteRange) (output put : SinkState) (r : Result ℕ ExtractError)
-    → IsOpen old_m new_m now settings given old mid name s → IfOk r (λ written. OnBody s mid name (λ b. WritesRange b range output put written)) → OnBody s mid name (λ b. after.given ≤ mid.given + range_reach b range)
+    → IsOpen old_m new_m now settings given old mid after name s → IfOk r (λ written. OnBody s mid after name (λ b. WritesRange b range output put written)) → OnBody s mid after name (λ b. after.given ≤ mid.given + range_reach b range)
     → IfOk r (Extracts (asked_from old_m new_m now settings given) range old after name output put)
 extracts_all old_m new_m now settings given old mid after name s range output put (Ok written) o wrote read = record {
   there = o.has.there;
   writes = λ b held.
-      let w = wrote b (holds_same old mid name b o.files held) in
-      let is = open_extracts old_m new_m now settings given old mid name s range o b held in
+      let w = wrote b (seen_second old mid after name b o.files o.grown o.later held) in
+      let is = open_extracts old_m new_m now settings given old mid after name s range o b (seen_first old mid after name b o.grown o.later held) in
       record {
         answer = Unlocks o.unlocked.materials.context o.unlocked.materials.only o.unlocked.materials.key;
-        answered = open_answers old_m new_m now settings given old mid name s o b held;
+        answered = open_answers old_m new_m now settings given old mid after name s o b (seen_first old mid after name b o.grown o.later held);
         sound = ap (λ (x : Extraction). x.fault) is ∙ w.fault;
         gained = subst (Appends output.written put.written) (sym (ap (λ (x : Extraction). x.part) is)) w.gained;
         count = w.count ∙ sym (ap (λ (x : Extraction). length x.part) is);
@@ -267,13 +271,13 @@ extracts_all old_m new_m now settings given old mid after name s range output pu
 
 -- a front of the range was written
 writes_front : (old_m new_m : ManagerNow) (now : ℕ) (settings : Settings) (given : List KeyValue) (old mid after : ShelfState) (name : List ℕ) (s : Slots) (range : ByteRange) (output put : SinkState)
-    → IsOpen old_m new_m now settings given old mid name s → OnBody s mid name (λ b. AppendsFront output.written put.written (extracted_body b range).part) → OnBody s mid name (λ b. after.given ≤ mid.given + range_reach b range)
-    → OnFile old name (WritesFront (asked_from old_m new_m now settings given) range old after output put)
+    → IsOpen old_m new_m now settings given old mid after name s → OnBody s mid after name (λ b. AppendsFront output.written put.written (extracted_body b range).part) → OnBody s mid after name (λ b. after.given ≤ mid.given + range_reach b range)
+    → OnFile old after name (WritesFront (asked_from old_m new_m now settings given) range old after output put)
 writes_front old_m new_m now settings given old mid after name s range output put o front read = λ b held. record {
   answer = Unlocks o.unlocked.materials.context o.unlocked.materials.only o.unlocked.materials.key;
-  answered = open_answers old_m new_m now settings given old mid name s o b held;
-  gained = subst (AppendsFront output.written put.written) (sym (ap (λ (x : Extraction). x.part) (open_extracts old_m new_m now settings given old mid name s range o b held)))
-      (front b (holds_same old mid name b o.files held));
+  answered = open_answers old_m new_m now settings given old mid after name s o b (seen_first old mid after name b o.grown o.later held);
+  gained = subst (AppendsFront output.written put.written) (sym (ap (λ (x : Extraction). x.part) (open_extracts old_m new_m now settings given old mid after name s range o b (seen_first old mid after name b o.grown o.later held))))
+      (front b (seen_second old mid after name b o.files o.grown o.later held));
   read = open_reads old_m new_m now settings given old mid after name s range o read b held;
 }
 
@@ -283,7 +287,7 @@ is_there false so here lost = absurd cc
 
 -- the file is there, and a front of the range was written
 writes_some : (old_m new_m : ManagerNow) (now : ℕ) (settings : Settings) (given : List KeyValue) (old mid after : ShelfState) (name : List ℕ) (s : Slots) (range : ByteRange) (output put : SinkState) (unwritten : Type 0)
-    → IsOpen old_m new_m now settings given old mid name s → OnBody s mid name (λ b. AppendsFront output.written put.written (extracted_body b range).part) → OnBody s mid name (λ b. after.given ≤ mid.given + range_reach b range)
+    → IsOpen old_m new_m now settings given old mid after name s → OnBody s mid after name (λ b. AppendsFront output.written put.written (extracted_body b range).part) → OnBody s mid after name (λ b. after.given ≤ mid.given + range_reach b range)
     → WritesLess (asked_from old_m new_m now settings given) range old after name output put unwritten
 writes_some old_m new_m now settings given old mid after name s range output put unwritten o front read = record {
   front = inr (writes_front old_m new_m now settings given old mid after name s range output put o front read);
@@ -291,16 +295,16 @@ writes_some old_m new_m now settings given old mid after name s range output put
 }
 
 range_ends : (old_m new_m : ManagerNow) (now : ℕ) (settings : Settings) (given : List KeyValue) (old mid after : ShelfState) (name : List ℕ) (s : Slots) (range : ByteRange) (output put : SinkState) (unwritten : Type 0) (error : ExtractError)
-    → IsOpen old_m new_m now settings given old mid name s → RangeFails s range mid after name output put error → OnBody s mid name (λ b. after.given ≤ mid.given + range_reach b range)
+    → IsOpen old_m new_m now settings given old mid after name s → RangeFails s range mid after name output put error → OnBody s mid after name (λ b. after.given ≤ mid.given + range_reach b range)
     → ExtractEnds (asked_from old_m new_m now settings given) range old after name output put unwritten error
 range_ends old_m new_m now settings given old mid after name s range output put unwritten (errors.Fault fault) o fails read = record {
   there = o.has.there;
   writes = λ b held.
-      let w = fails b (holds_same old mid name b o.files held) in
-      let is = open_extracts old_m new_m now settings given old mid name s range o b held in
+      let w = fails b (seen_second old mid after name b o.files o.grown o.later held) in
+      let is = open_extracts old_m new_m now settings given old mid after name s range o b (seen_first old mid after name b o.grown o.later held) in
       record {
         answer = Unlocks o.unlocked.materials.context o.unlocked.materials.only o.unlocked.materials.key;
-        answered = open_answers old_m new_m now settings given old mid name s o b held;
+        answered = open_answers old_m new_m now settings given old mid after name s o b (seen_first old mid after name b o.grown o.later held);
         fault_is = ap (λ (x : Extraction). x.fault) is ∙ w.fault_is;
         gained = subst (Appends output.written put.written) (sym (ap (λ (x : Extraction). x.part) is)) w.gained;
         read = open_reads old_m new_m now settings given old mid after name s range o read b held;
@@ -318,7 +322,7 @@ range_ends old_m new_m now settings given old mid after name s range output put 
     writes_some old_m new_m now settings given old mid after name s range output put unwritten o fails read
 
 pub extract_ends : (old_m new_m : ManagerNow) (now : ℕ) (settings : Settings) (given : List KeyValue) (old mid after : ShelfState) (name : List ℕ) (s : Slots) (range : ByteRange) (output put : SinkState) (unwritten : Type 0) (r : Result ℕ ExtractError)
-    → IsOpen old_m new_m now settings given old mid name s → IfErr r (RangeFails s range mid after name output put) → OnBody s mid name (λ b. after.given ≤ mid.given + range_reach b range)
+    → IsOpen old_m new_m now settings given old mid after name s → IfErr r (RangeFails s range mid after name output put) → OnBody s mid after name (λ b. after.given ≤ mid.given + range_reach b range)
     → IfErr r (ExtractEnds (asked_from old_m new_m now settings given) range old after name output put unwritten)
 extract_ends old_m new_m now settings given old mid after name s range output put unwritten (Ok written) o fails read = tt
 extract_ends old_m new_m now settings given old mid after name s range output put unwritten (Err error) o fails read =
@@ -343,22 +347,22 @@ reach_named b range =
     less false few = few
 
 pub extract_given : (old_m new_m : ManagerNow) (now : ℕ) (settings : Settings) (given : List KeyValue) (old mid after : ShelfState) (name : List ℕ) (s : Slots) (range : ByteRange) (r : Result ℕ ExtractError)
-    → IsOpen old_m new_m now settings given old mid name s → OnBody s mid name (λ b. after.given ≤ mid.given + range_reach b range)
-    → UnlessMemory r (OnFile old name (λ b. after.given ≤ old.given + most_read settings range b))
+    → IsOpen old_m new_m now settings given old mid after name s → OnBody s mid after name (λ b. after.given ≤ mid.given + range_reach b range)
+    → UnlessMemory r (OnFile old after name (λ b. after.given ≤ old.given + most_read settings range b))
 extract_given old_m new_m now settings given old mid after name s range r o read =
     unless r _ (λ b held.
-    let is = o.has.is b held in
-    let more = read b (holds_same old mid name b o.files held) in
+    let is = o.has.is b (seen_first old mid after name b o.grown o.later held) in
+    let more = read b (seen_second old mid after name b o.files o.grown o.later held) in
     let content : s.content ≡ is.begins.parts.content = o.slots.content ∙ ap (λ (l : HeaderValue). l.content) o.unlocked.opens.lock_is ∙ ap (λ (x : HeaderValue). x.content) (sym (head_is settings o.h b is)) in
     let left : drop s.begin b ≡ is.end.left = ap (λ (n : ℕ). drop n b) (o.slots.first ∙ o.at) ∙ sym (body_left b settings o.h is) in
     let reach : slots_reach s.content s.max_unit range (drop s.begin b) (slot_count s.content range) ≡ named_reach settings range (Read is.begins.parts is.end) = rw (content, left, o.slots.limit) refl in
     let named = ap (named_reach settings range) is.begins.read in
-    omega (arith, more, header_read settings old mid name o.h o.has b held, reach, named, reach_named (body_in s b) range))
+    omega (arith, more, header_read settings old mid name o.h o.has b (seen_first old mid after name b o.grown o.later held), reach, named, reach_named (body_in s b) range))
 
 -- the same of an error that was passed on
 pub passed_given : (T S : Type 0) (settings : Settings) (range : ByteRange) (old new : ShelfState) (name : List ℕ) (error : ExtractError) (r : Result S ExtractError) → IsErrAnd r (λ other. other ≡ error)
-    → UnlessMemory {T = T} (Err error) (OnFile old name (λ b. new.given ≤ old.given + most_header settings b))
-    → UnlessMemory r (OnFile old name (λ b. new.given ≤ old.given + most_read settings range b))
+    → UnlessMemory {T = T} (Err error) (OnFile old new name (λ b. new.given ≤ old.given + most_header settings b))
+    → UnlessMemory r (OnFile old new name (λ b. new.given ≤ old.given + most_read settings range b))
 passed_given T S settings range old new name error (Ok x) is given = absurd is
 passed_given T S settings range old new name error (Err other) is given =
-    subst (λ (e : ExtractError). UnlessMemory {T = S} (Err e) (OnFile old name (λ b. new.given ≤ old.given + most_read settings range b))) (sym is) (given_less T S settings range old new name error given)
+    subst (λ (e : ExtractError). UnlessMemory {T = S} (Err e) (OnFile old new name (λ b. new.given ≤ old.given + most_read settings range b))) (sym is) (given_less T S settings range old new name error given)

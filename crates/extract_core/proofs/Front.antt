@@ -1,5 +1,5 @@
 -- The header at the front of a file.
-use Rattle.std.proofs.Common.{◌≡◌, ◌⊎◌, ℕ, ◌+◌, ◌^◌, ◌<◌, ◌≤◌, Bool, true, false, List, [], ◌∷◌, ◌++◌, length, take, Option, Some, None, Err, refl, sym, ap, subst, ◌∙◌, arith, inl, inr, append_assoc}
+use Rattle.std.proofs.Common.{◌≡◌, ◌⊎◌, ℕ, ◌+◌, ◌^◌, ◌<◌, ◌≤◌, Bool, true, false, List, [], ◌∷◌, ◌++◌, length, take, drop, Option, Some, None, Err, refl, sym, ap, subst, ◌∙◌, arith, inl, inr, append_assoc}
 use Rattle.std.specs.FinMap.{get}
 use Rattle.std.specs.Io.KnownBytes.{Consumes, IsAtEnd}
 use Rattle.std.proofs.lemmas.List.{append-nil, length-append, length-take}
@@ -27,7 +27,9 @@ use Rattle.header_input.specs.Taking.{HoldsHeader, NoneCame}
 use Rattle.header_input.specs.declared.errors.NoHeader.{NoHeader}
 use Rattle.header_input.specs.declared.errors.NoHeader.TheVariants as headers
 use Rattle.whole_input.specs.declared.pieces.End.TheVariants as ends
-use Rattle.whole_input.specs.Taken.{Came}
+use Rattle.whole_input.specs.FileReads.{ComesFrom, Grows, IsSeenAs, reads_in_row}
+use Rattle.whole_input.specs.Taken.{Came, EndSeen}
+use Rattle.whole_input.proofs.Agreeing.{came_front, came_whole}
 use Rattle.extract_core.specs.Extract.{HasHeader, HasNoHeader, IsHeaderOf, OnFile, UnlessMemory, authentication_size, body_begin, header_fault_at_end, header_reach, most_header, unheaded_as}
 use Rattle.whole_input.specs.FileSource.{ReadsOn, file_left, left_from}
 
@@ -105,14 +107,36 @@ never_ends None is end = cc
 
 -- The state of the source is that of the file, which was read on from its front.
 pub record IsFront (old new : ShelfState) (name : List ℕ) (first now : SourceState) (at : ℕ) : Type 0 where
-  pub first_is : first ≡ record { left = file_left old.files name 0; given = 0; faults = 0 }
+  pub first_is : first ≡ record { left = file_left old.files name 0; given = 0; faults = 0; came = []; ended = false }
   pub left : now.left ≡ file_left new.files name at
   pub given : now.given ≡ at
   pub few : at ≤ 2 ^ 62
   pub on : ReadsOn old new name 0 at 0 now.faults
+  pub comes : ComesFrom name 0 at old.calls new.calls [] now.came false now.ended
 
 first_left : (old new : ShelfState) (name : List ℕ) (first now : SourceState) (at : ℕ) → IsFront old new name first now at → (told : List ℕ) → Holds old.files name told → first.left ≡ Some told
 first_left old new name first now at front told h = ap (λ (s : SourceState). s.left) front.first_is ∙ left_is old.files name told h
+
+came_is : (old new : ShelfState) (name : List ℕ) (first now : SourceState) (at : ℕ) (bytes : List ℕ) → IsFront old new name first now at → Came first now bytes → now.came ≡ [] ++ bytes
+came_is old new name first now at bytes front came = came.told ∙ ap (λ (s : SourceState). s.came ++ bytes) front.first_is
+
+-- the file begins with what came
+begins_with : (old new : ShelfState) (name : List ℕ) (first now : SourceState) (at : ℕ) (told bytes : List ℕ) → IsFront old new name first now at → IsSeenAs old new name told → Came first now bytes
+    → (rest : List ℕ) × (told ≡ bytes ++ rest)
+begins_with old new name first now at told bytes front (inl h) came = front_of first.left now.left told bytes (first_left old new name first now at front told h) came.consumed
+begins_with old new name first now at told bytes front (inr read) came =
+    (drop (length bytes) told, came_front name at old.calls new.calls [] now.came bytes told false now.ended front.comes (came_is old new name first now at bytes front came) read)
+
+-- and is it, where its end was seen
+is_whole : (old new : ShelfState) (name : List ℕ) (first now : SourceState) (at : ℕ) (told bytes : List ℕ) → IsFront old new name first now at → IsSeenAs old new name told → Came first now bytes
+    → EndSeen first now bytes → told ≡ bytes
+is_whole old new name first now at told bytes front (inl h) came end = all_of first.left now.left told bytes (first_left old new name first now at front told h) came.consumed end.end
+is_whole old new name first now at told bytes front (inr read) came end =
+    came_whole name at old.calls new.calls [] now.came bytes told false now.ended front.comes (came_is old new name first now at bytes front came) refl end.seen read
+
+-- calls were only added
+pub front_grows : (old new : ShelfState) (name : List ℕ) (first now : SourceState) (at : ℕ) → IsFront old new name first now at → Grows old.calls new.calls
+front_grows old new name first now at front = (reads_in_row name 0 front.comes.row.pieces, front.comes.row.calls)
 
 cases : (b : Bool) → (b ≡ true) ⊎ (b ≡ false)
 cases true = inl refl
@@ -150,7 +174,7 @@ header_came settings reader old new name first now at h front holds shows =
       there = there_came old new name first now at (length holds.bytes) front
           (omega (arith, ap length holds.holds.front, long, some_bytes settings taken (λ wanting. read_not_wanting (header settings (start taken)) holds.holds.parts holds.holds.end holds.holds.read wanting))) holds.came.given;
       is = λ told h_told.
-          let more = front_of first.left now.left told holds.bytes (first_left old new name first now at front told h_told) holds.came.consumed in
+          let more = begins_with old new name first now at told holds.bytes front h_told holds.came in
           let all : told ≡ taken ++ (rest ++ more.0) = more.1 ∙ ap (λ (l : List ℕ). l ++ more.0) holds.holds.front ∙ append_assoc taken rest more.0 in
           subst (IsHeaderOf settings h) (sym all) (record {
             end = followed (record { at = length taken; left = [] }) (rest ++ more.0);
@@ -182,13 +206,13 @@ pub none_came : (settings : Settings) (old new : ShelfState) (name : List ℕ) (
 none_came settings old new name first now at (headers.Fault fault) front none = (
   there_came old new name first now at (length none.bytes) front (some_bytes settings none.bytes (refused_not_wanting (header settings (start none.bytes)) fault none.at none.refused)) none.came.given,
   λ told h.
-      let more = front_of first.left now.left told none.bytes (first_left old new name first now at front told h) none.came.consumed in
+      let more = begins_with old new name first now at told none.bytes front h none.came in
       ap (λ (b : List ℕ). header_fault_at_end (header settings (start b))) more.1
       ∙ ap header_fault_at_end (fault_stays (header settings) none.bytes more.0 fault none.at (IsSequential-header settings) none.refused),
 )
 none_came settings old new name first now at (headers.End ends.Seen) front none = (
   there_ended old new name first now at front none.end.end,
-  λ told h. ap (λ (b : List ℕ). header_fault_at_end (header settings (start b))) (all_of first.left now.left told none.bytes (first_left old new name first now at front told h) none.came.consumed none.end.end)
+  λ told h. ap (λ (b : List ℕ). header_fault_at_end (header settings (start b))) (is_whole old new name first now at told none.bytes front h none.came none.end)
       ∙ ap header_fault_at_end none.wanting,
 )
 none_came settings old new name first now at (headers.End ends.Failed) front none = failed_cause old new name first now at front none.rose
@@ -201,7 +225,7 @@ reach_of : (settings : Settings) (told : List ℕ) (r : Reading Head) → header
 reach_of settings told r e = ap (header_reach told) e
 
 pub given_came : (settings : Settings) (reader : HeaderReader) (old new : ShelfState) (name : List ℕ) (h : HeaderValue) → HasHeader settings old new name h
-    → OnFile old name (λ told. new.given ≤ old.given + most_header settings told)
+    → OnFile old new name (λ told. new.given ≤ old.given + most_header settings told)
 given_came settings reader old new name h has = λ told holds.
     let is = has.is told holds in
     omega (arith, has.given, reach_of settings told (Read is.begins.parts is.end) is.begins.read, is.begin)
@@ -216,17 +240,17 @@ within_reach settings told b rest (Refused fault at) is wants e =
 within_reach settings told b rest Wanting is wants e = omega (arith, ap length is, length-append b rest)
 
 wanting_given : (settings : Settings) (old new : ShelfState) (name : List ℕ) (first now : SourceState) (at : ℕ) (b : List ℕ) → IsFront old new name first now at
-    → Came first now b → header settings (start b) ≡ Wanting → OnFile old name (λ told. new.given ≤ old.given + most_header settings told)
+    → Came first now b → header settings (start b) ≡ Wanting → OnFile old new name (λ told. new.given ≤ old.given + most_header settings told)
 wanting_given settings old new name first now at b front came wants = λ told h.
-    let more = front_of first.left now.left told b (first_left old new name first now at front told h) came.consumed in
+    let more = begins_with old new name first now at told b front h came in
     let most = within_reach settings told b more.0 (header settings (start (b ++ more.0))) more.1 wants refl in
     let same = ap (λ (l : List ℕ). header_reach told (header settings (start l))) more.1 in
     omega (arith, front.on.given, front.given, came.most, most, same, ap (λ (s : SourceState). s.given) front.first_is)
 
 pub none_given : (settings : Settings) (old new : ShelfState) (name : List ℕ) (first now : SourceState) (at : ℕ) (error : NoHeader) → IsFront old new name first now at
-    → NoneCame settings first now error → UnlessMemory {T = HeaderValue} (Err (unheaded_as error)) (OnFile old name (λ told. new.given ≤ old.given + most_header settings told))
+    → NoneCame settings first now error → UnlessMemory {T = HeaderValue} (Err (unheaded_as error)) (OnFile old new name (λ told. new.given ≤ old.given + most_header settings told))
 none_given settings old new name first now at (headers.Fault fault) front none = λ told h.
-    let more = front_of first.left now.left told none.bytes (first_left old new name first now at front told h) none.came.consumed in
+    let more = begins_with old new name first now at told none.bytes front h none.came in
     let refused : header settings (start told) ≡ Refused fault none.at =
     ap (λ (b : List ℕ). header settings (start b)) more.1 ∙ fault_stays (header settings) none.bytes more.0 fault none.at (IsSequential-header settings) none.refused in
     omega (arith, front.on.given, front.given, none.came.most, none.few, reach_of settings told (Refused fault none.at) refused, ap (λ (s : SourceState). s.given) front.first_is)
@@ -242,23 +266,32 @@ shows_none settings reader bytes holds wanting = read_not_wanting (header settin
     read_not_wanting r parts end e w = cc
 
 -- The source was made of the file, and is read on.
-pub front_is : (old new : ShelfState) (name : List ℕ) (first now : SourceState) (at faults : ℕ) → first ≡ record { left = file_left old.files name 0; given = 0; faults = 0 }
-    → now ≡ record { left = file_left new.files name at; given = at; faults = faults } → now.given ≤ first.given + 2 ^ 62 → ReadsOn old new name 0 at 0 faults → IsFront old new name first now at
-front_is old new name first now at faults first_is now_is few on = record {
+pub front_is : (old new : ShelfState) (name : List ℕ) (first now : SourceState) (at faults : ℕ) (came : List ℕ) (ended : Bool)
+    → first ≡ record { left = file_left old.files name 0; given = 0; faults = 0; came = []; ended = false }
+    → now ≡ record { left = file_left new.files name at; given = at; faults = faults; came = came; ended = ended } → now.given ≤ first.given + 2 ^ 62 → ReadsOn old new name 0 at 0 faults
+    → ComesFrom name 0 at old.calls new.calls [] now.came false now.ended → IsFront old new name first now at
+front_is old new name first now at faults came ended first_is now_is few on comes = record {
   first_is = first_is;
   left = ap (λ (s : SourceState). s.left) now_is;
   given = ap (λ (s : SourceState). s.given) now_is;
   few = omega (arith, few, ap (λ (s : SourceState). s.given) now_is, ap (λ (s : SourceState). s.given) first_is);
   on = subst (λ (n : ℕ). ReadsOn old new name 0 at 0 n) (sym (ap (λ (s : SourceState). s.faults) now_is)) on;
+  comes = comes;
 }
 
 -- the same by what is known of the source's parts
-pub front_made : (made old read : ShelfState) (made_name name now_name : List ℕ) (made_at made_faults at faults : ℕ) → made ≡ old → made_name ≡ name → made_at ≡ 0 → made_faults ≡ 0 → now_name ≡ made_name
-    → ReadsOn made read made_name made_at at made_faults faults → at ≤ made_at + 2 ^ 62
-    → IsFront old read name (record { left = file_left made.files made_name made_at; given = made_at; faults = made_faults }) (record { left = file_left read.files now_name at; given = at; faults = faults }) at
-front_made made old read made_name name now_name made_at made_faults at faults shelf name_is at_is faults_is same on few =
-    front_is old read name _ _ at faults (rw (shelf, name_is, at_is, faults_is) refl) (rw (same, name_is) refl) few
+pub front_made : (made old read : ShelfState) (made_name name now_name : List ℕ) (made_at made_faults at faults : ℕ) (made_came came : List ℕ) (made_ended ended : Bool) → made ≡ old → made_name ≡ name → made_at ≡ 0 → made_faults ≡ 0
+    → made_came ≡ [] → made_ended ≡ false → now_name ≡ made_name → ReadsOn made read made_name made_at at made_faults faults → ComesFrom made_name made_at at made.calls read.calls made_came came made_ended ended → at ≤ made_at + 2 ^ 62
+    → IsFront old read name (record { left = file_left made.files made_name made_at; given = made_at; faults = made_faults; came = made_came; ended = made_ended })
+    (record { left = file_left read.files now_name at; given = at; faults = faults; came = came; ended = ended }) at
+front_made made old read made_name name now_name made_at made_faults at faults made_came came made_ended ended shelf name_is at_is faults_is came_none not_ended same on comes few =
+    front_is old read name _ _ at faults came ended (rw (shelf, name_is, at_is, faults_is, came_none, not_ended) refl) (rw (same, name_is) refl) few
     (subst (λ (s : ShelfState). ReadsOn s read name 0 at 0 faults) shelf
     (subst (λ (n : List ℕ). ReadsOn made read n 0 at 0 faults) name_is
     (subst (λ (m : ℕ). ReadsOn made read made_name m at 0 faults) at_is
     (subst (λ (m : ℕ). ReadsOn made read made_name made_at at m faults) faults_is on))))
+    (subst (λ (s : ShelfState). ComesFrom name 0 at s.calls read.calls [] came false ended) shelf
+    (subst (λ (n : List ℕ). ComesFrom n 0 at made.calls read.calls [] came false ended) name_is
+    (subst (λ (m : ℕ). ComesFrom made_name m at made.calls read.calls [] came false ended) at_is
+    (subst (λ (b : List ℕ). ComesFrom made_name made_at at made.calls read.calls b came false ended) came_none
+    (subst (λ (e : Bool). ComesFrom made_name made_at at made.calls read.calls made_came came e ended) not_ended comes)))))

@@ -1,3 +1,4 @@
+pub mod Coming
 pub mod Cuts
 pub mod Heads
 pub mod Taking

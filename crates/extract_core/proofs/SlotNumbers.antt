@@ -47,6 +47,7 @@ takes_slot s new before after name slot width (Ok last) h is takes = record {
   read = λ told holds. let r = takes.read told holds in record { next = r.next; is = slot_there s told slot width h is ∙ r.is };
   empty = takes.empty;
   faults = takes.faults;
+  grown = takes.grown;
   sized = takes.sized;
   width = takes.width;
 }

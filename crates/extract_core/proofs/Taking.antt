@@ -9,7 +9,7 @@ use Rattle.esdk_fields.specs.declared.refusals.Outside.TheVariants as outsides
 use Rattle.esdk_fields.specs.Place.{start, past, followed}
 use Rattle.esdk_fields.specs.Reading.{Read, Refused}
 use Rattle.esdk_fields.proofs.Fronts.{fault_stays, value_stays}
-use Rattle.esdk_base.specs.Shelf.{Files, Holds, is_missing}
+use Rattle.esdk_base.specs.Shelf.{Files, is_missing}
 use Rattle.esdk_base.specs.Streams.{FailsToRead, ShelfState}
 use Rattle.frame_codec.specs.declared.kinds.UnitKind.{UnitKind}
 use Rattle.frame_codec.specs.declared.kinds.UnitKind.TheVariants as kinds
@@ -22,6 +22,8 @@ use Rattle.frame_codec.specs.UnitHead.{head_of}
 use Rattle.frame_codec.proofs.InPlace.{whole_is}
 use Rattle.frame_codec.proofs.Order.{IsSequential-unit}
 use Rattle.frame_codec.proofs.Units.{unit_refuses_head}
+use Rattle.whole_input.specs.FileReads.{Grows, IsSeenAs}
+use Rattle.whole_input.proofs.Agreeing.{grows_more, grows_none, seen_first, seen_second}
 use Rattle.extract_core.specs.declared.errors.ExtractError.{ExtractError}
 use Rattle.extract_core.specs.declared.errors.ExtractError.TheVariants as errors
 use Rattle.extract_core.specs.declared.slots.Slots.{Slots}
@@ -34,10 +36,11 @@ use Rattle.extract_core.proofs.Heads.{IsHead, frame_room, is_head, least_within,
 pub record IsTaking (old now : Slots) (before after : ShelfState) (name : List ℕ) (at want : ℕ) : Type 0 where
   pub same : SameBody old now
   pub files : after.files ≡ before.files
+  pub grown : Grows before.calls after.calls
   pub faults : after.faults ≡ before.faults
   pub given : after.given ≤ before.given + read_count now
-  pub room : (told : List ℕ) → Holds before.files name told → read_count now ≤ head_room old.content (known old want (drop at told))
-  pub stands : (told : List ℕ) → Holds before.files name told → StandsAt now told at
+  pub room : (told : List ℕ) → IsSeenAs before after name told → read_count now ≤ head_room old.content (known old want (drop at told))
+  pub stands : (told : List ℕ) → IsSeenAs before after name told → StandsAt now told at
   pub within : IsWithin now want now.unit.held
 
 -- nothing is held, and nothing is read ahead
@@ -48,6 +51,7 @@ begins old now s name at want same held ahead =
     record {
       same = same;
       files = refl;
+      grown = grows_none s.calls;
       faults = refl;
       given = omega arith;
       room = λ told h. omega (arith, none);
@@ -80,10 +84,6 @@ width_least : (content : Content) → slot_width content ≤ least_room content
 width_least Single = omega arith
 width_least (Framed frame) = omega arith
 
--- files that are as they were hold what they held
-pub holds_same : (before mid : ShelfState) (name told : List ℕ) → mid.files ≡ before.files → Holds before.files name told → Holds mid.files name told
-holds_same before mid name told same h = subst (λ (f : Option Files). Holds f name told) (sym same) h
-
 -- a read that failed later failed from the first moment on
 pub fails_from : (before mid after : ShelfState) (name : List ℕ) → mid.files ≡ before.files → mid.faults ≡ before.faults → FailsToRead mid after name → FailsToRead before after name
 fails_from before mid after name files faults (inl rose) = inl (omega (arith, rose, faults))
@@ -95,18 +95,19 @@ held_front s told at stands = stands.front ∙ append_assoc s.unit.held s.ahead 
 
 -- how much is read of the unit, more of the file being read
 read_room : (old l new : Slots) (before mid after : ShelfState) (name : List ℕ) (at want end : ℕ) → IsTaking old l before mid name at want → TakesOn l new mid after name at end → NeedsBytes l want end
-    → (told : List ℕ) → Holds before.files name told → read_count new ≤ head_room old.content (known old want (drop at told))
+    → (told : List ℕ) → IsSeenAs before after name told → read_count new ≤ head_room old.content (known old want (drop at told))
 read_room old l new before mid after name at want end taking on needs told h =
+    let early : IsSeenAs before mid name told = seen_first before mid after name told taking.grown on.grown h in
     let more : List ℕ = l.ahead ++ drop (at + read_count l) told in
-    let there : drop at told ≡ l.unit.held ++ more = held_front l told at (taking.stands told h) in
+    let there : drop at told ≡ l.unit.held ++ more = held_front l told at (taking.stands told early) in
     let same : head_room l.content (known l want (l.unit.held ++ more)) ≡ head_room old.content (known old want (drop at told)) =
     ap (λ (b : List ℕ). head_room l.content (known l want b)) (sym there) ∙ ap (head_room l.content) (same_known old l want (drop at told) taking.same)
     ∙ ap (λ (c : Content). head_room c (known old want (drop at told))) taking.same.content in
-    omega (arith, taking.room told h, on.reach, needs.room more, same, width_least l.content, least_within l.content (known l want (l.unit.held ++ more)))
+    omega (arith, taking.room told early, on.reach, needs.room more, same, width_least l.content, least_within l.content (known l want (l.unit.held ++ more)))
 
 read_stands : (old l new : Slots) (before mid after : ShelfState) (name : List ℕ) (at want end : ℕ) → IsTaking old l before mid name at want → TakesOn l new mid after name at end
-    → (told : List ℕ) → Holds before.files name told → StandsAt new told at
-read_stands old l new before mid after name at want end taking on told h = on.stands told (holds_same before mid name told taking.files h) (taking.stands told h)
+    → (told : List ℕ) → IsSeenAs before after name told → StandsAt new told at
+read_stands old l new before mid after name at want end taking on told h = on.stands told (seen_second before mid after name told taking.files taking.grown on.grown h) (taking.stands told (seen_first before mid after name told taking.grown on.grown h))
 
 -- more bytes of the unit are held
 pub goes_on : (old l new : Slots) (before mid after : ShelfState) (name : List ℕ) (at want end : ℕ) → IsTaking old l before mid name at want → TakesOn l new mid after name at end
@@ -114,6 +115,7 @@ pub goes_on : (old l new : Slots) (before mid after : ShelfState) (name : List �
 goes_on old l new before mid after name at want end taking on more needs = record {
   same = same_same old l new taking.same on.same;
   files = on.files ∙ taking.files;
+  grown = grows_more before.calls mid.calls after.calls taking.grown on.grown;
   faults = more.faults ∙ taking.faults;
   given = omega (arith, taking.given, on.given, on.on);
   room = read_room old l new before mid after name at want end taking on needs;
@@ -146,21 +148,21 @@ refused_head old now before after name at want fault taking e =
 
 -- the file ends, or a read fails
 pub none_taken : (old l new : Slots) (before mid after : ShelfState) (name : List ℕ) (at want end : ℕ) (error : ExtractError) → IsTaking old l before mid name at want → NeedsBytes l want end
-    → TakesNone l mid after name at error → UnitFails (λ told. unit_read old want (drop at told)) before after name error
-none_taken old l new before mid after name at want end (errors.Fault fault) taking needs none = (
+    → TakesOn l new mid after name at end → TakesNone l mid after name at error → UnitFails (λ told. unit_read old want (drop at told)) before after name error
+none_taken old l new before mid after name at want end (errors.Fault fault) taking needs on none = (
   none.1 ∙ taking.faults,
   λ told h.
       ap unit_fault (sym (same_read old l want (drop at told) taking.same))
-      ∙ ap (λ (b : List ℕ). unit_fault (unit_read l want b)) (none.2 told (holds_same before mid name told taking.files h) (taking.stands told h))
+      ∙ ap (λ (b : List ℕ). unit_fault (unit_read l want b)) (none.2 told (seen_second before mid after name told taking.files taking.grown on.grown h) (taking.stands told (seen_first before mid after name told taking.grown on.grown h)))
       ∙ ap unit_fault needs.wanting ∙ ap Some (sym none.0),
 )
-none_taken old l new before mid after name at want end (errors.Outside outsides.SourceFault) taking needs none = none
-none_taken old l new before mid after name at want end (errors.Outside outsides.SinkFault) taking needs none = none
-none_taken old l new before mid after name at want end (errors.Outside outsides.ShelfFault) taking needs none = fails_from before mid after name taking.files taking.faults none
-none_taken old l new before mid after name at want end (errors.Outside outsides.EntropyFault) taking needs none = none
-none_taken old l new before mid after name at want end (errors.Outside outsides.KeyringFault) taking needs none = none
-none_taken old l new before mid after name at want end (errors.Outside outsides.InputTooLong) taking needs none = none
-none_taken old l new before mid after name at want end errors.Memory taking needs none = tt
+none_taken old l new before mid after name at want end (errors.Outside outsides.SourceFault) taking needs on none = none
+none_taken old l new before mid after name at want end (errors.Outside outsides.SinkFault) taking needs on none = none
+none_taken old l new before mid after name at want end (errors.Outside outsides.ShelfFault) taking needs on none = fails_from before mid after name taking.files taking.faults none
+none_taken old l new before mid after name at want end (errors.Outside outsides.EntropyFault) taking needs on none = none
+none_taken old l new before mid after name at want end (errors.Outside outsides.KeyringFault) taking needs on none = none
+none_taken old l new before mid after name at want end (errors.Outside outsides.InputTooLong) taking needs on none = none
+none_taken old l new before mid after name at want end errors.Memory taking needs on none = tt
 
 -- the unit is whole
 unit_is : (s : Slots) (want : ℕ) (head : UnitHead) (o : Option (List ℕ)) → IsThere s want head → opened_of s.key s.message_id head s.unit.held ≡ o → unit_read s want s.unit.held ≡ whole_reading head s.unit.held o
@@ -209,6 +211,7 @@ opened_there old now new before after name at want head last taking there opens 
           (opened_read now want now.unit.held _ (drop at told) new.unit.out head last (unit_is now want head (Some new.unit.out) there opens) last_is (held_front now told at (taking.stands told holds)));
       empty = empty;
       faults = taking.faults;
+      grown = taking.grown;
       sized = record {
         few = omega (arith, short, there.short);
         frame = λ frame is. let most = h.frame frame (taking.same.content ∙ is) in omega (arith, short, most);
@@ -232,6 +235,7 @@ pub reads_so_far : (old now new : Slots) (before after : ShelfState) (name : Lis
 reads_so_far old now new before after name at want taking same = record {
   same = same_same old now new taking.same same;
   files = taking.files;
+  grown = taking.grown;
   later = omega (arith, taking.faults);
   given = λ told h. let most = reach_is old.content want old.max_unit now told at (taking.room told h) (taking.stands told h) in omega (arith, taking.given, most);
 }
@@ -242,6 +246,7 @@ pub reads_on : (old l new : Slots) (before mid after : ShelfState) (name : List 
 reads_on old l new before mid after name at want end taking on needs = record {
   same = same_same old l new taking.same on.same;
   files = on.files ∙ taking.files;
+  grown = grows_more before.calls mid.calls after.calls taking.grown on.grown;
   later = omega (arith, taking.faults, on.later);
   given = λ told h.
       let most = reach_is old.content want old.max_unit new told at (read_room old l new before mid after name at want end taking on needs told h) (read_stands old l new before mid after name at want end taking on told h) in

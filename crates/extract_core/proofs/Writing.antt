@@ -12,19 +12,20 @@ use Rattle.esdk_fields.specs.declared.faults.Fault.{Fault}
 use Rattle.esdk_fields.specs.declared.refusals.Outside.TheVariants as outsides
 use Rattle.esdk_fields.specs.Reading.{Reading}
 use Rattle.esdk_base.specs.ReceiverLaws.{front_after, front_longer}
-use Rattle.esdk_base.specs.Shelf.{Holds}
 use Rattle.esdk_base.specs.Sink.{AppendsFront}
 use Rattle.esdk_base.specs.Streams.{ShelfState, SinkState}
 use Rattle.frame_codec.specs.Unit.{Piece}
 use Rattle.header_codec.specs.Header.{frame_length}
 use Rattle.body_format.specs.Rows.{is_more}
+use Rattle.whole_input.specs.FileReads.{Grows, IsSeenAs}
+use Rattle.whole_input.proofs.Agreeing.{grows_more, grows_none, seen_first, seen_second}
 use Rattle.extract_core.specs.declared.errors.ExtractError.{ExtractError}
 use Rattle.extract_core.specs.declared.errors.ExtractError.TheVariants as errors
 use Rattle.extract_core.specs.declared.slots.Slots.{Slots}
 use Rattle.extract_core.specs.Extracted.{ByteRange, Extraction, OpenBody, extracted_body, first_slot, in_range, slot_count, slot_part, slot_read, slot_width, slots_taken, unit_content, unit_fault}
 use Rattle.extract_core.specs.Slots.{FindsFault, IsRead, IsSized, OnBody, RangeFails, ReadsSlot, SameBody, TakesSlot, UnitFails, WritesRange, body_in, first_byte, range_reach, unit_reach}
 use Rattle.extract_core.proofs.Definition.{AreGood, begins_part, ends_at, ends_behind, fault_ends, not_zero, nothing_in_range, of_nothing, parts_before, parts_next, taken_all, taken_least}
-use Rattle.extract_core.proofs.Taking.{fails_from, holds_same, same_same}
+use Rattle.extract_core.proofs.Taking.{fails_from, same_same}
 
 -- all of what was gained is a front of it
 pub whole_front : (a b : Option (List ℕ)) (xs : List ℕ) → Appends a b xs → AppendsFront a b xs
@@ -35,12 +36,13 @@ pub record IsWriting (old now : Slots) (range : ByteRange) (before after : Shelf
   pub same : SameBody old now
   pub empty : now.unit.held ≡ []
   pub files : after.files ≡ before.files
+  pub grown : Grows before.calls after.calls
   pub faults : after.faults ≡ before.faults
   pub few : written ≤ first_byte old.content slot - range.at
-  pub good : OnBody old before name (λ b. AreGood b range slot)
-  pub gained : OnBody old before name (λ b. Appends output.written put.written (parts_before b range slot))
-  pub count : OnBody old before name (λ b. written ≡ length (parts_before b range slot))
-  pub given : OnBody old before name (λ b. after.given ≤ before.given + (slot - first_slot old.content range) * slot_width old.content)
+  pub good : OnBody old before after name (λ b. AreGood b range slot)
+  pub gained : OnBody old before after name (λ b. Appends output.written put.written (parts_before b range slot))
+  pub count : OnBody old before after name (λ b. written ≡ length (parts_before b range slot))
+  pub given : OnBody old before after name (λ b. after.given ≤ before.given + (slot - first_slot old.content range) * slot_width old.content)
   pub later : output.faults ≤ put.faults
 
 pub no_parts : (b : OpenBody) (range : ByteRange) → parts_before b range (first_slot b.content range) ≡ []
@@ -52,6 +54,7 @@ begins s range shelf name output slot empty is = record {
   same = record { key = refl; id = refl; content = refl; max_unit = refl; begin = refl };
   empty = empty;
   files = refl;
+  grown = grows_none shelf.calls;
   faults = refl;
   few = omega arith;
   good = λ told h. record { order = omega (arith, is); each = λ k low high. absurd (omega (arith, low, high, is)) };
@@ -104,24 +107,24 @@ few_next (Framed frame) range out slot written n sized few is =
 gained_next : (old l new : Slots) (range : ByteRange) (before mid after : ShelfState) (name : List ℕ) (output put put2 : SinkState) (slot written : ℕ) (last : Bool)
     → IsWriting old l range before mid name output put slot written → TakesSlot l new mid after name slot last
     → Appends put.written put2.written (in_range range (first_byte l.content slot) new.unit.out)
-    → OnBody old before name (λ b. Appends output.written put2.written (parts_before b range slot ++ slot_part b range slot))
+    → OnBody old before after name (λ b. Appends output.written put2.written (parts_before b range slot ++ slot_part b range slot))
 gained_next old l new range before mid after name output put put2 slot written last w takes put_is = λ told h.
     let b : OpenBody = body_in old told in
-    let read = read_same old l told new.unit.out slot last w.same (takes.read told (holds_same before mid name told w.files h)) in
+    let read = read_same old l told new.unit.out slot last w.same (takes.read told (seen_second before mid after name told w.files w.grown takes.grown h)) in
     let here : in_range range (first_byte l.content slot) new.unit.out ≡ slot_part b range slot =
     ap (λ (c : Content). in_range range (first_byte c slot) new.unit.out) w.same.content ∙ sym (part_is b range slot last new.unit.out read) in
-    Appends-trans output.written put.written put2.written (parts_before b range slot) (slot_part b range slot) (w.gained told h) (subst (Appends put.written put2.written) here put_is)
+    Appends-trans output.written put.written put2.written (parts_before b range slot) (slot_part b range slot) (w.gained told (seen_first before mid after name told w.grown takes.grown h)) (subst (Appends put.written put2.written) here put_is)
 
 count_next : (old l new : Slots) (range : ByteRange) (before mid after : ShelfState) (name : List ℕ) (output put : SinkState) (slot written n : ℕ) (last : Bool)
     → IsWriting old l range before mid name output put slot written → TakesSlot l new mid after name slot last
     → n ≡ length (in_range range (first_byte l.content slot) new.unit.out)
-    → OnBody old before name (λ b. written + n ≡ length (parts_before b range slot ++ slot_part b range slot))
+    → OnBody old before after name (λ b. written + n ≡ length (parts_before b range slot ++ slot_part b range slot))
 count_next old l new range before mid after name output put slot written n last w takes is = λ told h.
     let b : OpenBody = body_in old told in
-    let read = read_same old l told new.unit.out slot last w.same (takes.read told (holds_same before mid name told w.files h)) in
+    let read = read_same old l told new.unit.out slot last w.same (takes.read told (seen_second before mid after name told w.files w.grown takes.grown h)) in
     let here : in_range range (first_byte l.content slot) new.unit.out ≡ slot_part b range slot =
     ap (λ (c : Content). in_range range (first_byte c slot) new.unit.out) w.same.content ∙ sym (part_is b range slot last new.unit.out read) in
-    omega (arith, w.count told h, is, ap length here, length-append (parts_before b range slot) (slot_part b range slot))
+    omega (arith, w.count told (seen_first before mid after name told w.grown takes.grown h), is, ap length here, length-append (parts_before b range slot) (slot_part b range slot))
 
 one_more : (width n : ℕ) → (n + 1) * width ≡ n * width + width
 one_more width n = omega arith
@@ -129,21 +132,21 @@ one_more width n = omega arith
 -- how much was read of the slots before this one, and of it, where others follow
 width_next : (old l new : Slots) (range : ByteRange) (before mid after : ShelfState) (name : List ℕ) (output put : SinkState) (slot written : ℕ)
     → IsWriting old l range before mid name output put slot written → TakesSlot l new mid after name slot false → first_slot old.content range ≤ slot
-    → OnBody old before name (λ b. after.given ≤ before.given + (slot + 1 - first_slot old.content range) * slot_width old.content)
+    → OnBody old before after name (λ b. after.given ≤ before.given + (slot + 1 - first_slot old.content range) * slot_width old.content)
 width_next old l new range before mid after name output put slot written w takes order = λ told h.
-    let more = takes.width refl told (holds_same before mid name told w.files h) in
+    let more = takes.width refl told (seen_second before mid after name told w.files w.grown takes.grown h) in
     let on = one_more (slot_width old.content) (slot - first_slot old.content range) in
     let e : slot + 1 - first_slot old.content range ≡ (slot - first_slot old.content range) + 1 = omega (arith, order) in
-    omega (arith, w.given told h, more, ap slot_width w.same.content, on, ap (λ (n : ℕ). n * slot_width old.content) e)
+    omega (arith, w.given told (seen_first before mid after name told w.grown takes.grown h), more, ap slot_width w.same.content, on, ap (λ (n : ℕ). n * slot_width old.content) e)
 
 -- and of it, whatever it is
 given_next : (old l new : Slots) (range : ByteRange) (before mid after : ShelfState) (name : List ℕ) (output put : SinkState) (slot written : ℕ)
     → IsWriting old l range before mid name output put slot written → ReadsSlot l new mid after name
-    → OnBody old before name (λ b. after.given ≤ before.given + (slot - first_slot old.content range) * slot_width old.content + unit_reach old.content old.max_unit b.bytes)
+    → OnBody old before after name (λ b. after.given ≤ before.given + (slot - first_slot old.content range) * slot_width old.content + unit_reach old.content old.max_unit b.bytes)
 given_next old l new range before mid after name output put slot written w reads = λ told h.
-    let more = reads.given told (holds_same before mid name told w.files h) in
+    let more = reads.given told (seen_second before mid after name told w.files w.grown reads.grown h) in
     let same : unit_reach l.content l.max_unit (drop l.begin told) ≡ unit_reach old.content old.max_unit (drop old.begin told) = rw (w.same.content, w.same.max_unit, w.same.begin) refl in
-    omega (arith, w.given told h, more, same)
+    omega (arith, w.given told (seen_first before mid after name told w.grown reads.grown h), more, same)
 
 sized_same : (old l : Slots) (last : Bool) (out : List ℕ) → SameBody old l → IsSized l.content last out → IsSized old.content last out
 sized_same old l last out same sized = subst (λ (c : Content). IsSized c last out) same.content sized
@@ -161,14 +164,15 @@ writes_on old l new range before mid after name output put put2 slot written n w
       same = same_same old l new w.same reads.same;
       empty = takes.empty;
       files = reads.files ∙ w.files;
+      grown = grows_more before.calls mid.calls after.calls w.grown reads.grown;
       faults = takes.faults ∙ w.faults;
       few = few_next old.content range new.unit.out slot written n sized w.few size;
       good = λ told h.
-          let read = read_same old l told new.unit.out slot false w.same (takes.read told (holds_same before mid name told w.files h)) in
+          let read = read_same old l told new.unit.out slot false w.same (takes.read told (seen_second before mid after name told w.files w.grown takes.grown h)) in
           record {
             order = omega (arith, order);
             each = λ k low high. elim (cases_lt k slot) [
-              | inl before_it ↦ (w.good told h).each k low before_it
+              | inl before_it ↦ (w.good told (seen_first before mid after name told w.grown takes.grown h)).each k low before_it
               | inr here ↦ (let e : slot ≡ k = omega (arith, here, high) in subst (λ (j : ℕ). is_more (slot_read (body_in old told) j) ≡ true) e (more_is (slot_read (body_in old told) slot) new.unit.out read))
             ];
           };
@@ -191,11 +195,11 @@ within_taken b range slots some few =
 pub reach_at : (old l new : Slots) (range : ByteRange) (before mid after : ShelfState) (name : List ℕ) (output put : SinkState) (slot written : ℕ)
     → IsWriting old l range before mid name output put slot written → ReadsSlot l new mid after name → 1 ≤ range.count
     → first_slot old.content range ≤ slot → slot < first_slot old.content range + slot_count old.content range
-    → OnBody old before name (λ b. after.given ≤ before.given + range_reach b range)
+    → OnBody old before after name (λ b. after.given ≤ before.given + range_reach b range)
 reach_at old l new range before mid after name output put slot written w reads some order within = λ told h.
     let b : OpenBody = body_in old told in
     let most = given_next old l new range before mid after name output put slot written w reads told h in
-    let few = taken_least b range slot (w.good told h) within in
+    let few = taken_least b range slot (w.good told (seen_first before mid after name told w.grown reads.grown h)) within in
     omega (arith, most, within_taken b range (slot - first_slot old.content range) some few)
 
 -- the last unit's part is written
@@ -203,11 +207,11 @@ pub writes_last : (old l new : Slots) (range : ByteRange) (before mid after : Sh
     → IsWriting old l range before mid name output put slot written → TakesSlot l new mid after name slot true
     → Appends put.written put2.written (in_range range (first_byte l.content slot) new.unit.out) → n ≡ length (in_range range (first_byte l.content slot) new.unit.out)
     → 1 ≤ range.count → slot < first_slot old.content range + slot_count old.content range
-    → OnBody old before name (λ b. WritesRange b range output put2 (written + n))
+    → OnBody old before after name (λ b. WritesRange b range output put2 (written + n))
 writes_last old l new range before mid after name output put put2 slot written n w takes put_is n_is some within = λ told h.
     let b : OpenBody = body_in old told in
-    let read = read_same old l told new.unit.out slot true w.same (takes.read told (holds_same before mid name told w.files h)) in
-    let is = ends_at b range slot some (w.good told h) within (last_is (slot_read b slot) new.unit.out read) in
+    let read = read_same old l told new.unit.out slot true w.same (takes.read told (seen_second before mid after name told w.files w.grown takes.grown h)) in
+    let is = ends_at b range slot some (w.good told (seen_first before mid after name told w.grown takes.grown h)) within (last_is (slot_read b slot) new.unit.out read) in
     record {
       fault = ap (λ (x : Extraction). x.fault) is ∙ none_wrong (slot_read b slot) true new.unit.out read;
       gained = subst (Appends output.written put2.written) (sym (ap (λ (x : Extraction). x.part) is)) (gained_next old l new range before mid after name output put put2 slot written true w takes put_is told h);
@@ -217,7 +221,7 @@ writes_last old l new range before mid after name output put put2 slot written n
 -- all slots of the range are written
 pub writes_all : (old l : Slots) (range : ByteRange) (before mid : ShelfState) (name : List ℕ) (output put : SinkState) (behind written : ℕ)
     → IsWriting old l range before mid name output put behind written → 1 ≤ range.count → 1 ≤ slot_count old.content range → behind ≡ first_slot old.content range + slot_count old.content range
-    → OnBody old before name (λ b. WritesRange b range output put written)
+    → OnBody old before mid name (λ b. WritesRange b range output put written)
 writes_all old l range before mid name output put behind written w some slots is_behind = λ told h.
     let b : OpenBody = body_in old told in
     let is = ends_behind b range behind some slots is_behind (w.good told h) in
@@ -235,7 +239,7 @@ width_reach (Framed frame) max_unit bytes = omega arith
 pub reach_all : (old l : Slots) (range : ByteRange) (before mid : ShelfState) (name : List ℕ) (output put : SinkState) (behind written : ℕ)
     → IsWriting old l range before mid name output put behind written → 1 ≤ range.count → 1 ≤ slot_count old.content range
     → behind ≡ first_slot old.content range + slot_count old.content range
-    → OnBody old before name (λ b. mid.given ≤ before.given + range_reach b range)
+    → OnBody old before mid name (λ b. mid.given ≤ before.given + range_reach b range)
 reach_all old l range before mid name output put behind written w some slots is = λ told h.
     let b : OpenBody = body_in old told in
     let all : AreGood b range (first_slot old.content range + slot_count old.content range) = subst (AreGood b range) is (w.good told h) in
@@ -247,7 +251,7 @@ reach_all old l range before mid name output put behind written w some slots is 
 -- what was written before this slot is a front of the part
 front_before : (old l : Slots) (range : ByteRange) (before mid : ShelfState) (name : List ℕ) (output put : SinkState) (slot written : ℕ)
     → IsWriting old l range before mid name output put slot written → 1 ≤ range.count → first_slot old.content range ≤ slot → slot < first_slot old.content range + slot_count old.content range
-    → OnBody old before name (λ b. AppendsFront output.written put.written (extracted_body b range).part)
+    → OnBody old before mid name (λ b. AppendsFront output.written put.written (extracted_body b range).part)
 front_before old l range before mid name output put slot written w some order within = λ told h.
     let b : OpenBody = body_in old told in
     let more = begins_part b range slot some (w.good told h) within in
@@ -256,37 +260,42 @@ front_before old l range before mid name output put slot written w some order wi
     subst (AppendsFront output.written put.written) (sym all)
     (front_longer output.written put.written (parts_before b range slot ++ slot_part b range slot) more.0 (front_longer output.written put.written (parts_before b range slot) (slot_part b range slot) gained))
 
-fault_at : (old l : Slots) (range : ByteRange) (before mid : ShelfState) (name : List ℕ) (output put : SinkState) (slot written : ℕ) (fault : Fault)
-    → IsWriting old l range before mid name output put slot written → ((told : List ℕ) → Holds mid.files name told → unit_fault (slot_read (body_in l told) slot) ≡ Some fault)
+-- what is so of the body by fewer reads
+body_later : (s : Slots) (before mid after : ShelfState) (name : List ℕ) (so : OpenBody → Type 0) → Grows before.calls mid.calls → Grows mid.calls after.calls → OnBody s before mid name so → OnBody s before after name so
+body_later s before mid after name so first second is = λ told h. is told (seen_first before mid after name told first second h)
+
+fault_at : (old l : Slots) (range : ByteRange) (before mid after : ShelfState) (name : List ℕ) (output put : SinkState) (slot written : ℕ) (fault : Fault)
+    → IsWriting old l range before mid name output put slot written → Grows mid.calls after.calls → ((told : List ℕ) → IsSeenAs mid after name told → unit_fault (slot_read (body_in l told) slot) ≡ Some fault)
     → 1 ≤ range.count → slot < first_slot old.content range + slot_count old.content range
-    → OnBody old before name (λ b. FindsFault b range output put fault)
-fault_at old l range before mid name output put slot written fault w faulty some within = λ told h.
+    → OnBody old before after name (λ b. FindsFault b range output put fault)
+fault_at old l range before mid after name output put slot written fault w grown faulty some within = λ told h.
+    let early : IsSeenAs before mid name told = seen_first before mid after name told w.grown grown h in
     let b : OpenBody = body_in old told in
-    let wrong : unit_fault (slot_read b slot) ≡ Some fault = ap (λ (c : OpenBody). unit_fault (slot_read c slot)) (sym (body_same old l told w.same)) ∙ faulty told (holds_same before mid name told w.files h) in
+    let wrong : unit_fault (slot_read b slot) ≡ Some fault = ap (λ (c : OpenBody). unit_fault (slot_read c slot)) (sym (body_same old l told w.same)) ∙ faulty told (seen_second before mid after name told w.files w.grown grown h) in
     let ends = fault_ends (slot_read b slot) fault wrong in
-    let is = ends_at b range slot some (w.good told h) within ends.0 in
+    let is = ends_at b range slot some (w.good told early) within ends.0 in
     let none : slot_part b range slot ≡ [] = nothing_in_range range (first_byte b.content slot) (unit_content (slot_read b slot)) ends.1 in
     let part : parts_before b range slot ≡ (extracted_body b range).part =
     sym (append-nil (parts_before b range slot)) ∙ ap (λ (l : List ℕ). parts_before b range slot ++ l) (sym none) ∙ sym (ap (λ (x : Extraction). x.part) is) in
     record {
       fault_is = ap (λ (x : Extraction). x.fault) is ∙ wrong;
-      gained = subst (Appends output.written put.written) part (w.gained told h);
+      gained = subst (Appends output.written put.written) part (w.gained told early);
     }
 
 -- why the slot isn't taken is why the range isn't written
 pub range_fails : (old l : Slots) (range : ByteRange) (before mid after : ShelfState) (name : List ℕ) (output put : SinkState) (slot written : ℕ) (error : ExtractError)
-    → IsWriting old l range before mid name output put slot written → UnitFails (λ told. slot_read (body_in l told) slot) mid after name error
+    → IsWriting old l range before mid name output put slot written → Grows mid.calls after.calls → UnitFails (λ told. slot_read (body_in l told) slot) mid after name error
     → 1 ≤ range.count → first_slot old.content range ≤ slot → slot < first_slot old.content range + slot_count old.content range
     → RangeFails old range before after name output put error
-range_fails old l range before mid after name output put slot written (errors.Fault fault) w fails some order within = fault_at old l range before mid name output put slot written fault w fails.1 some within
-range_fails old l range before mid after name output put slot written (errors.Outside outsides.SourceFault) w fails some order within = absurd fails
-range_fails old l range before mid after name output put slot written (errors.Outside outsides.SinkFault) w fails some order within = absurd fails
-range_fails old l range before mid after name output put slot written (errors.Outside outsides.ShelfFault) w fails some order within =
-    (fails_from before mid after name w.files w.faults fails, front_before old l range before mid name output put slot written w some order within)
-range_fails old l range before mid after name output put slot written (errors.Outside outsides.EntropyFault) w fails some order within = absurd fails
-range_fails old l range before mid after name output put slot written (errors.Outside outsides.KeyringFault) w fails some order within = absurd fails
-range_fails old l range before mid after name output put slot written (errors.Outside outsides.InputTooLong) w fails some order within = absurd fails
-range_fails old l range before mid after name output put slot written errors.Memory w fails some order within = front_before old l range before mid name output put slot written w some order within
+range_fails old l range before mid after name output put slot written (errors.Fault fault) w grown fails some order within = fault_at old l range before mid after name output put slot written fault w grown fails.1 some within
+range_fails old l range before mid after name output put slot written (errors.Outside outsides.SourceFault) w grown fails some order within = absurd fails
+range_fails old l range before mid after name output put slot written (errors.Outside outsides.SinkFault) w grown fails some order within = absurd fails
+range_fails old l range before mid after name output put slot written (errors.Outside outsides.ShelfFault) w grown fails some order within =
+    (fails_from before mid after name w.files w.faults fails, body_later old before mid after name (λ (b : OpenBody). AppendsFront output.written put.written (extracted_body b range).part) w.grown grown (front_before old l range before mid name output put slot written w some order within))
+range_fails old l range before mid after name output put slot written (errors.Outside outsides.EntropyFault) w grown fails some order within = absurd fails
+range_fails old l range before mid after name output put slot written (errors.Outside outsides.KeyringFault) w grown fails some order within = absurd fails
+range_fails old l range before mid after name output put slot written (errors.Outside outsides.InputTooLong) w grown fails some order within = absurd fails
+range_fails old l range before mid after name output put slot written errors.Memory w grown fails some order within = body_later old before mid after name (λ (b : OpenBody). AppendsFront output.written put.written (extracted_body b range).part) w.grown grown (front_before old l range before mid name output put slot written w some order within)
 
 -- the output fails at the slot's part
 pub put_fails : (old l new : Slots) (range : ByteRange) (before mid after : ShelfState) (name : List ℕ) (output put put2 : SinkState) (slot written : ℕ) (last : Bool) (error : ExtractError)
@@ -299,14 +308,14 @@ put_fails old l new range before mid after name output put put2 slot written las
       omega (arith, fails.1, w.later),
       λ told h.
           let b : OpenBody = body_in old told in
-          let read = read_same old l told new.unit.out slot last w.same (takes.read told (holds_same before mid name told w.files h)) in
+          let read = read_same old l told new.unit.out slot last w.same (takes.read told (seen_second before mid after name told w.files w.grown takes.grown h)) in
           let here : in_range range (first_byte l.content slot) new.unit.out ≡ slot_part b range slot =
           ap (λ (c : Content). in_range range (first_byte c slot) new.unit.out) w.same.content ∙ sym (part_is b range slot last new.unit.out read) in
-          let more = begins_part b range slot some (w.good told h) within in
+          let more = begins_part b range slot some (w.good told (seen_first before mid after name told w.grown takes.grown h)) within in
           let all : (extracted_body b range).part ≡ (parts_before b range slot ++ slot_part b range slot) ++ more.0 = more.1 ∙ ap (λ (l : List ℕ). l ++ more.0) (parts_next b range slot order) in
           subst (AppendsFront output.written put2.written) (sym all)
           (front_longer output.written put2.written (parts_before b range slot ++ slot_part b range slot) more.0
-          (front_after output.written put.written put2.written (parts_before b range slot) (slot_part b range slot) (w.gained told h) (subst (AppendsFront put.written put2.written) here fails.2))),
+          (front_after output.written put.written put2.written (parts_before b range slot) (slot_part b range slot) (w.gained told (seen_first before mid after name told w.grown takes.grown h)) (subst (AppendsFront put.written put2.written) here fails.2))),
     )
 
 -- what was put is the range's part of the slot, by where the slot's content begins

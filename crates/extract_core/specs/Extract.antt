@@ -8,7 +8,7 @@ use Rattle.esdk_fields.specs.declared.faults.Fault.TheVariants.{Truncated}
 use Rattle.esdk_fields.specs.declared.refusals.Outside.TheVariants as outsides
 use Rattle.esdk_fields.specs.Place.{Place, start}
 use Rattle.esdk_fields.specs.Reading.{Reading, Read, Refused, Wanting}
-use Rattle.esdk_base.specs.Shelf.{Holds, is_missing}
+use Rattle.esdk_base.specs.Shelf.{is_missing}
 use Rattle.esdk_base.specs.Sink.{AppendsFront}
 use Rattle.esdk_base.specs.Streams.{FailsToRead, ShelfState, SinkState}
 use Rattle.suite_table.specs.declared.suite.Suite.{Suite}
@@ -25,6 +25,7 @@ use Rattle.message_format.specs.declared.unlock_errors.UnlockError.TheVariants a
 use Rattle.header_input.specs.declared.errors.NoHeader.{NoHeader}
 use Rattle.header_input.specs.declared.errors.NoHeader.TheVariants as headers
 use Rattle.whole_input.specs.declared.pieces.End.TheVariants as ends
+use Rattle.whole_input.specs.FileReads.{IsSeenAs}
 use Rattle.whole_input.specs.Pieces.{most_piece}
 use Rattle.esdk_decrypt.specs.Decrypt.{AnswersTo, Asked}
 use Rattle.extract_core.specs.declared.errors.ExtractError.{ExtractError}
@@ -36,9 +37,10 @@ use Rattle.extract_core.specs.Slots.{range_reach, slots_reach}
 abbrev pub range_of : ℕ → ℕ → ByteRange
 range_of at count = record { at = at; count = count }
 
--- what is told of a file: where the shelf tells that it has it, this is so of its bytes
-abbrev pub OnFile : ShelfState → List ℕ → (List ℕ → Type 0) → Type 0
-OnFile shelf name so = (bytes : List ℕ) → Holds shelf.files name bytes → so bytes
+-- what is said of a file: this is so of its bytes, where the shelf tells that it has it; and of any
+-- bytes that agree with what its reads gave between the two moments
+abbrev pub OnFile : ShelfState → ShelfState → List ℕ → (List ℕ → Type 0) → Type 0
+OnFile old new name so = (bytes : List ℕ) → IsSeenAs old new name bytes → so bytes
 
 -- ---- how much is read
 
@@ -107,7 +109,7 @@ pub record IsHeaderOf (settings : Settings) (h : HeaderValue) (bytes : List ℕ)
 pub record HasHeader (settings : Settings) (old new : ShelfState) (name : List ℕ) (h : HeaderValue)
     : Type 0 where
   pub there : is_missing old.files name ≡ false
-  pub is : OnFile old name (IsHeaderOf settings h)
+  pub is : OnFile old new name (IsHeaderOf settings h)
   pub faults : new.faults ≡ old.faults
   pub given : new.given ≤ old.given + body_begin h + most_piece
 
@@ -120,7 +122,8 @@ header_fault_at_end Wanting = Some Truncated
 -- Why the file gives no header, and how much of it was read. Want of memory is free.
 abbrev pub HasNoHeader : Settings → ShelfState → ShelfState → List ℕ → ExtractError → Type 0
 HasNoHeader settings old new name (errors.Fault fault) = (is_missing old.files name ≡ false)
-    × OnFile old name (λ bytes. header_fault_at_end (header settings (start bytes)) ≡ Some fault)
+    × OnFile old new name
+    (λ bytes. header_fault_at_end (header settings (start bytes)) ≡ Some fault)
 HasNoHeader settings old new name (errors.Outside outsides.ShelfFault) =
     FailsToRead old new name
 HasNoHeader settings old new name (errors.Outside outside) = ⊥
@@ -165,21 +168,21 @@ pub record WritesFront (asked : Asked) (range : ByteRange) (old new : ShelfState
 pub record Extracts (asked : Asked) (range : ByteRange) (old new : ShelfState) (name : List ℕ)
     (output put : SinkState) (written : ℕ) : Type 0 where
   pub there : is_missing old.files name ≡ false
-  pub writes : OnFile old name (WritesAll asked range old new output put written)
+  pub writes : OnFile old new name (WritesAll asked range old new output put written)
 
 -- The shelf has the file, and its header, the answer or a slot of the range has this fault. What
 -- stands before it in the range was written.
 pub record HasFault (asked : Asked) (range : ByteRange) (old new : ShelfState) (name : List ℕ)
     (output put : SinkState) (fault : Fault) : Type 0 where
   pub there : is_missing old.files name ≡ false
-  pub writes : OnFile old name (WritesBefore asked range old new output put fault)
+  pub writes : OnFile old new name (WritesBefore asked range old new output put fault)
 
 -- The shelf has the file, and the output failed at a front of the range.
 pub record SinkFails (asked : Asked) (range : ByteRange) (old new : ShelfState) (name : List ℕ)
     (output put : SinkState) : Type 0 where
   pub there : is_missing old.files name ≡ false
   pub rose : Rose output.faults put.faults
-  pub writes : OnFile old name (WritesFront asked range old new output put)
+  pub writes : OnFile old new name (WritesFront asked range old new output put)
 
 -- The file has a header, and the manager failed when it was asked about it: its count of faults
 -- rose. Nothing was written, and behind the header up to a piece was read.
@@ -194,7 +197,7 @@ pub record ManagerFails (asked : Asked) (old new : ShelfState) (name : List ℕ)
 -- name, nothing.
 pub record WritesLess (asked : Asked) (range : ByteRange) (old new : ShelfState) (name : List ℕ)
     (output put : SinkState) (unwritten : Type 0) : Type 0 where
-  pub front : unwritten ⊎ OnFile old name (WritesFront asked range old new output put)
+  pub front : unwritten ⊎ OnFile old new name (WritesFront asked range old new output put)
   pub missing : is_missing old.files name ≡ true → unwritten
 
 -- Why a range isn't extracted, and what that left; `unwritten` says that the output is as before.

@@ -1,8 +1,8 @@
 -- Bytes of a file that were read and aren't taken yet.
 use Rattle.std.specs.Prelude.{◌≡◌, ℕ, ◌+◌, ◌≤◌, List, [], ◌++◌, length, drop, take, Result, Ok, Err}
 use Rattle.esdk_fields.specs.Counts.{counted}
-use Rattle.esdk_base.specs.Shelf.{Holds}
 use Rattle.esdk_base.specs.Streams.{FailsToRead, ShelfState}
+use Rattle.whole_input.specs.FileReads.{IsSeenAs}
 use Rattle.whole_input.specs.Pieces.{most_piece}
 
 -- They stand within the buffer, which has a piece of 65,536 bytes.
@@ -12,13 +12,14 @@ pub record FitsAhead (buffer : List ℕ) (begin end : ℕ) : Type 0 where
   pub within : end ≤ length buffer
 
 -- A read gave these bytes, at most so many, which stand in the file from that offset on, where the
--- shelf tells it. It gave none only at the end of the file or past it.
+-- shelf tells it; and in any bytes that agree with this read. It gave none only at the end of these
+-- or past it.
 pub record Comes (old new : ShelfState) (name : List ℕ) (at most : ℕ) (bytes : List ℕ)
     : Type 0 where
   pub few : length bytes ≤ most
-  pub front : (told : List ℕ) → Holds old.files name told
+  pub front : (told : List ℕ) → IsSeenAs old new name told
       → drop at told ≡ bytes ++ drop (at + length bytes) told
-  pub end : bytes ≡ [] → (told : List ℕ) → Holds old.files name told → drop at told ≡ []
+  pub end : bytes ≡ [] → (told : List ℕ) → IsSeenAs old new name told → drop at told ≡ []
   pub given : new.given ≡ counted old.given (length bytes)
   pub faults : new.faults ≡ old.faults
 

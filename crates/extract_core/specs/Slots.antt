@@ -10,7 +10,6 @@ use Rattle.esdk_fields.specs.declared.faults.Fault.TheVariants.{Truncated}
 use Rattle.esdk_fields.specs.declared.refusals.Outside.TheVariants as outsides
 use Rattle.esdk_fields.specs.Place.{Place, start}
 use Rattle.esdk_fields.specs.Reading.{Reading, Read, Wanting}
-use Rattle.esdk_base.specs.Shelf.{Holds}
 use Rattle.esdk_base.specs.Sink.{AppendsFront}
 use Rattle.esdk_base.specs.Streams.{FailsToRead, ShelfState, SinkState}
 use Rattle.frame_codec.specs.declared.kinds.UnitKind.{UnitKind}
@@ -22,6 +21,7 @@ use Rattle.frame_codec.specs.declared.unit_heads.UnitHead.{UnitHead}
 use Rattle.frame_codec.specs.InPlace.{unit_size}
 use Rattle.frame_codec.specs.Unit.{Piece, More, Last, unit}
 use Rattle.frame_codec.specs.UnitHead.{head_of, longest_block}
+use Rattle.whole_input.specs.FileReads.{Grows, IsSeenAs}
 use Rattle.extract_core.specs.declared.errors.ExtractError.{ExtractError}
 use Rattle.extract_core.specs.declared.errors.ExtractError.TheVariants as errors
 use Rattle.extract_core.specs.declared.slots.Needs.{Needs}
@@ -119,11 +119,12 @@ pub record TakesOn (old new : Slots) (before after : ShelfState) (name : List �
     : Type 0 where
   pub same : SameBody old new
   pub files : after.files ≡ before.files
+  pub grown : Grows before.calls after.calls
   pub later : before.faults ≤ after.faults
   pub on : read_count old ≤ read_count new
   pub given : after.given ≤ before.given + (read_count new - read_count old)
   pub reach : read_count new ≤ max (read_count old) (max end (slot_width old.content))
-  pub stands : (told : List ℕ) → Holds before.files name told → StandsAt old told at
+  pub stands : (told : List ℕ) → IsSeenAs before after name told → StandsAt old told at
       → StandsAt new told at
 
 -- More bytes are held, up to this end at the most, and no read failed.
@@ -138,7 +139,7 @@ pub record TakesMore (old new : Slots) (before after : ShelfState) (end : ℕ) :
 abbrev pub TakesNone : Slots → ShelfState → ShelfState → List ℕ → ℕ → ExtractError → Type 0
 TakesNone old before after name at (errors.Fault fault) = (fault ≡ Truncated)
     × (after.faults ≡ before.faults)
-    × ((told : List ℕ) → Holds before.files name told → StandsAt old told at
+    × ((told : List ℕ) → IsSeenAs before after name told → StandsAt old told at
     → drop at told ≡ old.unit.held)
 TakesNone old before after name at (errors.Outside outsides.ShelfFault) =
     FailsToRead before after name
@@ -178,15 +179,16 @@ unit_reach (Framed frame) max_unit bytes = frame + 40
 -- Where others follow the unit, no more than a slot's width was read for it.
 abbrev pub ReadsWidth : Content → ShelfState → ShelfState → List ℕ → Bool → Type 0
 ReadsWidth content before after name last = last ≡ false → (told : List ℕ)
-    → Holds before.files name told → after.given ≤ before.given + slot_width content
+    → IsSeenAs before after name told → after.given ≤ before.given + slot_width content
 
 -- The unit of this number stands at that offset of the file, and its content was opened.
 pub record TakesUnit (old new : Slots) (before after : ShelfState) (name : List ℕ) (at want : ℕ)
     (last : Bool) : Type 0 where
-  pub read : (told : List ℕ) → Holds before.files name told
+  pub read : (told : List ℕ) → IsSeenAs before after name told
       → IsRead (unit_read old want (drop at told)) last new.unit.out
   pub empty : new.unit.held ≡ []
   pub faults : after.faults ≡ before.faults
+  pub grown : Grows before.calls after.calls
   pub sized : IsSized old.content last new.unit.out
   pub width : ReadsWidth old.content before after name last
 
@@ -195,7 +197,7 @@ pub record TakesUnit (old new : Slots) (before after : ShelfState) (name : List 
 abbrev pub UnitFails : (List ℕ → Reading Piece) → ShelfState → ShelfState → List ℕ → ExtractError
     → Type 0
 UnitFails read before after name (errors.Fault fault) = (after.faults ≡ before.faults)
-    × ((told : List ℕ) → Holds before.files name told → unit_fault (read told) ≡ Some fault)
+    × ((told : List ℕ) → IsSeenAs before after name told → unit_fault (read told) ≡ Some fault)
 UnitFails read before after name (errors.Outside outsides.ShelfFault) =
     FailsToRead before after name
 UnitFails read before after name (errors.Outside outside) = ⊥
@@ -206,8 +208,9 @@ pub record ReadsUnit (old new : Slots) (before after : ShelfState) (name : List 
     : Type 0 where
   pub same : SameBody old new
   pub files : after.files ≡ before.files
+  pub grown : Grows before.calls after.calls
   pub later : before.faults ≤ after.faults
-  pub given : (told : List ℕ) → Holds before.files name told
+  pub given : (told : List ℕ) → IsSeenAs before after name told
       → after.given ≤ before.given + unit_reach old.content old.max_unit (drop at told)
 
 -- ---- the slots of a range
@@ -220,10 +223,11 @@ first_byte content slot = slot * frame_length content
 pub record TakesSlot (old new : Slots) (before after : ShelfState) (name : List ℕ) (slot : ℕ)
     (last : Bool) : Type 0 where
   pub numbered : slot ≤ last_slot
-  pub read : (told : List ℕ) → Holds before.files name told
+  pub read : (told : List ℕ) → IsSeenAs before after name told
       → IsRead (slot_read (body_of old (drop old.begin told)) slot) last new.unit.out
   pub empty : new.unit.held ≡ []
   pub faults : after.faults ≡ before.faults
+  pub grown : Grows before.calls after.calls
   pub sized : IsSized old.content last new.unit.out
   pub width : ReadsWidth old.content before after name last
 
@@ -231,8 +235,9 @@ pub record TakesSlot (old new : Slots) (before after : ShelfState) (name : List 
 pub record ReadsSlot (old new : Slots) (before after : ShelfState) (name : List ℕ) : Type 0 where
   pub same : SameBody old new
   pub files : after.files ≡ before.files
+  pub grown : Grows before.calls after.calls
   pub later : before.faults ≤ after.faults
-  pub given : (told : List ℕ) → Holds before.files name told
+  pub given : (told : List ℕ) → IsSeenAs before after name told
       → after.given ≤ before.given + unit_reach old.content old.max_unit (drop old.begin told)
 
 -- how many bytes are read of a body for so many slots of a range at the most: the width of each but
@@ -258,9 +263,11 @@ pub record FindsFault (b : OpenBody) (range : ByteRange) (output put : SinkState
   pub fault_is : (extracted_body b range).fault ≡ Some fault
   pub gained : Appends output.written put.written (extracted_body b range).part
 
--- where the shelf tells the file, this is so of the body in it
-abbrev pub OnBody : Slots → ShelfState → List ℕ → (OpenBody → Type 0) → Type 0
-OnBody s before name so = (told : List ℕ) → Holds before.files name told → so (body_in s told)
+-- this is so of the body in the file, where the shelf tells it; and in any bytes that agree with
+-- what its reads gave between the two moments
+abbrev pub OnBody : Slots → ShelfState → ShelfState → List ℕ → (OpenBody → Type 0) → Type 0
+OnBody s before after name so =
+    (told : List ℕ) → IsSeenAs before after name told → so (body_in s told)
 
 -- The slots are those of the body that begins there behind a header that is unlocked; none is read.
 pub record AreSlotsOf (opened : Unlocked) (begin : ℕ) (max_unit : Option ℕ) (s : Slots)
@@ -283,13 +290,13 @@ WritesFrontOf range output put b =
 abbrev pub RangeFails : Slots → ByteRange → ShelfState → ShelfState → List ℕ → SinkState
     → SinkState → ExtractError → Type 0
 RangeFails s range before after name output put (errors.Fault fault) =
-    OnBody s before name (λ b. FindsFault b range output put fault)
+    OnBody s before after name (λ b. FindsFault b range output put fault)
 RangeFails s range before after name output put (errors.Outside outsides.ShelfFault) =
     FailsToRead before after name
-    × OnBody s before name (WritesFrontOf range output put)
+    × OnBody s before after name (WritesFrontOf range output put)
 RangeFails s range before after name output put (errors.Outside outsides.SinkFault) =
     Rose output.faults put.faults
-    × OnBody s before name (WritesFrontOf range output put)
+    × OnBody s before after name (WritesFrontOf range output put)
 RangeFails s range before after name output put (errors.Outside outside) = ⊥
 RangeFails s range before after name output put errors.Memory =
-    OnBody s before name (WritesFrontOf range output put)
+    OnBody s before after name (WritesFrontOf range output put)

@@ -4,6 +4,7 @@ ghost use Rattle.std.specs.Prelude.{◌≡◌, ◌+◌, ◌≤◌, ◌^◌, IfEr
 ghost use Rattle.esdk_decrypt.specs.Decrypt.{asked_from};
 ghost use Rattle.esdk_decrypt.specs.Underway.{BearsOnce};
 ghost use Rattle.keyring_trait.specs.Manager.{Went};
+ghost use Rattle.whole_input.specs.FileReads.{Grows};
 ghost use Rattle.extract_core.specs.Extract.{ExtractEnds, Extracts, HasHeader, HasNoHeader, OnFile, UnlessMemory, body_begin, locked_as, most_header, most_read, range_of, unheaded_as};
 
 use crate::errors::ExtractError;
@@ -41,6 +42,9 @@ const IV_AND_TAG: usize = 28;
 /// M10, or rarely M18. It holds one unit and one piece, and takes no memory for bytes that the file
 /// doesn't have.
 ///
+/// What is said of the file's bytes is so of those that the shelf tells, and over any shelf of all
+/// bytes that agree with each of these reads: a file that is changed meanwhile is what was read.
+///
 /// - `Fault`: the first that applies of the header's, M10 where it isn't whole; the manager's, M11
 ///   to M15; the lock's, M16 and M17; and those of the slots, in order: M18 to M20 of a frame, M20,
 ///   M21 and M9 of a single block, M10 where bytes are missing or no slot has the number. What
@@ -76,9 +80,11 @@ pub fn extract<M: Manager, F: Shelf, O: Sink>(
         (O.state output.old) (O.state output.new) (output.new ≡ output.old)) }
     ensures files { (F.state shelf.new).files ≡ (F.state shelf.old).files }
     ensures faults { IfOk result (λ _. (F.state shelf.new).faults ≡ (F.state shelf.old).faults) }
-    ensures given { UnlessMemory result (OnFile (F.state shelf.old) name.now
+    ensures given { UnlessMemory result (OnFile (F.state shelf.old) (F.state shelf.new)
+        name.now
         (λ bytes. (F.state shelf.new).given
         ≤ (F.state shelf.old).given + most_read settings (range_of at count) bytes)) }
+    ensures calls { Grows (F.state shelf.old).calls (F.state shelf.new).calls }
     ensures went { Went (M.state manager.old) (M.state manager.new) }
     ensures bears { BearsOnce (M.state manager.old) (M.state manager.new) now }
 {
@@ -109,9 +115,11 @@ fn header_in<F: Shelf>(
     ensures none { IfErr result (HasNoHeader settings (F.state shelf.old) (F.state shelf.new)
         name.now) }
     ensures files { (F.state shelf.new).files ≡ (F.state shelf.old).files }
-    ensures given { UnlessMemory result (OnFile (F.state shelf.old) name.now
+    ensures given { UnlessMemory result (OnFile (F.state shelf.old) (F.state shelf.new)
+        name.now
         (λ bytes. (F.state shelf.new).given
         ≤ (F.state shelf.old).given + most_header settings bytes)) }
+    ensures calls { Grows (F.state shelf.old).calls (F.state shelf.new).calls }
 {
     let mut file = FileSource::new(shelf, name, 0);
     match take_header(alloc, &mut file, settings) {

@@ -1,6 +1,7 @@
 //! Bytes of a file that are read ahead.
 
 ghost use Rattle.std.specs.Prelude.{◌≡◌, ◌≤◌, [], drop, length, IfOk};
+ghost use Rattle.whole_input.specs.FileReads.{Grows};
 ghost use Rattle.extract_core.specs.ReadAhead.{ReadsAhead, ReadsFront};
 
 use esdk_base::{Failed, Shelf};
@@ -79,6 +80,7 @@ impl ReadAhead {
             self.new result }
         ensures files { (F.state shelf.new).files ≡ (F.state shelf.old).files }
         ensures later { (F.state shelf.old).faults ≤ (F.state shelf.new).faults }
+        ensures calls { Grows (F.state shelf.old).calls (F.state shelf.new).calls }
     {
         self.begin = 0;
         self.end = 0;
@@ -104,6 +106,7 @@ fn read_front<F: Shelf>(
         buffer.new result }
     ensures files { (F.state shelf.new).files ≡ (F.state shelf.old).files }
     ensures later { (F.state shelf.old).faults ≤ (F.state shelf.new).faults }
+    ensures calls { Grows (F.state shelf.old).calls (F.state shelf.new).calls }
 {
     shelf.read_at(name, at, &mut buffer[..room])
 }

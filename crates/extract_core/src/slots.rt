@@ -10,6 +10,7 @@ ghost use Rattle.frame_codec.specs.InPlace.{unit_size};
 ghost use Rattle.frame_codec.specs.UnitBuffer.{opened_of};
 ghost use Rattle.frame_codec.specs.UnitHead.{longest_block};
 ghost use Rattle.header_codec.specs.Header.{IsContent, frame_length};
+ghost use Rattle.whole_input.specs.FileReads.{Grows};
 ghost use Rattle.extract_core.specs.declared.errors.ExtractError.TheVariants as errors;
 ghost use Rattle.extract_core.specs.Extracted.{first_slot, in_range, slot_count, slot_read, slot_width};
 ghost use Rattle.extract_core.specs.Slots.{AreSlotsOf, IsWithin, NeedsAre, OnBody, RangeFails, ReadsSlot, ReadsUnit, SameBody, TakesMore, TakesNone, TakesOn, TakesSlot, TakesUnit, UnitFails, WritesRange, body_in, first_byte, is_last, range_reach, unit_read};
@@ -154,6 +155,7 @@ impl Slots {
     ///
     /// M10 `Truncated` where the file ends before; `ShelfFault` where the read failed; `Memory`
     /// where memory runs out.
+    #[tactic(auto, using(whole_input::proofs::Agreeing::grows_none))]
     fn take_bytes<F: Shelf>(
         &mut self,
         shelf: &mut F,
@@ -236,6 +238,7 @@ impl Slots {
 
     /// Reads and opens a slot, counted from 0, and answers whether it is the last one. None is held
     /// before. M10 where no slot has the number; else as `take_unit` says.
+    #[tactic(auto, using(whole_input::proofs::Agreeing::grows_none))]
     fn take_slot<F: Shelf>(
         &mut self,
         shelf: &mut F,
@@ -302,6 +305,7 @@ impl Slots {
     /// `Fault` of the first slot that isn't good, what stands before it being written; so M10 where
     /// the range begins behind the end of the bytes. `ShelfFault` or `SinkFault` where a call
     /// failed; `Memory` where memory runs out. Then a front of the range was written.
+    #[tactic(auto, using(whole_input::proofs::Agreeing::grows_none))]
     pub(crate) fn write_range<F: Shelf, O: Sink>(
         &mut self,
         shelf: &mut F,
@@ -315,16 +319,19 @@ impl Slots {
         requires content { IsContent self.old.content }
         requires at { at ≤ 2 ^ 62 }
         requires count { count ≤ 2 ^ 62 }
-        ensures done { IfOk result (λ written. OnBody self.old (F.state shelf.old) name.now
+        ensures done { IfOk result (λ written. OnBody self.old (F.state shelf.old)
+            (F.state shelf.new) name.now
             (λ b. WritesRange b (record { at = at; count = count })
             (O.state output.old) (O.state output.new) written)) }
         ensures fails { IfErr result (RangeFails self.old (record { at = at; count = count })
             (F.state shelf.old) (F.state shelf.new) name.now
             (O.state output.old) (O.state output.new)) }
         ensures files { (F.state shelf.new).files ≡ (F.state shelf.old).files }
+        ensures calls { Grows (F.state shelf.old).calls (F.state shelf.new).calls }
         ensures faults { IfOk result (λ _. (F.state shelf.new).faults
             ≡ (F.state shelf.old).faults) }
-        ensures given { OnBody self.old (F.state shelf.old) name.now (λ b. (F.state shelf.new).given
+        ensures given { OnBody self.old (F.state shelf.old)
+            (F.state shelf.new) name.now (λ b. (F.state shelf.new).given
             ≤ (F.state shelf.old).given + range_reach b (record { at = at; count = count })) }
     {
         if count == 0 {

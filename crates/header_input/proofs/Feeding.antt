@@ -173,7 +173,7 @@ pub going_ended : (T : Type 0) (settings : Settings) (first now new : SourceStat
 going_ended T settings first now new taken v reader ends.Seen going next = record {
   bytes = going.bytes;
   came = came_still first now new going.bytes going.came next.0;
-  end = record { end = next.1; faults = next.2 ∙ going.faults; few = omega (arith, going.count, next.3) };
+  end = record { end = next.1; seen = next.5; faults = next.2 ∙ going.faults; few = omega (arith, going.count, next.3) };
   wanting = going.waits.wanting;
 }
 going_ended T settings first now new taken v reader ends.Failed going next = record {

@@ -5,6 +5,7 @@ ghost use Rattle.esdk_fields.specs.Counts.{Rose};
 
 use esdk_base::{Failed, Readers, Shelf};
 use esdk_memory::MemShelf;
+use esdk_seen::{Call, SeenCalls};
 use std::alloc::AllocError;
 
 /// The name that it can't finish.
@@ -17,6 +18,7 @@ pub(crate) struct PlacingShelf {
     shelf: MemShelf,
     given: u64,
     faults: u64,
+    calls: SeenCalls,
     stuck: u32,
     placed: u32,
     owned: u32,
@@ -29,6 +31,7 @@ impl PlacingShelf {
             shelf,
             given: 0,
             faults: 0,
+            calls: SeenCalls::new(),
             stuck: 0,
             placed: 0,
             owned: 0,
@@ -50,6 +53,7 @@ impl PlacingShelf {
         ensures given { self.new.given ≡ self.old.given }
         ensures later { self.old.faults ≤ self.new.faults }
         ensures rose { Rose self.old.faults self.new.faults }
+        ensures calls { self.new.calls.calls ≡ self.old.calls.calls }
     {
         self.faults = self.faults.saturating_add(1);
         Failed
@@ -57,12 +61,18 @@ impl PlacingShelf {
 }
 
 impl Shelf for PlacingShelf {
-    ghost state = { λ s. record { files = None; given = s.given; faults = s.faults } };
+    ghost state = { λ s. record {
+      files = None;
+      given = s.given;
+      faults = s.faults;
+      calls = s.calls.calls;
+    } };
 
     fn read_at(&mut self, name: &str, at: u64, out: &mut [u8]) -> Result<usize, Failed> {
         match self.shelf.read_at(name, at, out) {
             Ok(count) => {
                 self.given = self.given.saturating_add(count as u64);
+                self.calls.see(&Call::Read(name, at, &out[..count]));
                 Ok(count)
             }
             Err(_) => Err(self.fault()),
@@ -71,14 +81,20 @@ impl Shelf for PlacingShelf {
 
     fn create(&mut self, name: &str) -> Result<(), Failed> {
         match self.shelf.create(name) {
-            Ok(()) => Ok(()),
+            Ok(()) => {
+                self.calls.see(&Call::Create(name));
+                Ok(())
+            }
             Err(_) => Err(self.fault()),
         }
     }
 
     fn append(&mut self, name: &str, bytes: &[u8]) -> Result<(), Failed> {
         match self.shelf.append(name, bytes) {
-            Ok(()) => Ok(()),
+            Ok(()) => {
+                self.calls.see(&Call::Append(name, bytes));
+                Ok(())
+            }
             Err(_) => Err(self.fault()),
         }
     }
@@ -90,10 +106,12 @@ impl Shelf for PlacingShelf {
     fn finish(&mut self, name: &str, readers: Readers) -> Result<(), Failed> {
         let Readers::Anyone = readers else {
             self.owned = self.owned.saturating_add(1);
+            self.calls.see(&Call::Finish(name, true));
             return Ok(());
         };
         if name != STUCK {
             self.placed = self.placed.saturating_add(1);
+            self.calls.see(&Call::Finish(name, false));
             return Ok(());
         }
         self.stuck = self.stuck.saturating_add(1);

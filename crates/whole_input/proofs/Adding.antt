@@ -1,15 +1,20 @@
 -- A file's front that grows piece by piece.
-use Rattle.std.proofs.Common.{◌≡◌, ◌≤◌, ◌<◌, ◌+◌, ℕ, List, [], ◌++◌, inl, inr, length, drop, Bool, true, false, Option, Err, refl, ap, subst, sym, arith, ◌∙◌, append-nil, length-append}
+use Rattle.std.proofs.Common.{◌≡◌, ◌≤◌, ◌<◌, ◌+◌, ℕ, List, [], ◌∷◌, ◌++◌, inl, inr, length, drop, Bool, true, false, Option, Err, refl, ap, subst, sym, arith, ◌∙◌, append-nil, length-append}
+use Rattle.std.proofs.lemmas.List.{append_cancel_left}
 use Rattle.esdk_fields.specs.Counts.{RoseBy}
 use Rattle.esdk_base.specs.Shelf.{Files, Holds, is_missing}
 use Rattle.esdk_base.specs.Streams.{FailsToRead, ShelfState}
 use Rattle.whole_input.specs.declared.file.FileError.{FileError}
 use Rattle.whole_input.specs.declared.file.FileError.TheVariants.{Shelf, TooLong, Memory}
+use Rattle.esdk_seen.specs.Calls.{reads}
+use Rattle.whole_input.specs.FileReads.{ReadsRow, ReadsWhole}
+use Rattle.whole_input.specs.FileReadsLaws.{row_ends, row_more, row_none, row_one}
 use Rattle.whole_input.specs.Pieces.{most_piece}
 use Rattle.whole_input.specs.File.{Adds, FileCause, IsFile, IsFront, IsLong, Piece, most_file}
 
 -- Where the shelf tells, these bytes are the file's front; if there are any, the file is there. Just so many were given, and no read failed.
 pub record Adding (first now : ShelfState) (name bytes : List ℕ) : Type 0 where
+  pub read : ReadsRow name 0 first.calls now.calls bytes
   pub front : IsFront first.files name bytes
   pub there : 0 < length bytes → is_missing first.files name ≡ false
   pub files : now.files ≡ first.files
@@ -20,6 +25,7 @@ pub record Adding (first now : ShelfState) (name bytes : List ℕ) : Type 0 wher
 -- no piece yet
 pub adding_none : (first : ShelfState) (name : List ℕ) → Adding first first name []
 adding_none first name = record {
+  read = row_none name 0 first.calls;
   front = λ told holds. refl;
   there = λ some. absurd (omega (arith, some));
   files = refl;
@@ -28,10 +34,19 @@ adding_none first name = record {
   faults = refl;
 }
 
+-- what makes nothing longer is nothing
+no_more : (before more : List ℕ) → before ++ more ≡ before → more ≡ []
+no_more before more is = append_cancel_left before more [] (is ∙ sym (append-nil before))
+
 -- one piece more
 pub adding_more : (first old new : ShelfState) (name before after : List ℕ) (more : Bool) → Adding first old name before → Piece old new name before after more
     → new.files ≡ old.files → Adding first new name after
 adding_more first old new name before after more adding piece stays = record {
+  read =
+      let more : List ℕ = piece.read.0 in
+      let row = row_one name (length before) old.calls new.calls more piece.read.2 in
+      subst (λ (b : List ℕ). ReadsRow name 0 first.calls new.calls b) (sym piece.read.1)
+      (row_more name 0 (length before) first.calls old.calls new.calls before more (omega arith) adding.read row);
   front = let P : Option Files → Type 0 = λ f. IsFront f name before → IsFront f name after in subst P adding.files piece.front adding.front;
   there = λ some. subst (λ f. is_missing f name ≡ false) adding.files piece.there;
   files = stays ∙ adding.files;
@@ -44,6 +59,12 @@ adding_more first old new name before after more adding piece stays = record {
 pub adding_ends : (first old new : ShelfState) (name before after : List ℕ) → Adding first old name before → Piece old new name before after false
     → length before ≤ most_file → IsFile first new name after
 adding_ends first old new name before after adding piece few = record {
+  read =
+      let more : List ℕ = piece.read.0 in
+      let none : more ≡ [] = no_more before more (sym piece.read.1 ∙ piece.same refl) in
+      let last = piece.read.2 ∙ ap (λ (m : List ℕ). old.calls ++ reads name (length before) m ∷ []) none in
+      subst (λ (b : List ℕ). ReadsWhole name first.calls new.calls b) (sym (piece.same refl))
+      (row_ends name first.calls old.calls new.calls before adding.read last);
   there = subst (λ f. is_missing f name ≡ false) adding.files piece.there;
   whole = λ told holds.
       let ended = subst (λ f. Holds f name told → drop (length before) told ≡ []) adding.files (piece.end refl told) holds in

@@ -1,16 +1,17 @@
 -- Bytes that come piece by piece.
-use Rattle.std.proofs.Common.{ℕ, List, [], ◌++◌, subst, arith, append-nil, length-append}
+use Rattle.std.proofs.Common.{◌∙◌, ℕ, List, [], ◌++◌, ap, sym, subst, arith, append_assoc, append-nil, length-append}
 use Rattle.std.proofs.KnownBytes.{Consumes-trans, Consumes-nil}
 use Rattle.esdk_base.specs.Streams.{SourceState}
 use Rattle.whole_input.specs.Taken.{Came}
 
 -- no byte came yet
 pub came_none : (first : SourceState) → Came first first []
-came_none first = record { consumed = Consumes-nil first.left; given = omega arith; most = omega arith }
+came_none first = record { told = sym (append-nil first.came); consumed = Consumes-nil first.left; given = omega arith; most = omega arith }
 
 -- the bytes of a piece join those that came before
 pub came_more : (first old new : SourceState) (bytes piece : List ℕ) → Came first old bytes → Came old new piece → Came first new (bytes ++ piece)
 came_more first old new bytes piece came more = record {
+  told = more.told ∙ ap (λ (b : List ℕ). b ++ piece) came.told ∙ append_assoc first.came bytes piece;
   consumed = Consumes-trans first.left old.left new.left bytes piece came.consumed more.consumed;
   given = omega (arith, came.given, more.given, length-append bytes piece);
   most = omega (arith, came.most, more.most, length-append bytes piece);

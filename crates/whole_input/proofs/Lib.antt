@@ -1,3 +1,4 @@
 mod Adding
+pub mod Agreeing
 pub mod Coming
 pub mod Fronts

@@ -1,10 +1,12 @@
 -- What is taken of a file.
-use Rattle.std.specs.Prelude.{◌≡◌, ℕ, ◌+◌, ◌-◌, ◌<◌, ◌≤◌, List, ◌++◌, length, [], drop, Bool, true, false, ⊤, Option, Result, Ok, Err, codes}
+use Rattle.std.specs.Prelude.{◌≡◌, ℕ, ◌+◌, ◌-◌, ◌<◌, ◌≤◌, List, ◌++◌, ◌∷◌, length, [], drop, Bool, true, false, ⊤, Option, Result, Ok, Err, codes}
 use Rattle.esdk_fields.specs.Counts.{RoseBy, counted}
 use Rattle.esdk_base.specs.Shelf.{Files, Holds, is_missing}
 use Rattle.esdk_base.specs.Streams.{FailsToRead, ShelfState}
+use Rattle.esdk_seen.specs.Calls.{reads}
 use Rattle.whole_input.specs.declared.file.FileError.{FileError}
 use Rattle.whole_input.specs.declared.file.FileError.TheVariants.{Shelf, TooLong, Memory}
+use Rattle.whole_input.specs.FileReads.{ReadsWhole}
 use Rattle.whole_input.specs.Pieces.{most_piece}
 use Rattle.whole_input.specs.declared.file.FileError.TheVariants as errors
 
@@ -12,9 +14,11 @@ use Rattle.whole_input.specs.declared.file.FileError.TheVariants as errors
 abbrev pub most_file : ℕ
 most_file = 1048576
 
--- The file has just these bytes, where the shelf tells, and just so many were given; there are at
--- most 1,048,576, and no read failed.
+-- These bytes are what the calls between gave, which read the file in a row, from its front to its
+-- end. The file has just these bytes, where the shelf tells, and just so many were given; there are
+-- at most 1,048,576, and no read failed.
 pub record IsFile (old new : ShelfState) (name bytes : List ℕ) : Type 0 where
+  pub read : ReadsWhole name old.calls new.calls bytes
   pub there : is_missing old.files name ≡ false
   pub whole : (told : List ℕ) → Holds old.files name told → told ≡ bytes
   pub few : length bytes ≤ most_file
@@ -57,6 +61,8 @@ pub record Piece (old new : ShelfState) (name before after : List ℕ) (more : B
   pub same : more ≡ false → after ≡ before
   pub end : more ≡ false → (told : List ℕ) → Holds old.files name told
       → drop (length before) told ≡ []
+  pub read : (piece : List ℕ) × (after ≡ before ++ piece)
+      × (new.calls ≡ old.calls ++ reads name (length before) piece ∷ [])
   pub given : new.given ≡ counted old.given (length after - length before)
   pub faults : new.faults ≡ old.faults
 

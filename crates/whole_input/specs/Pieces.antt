@@ -1,5 +1,5 @@
 -- An input that is taken piece by piece.
-use Rattle.std.specs.Prelude.{◌≡◌, ℕ, ◌+◌, ◌^◌, ◌<◌, ◌≤◌, List, [], ◌++◌, length, take, Result, Ok, Err}
+use Rattle.std.specs.Prelude.{◌≡◌, ℕ, ◌+◌, ◌^◌, ◌<◌, ◌≤◌, List, [], ◌++◌, length, take, true, Result, Ok, Err}
 use Rattle.std.specs.Io.KnownBytes.{IsAtEnd}
 use Rattle.esdk_fields.specs.Counts.{Rose}
 use Rattle.esdk_base.specs.Streams.{SourceState}
@@ -30,7 +30,7 @@ abbrev pub ReadsInto : ℕ → SourceState → SourceState → List ℕ → Resu
 ReadsInto room old new buffer (Ok count) =
     Piece room old new (take count buffer) × (length (take count buffer) ≡ count)
 ReadsInto room old new buffer (Err Seen) =
-    Came old new [] × IsAtEnd new.left × (new.faults ≡ old.faults)
+    Came old new [] × IsAtEnd new.left × (new.faults ≡ old.faults) × (new.ended ≡ true)
 ReadsInto room old new buffer (Err Failed) = Came old new [] × Rose old.faults new.faults
 ReadsInto room old new buffer (Err TooLong) = ⊥
 
@@ -42,7 +42,7 @@ NextPiece taken old new v (Ok done) =
     Piece most_piece old new v.piece × (v.taken ≡ taken + length v.piece) × (v.taken ≤ most_input)
 NextPiece taken old new v (Err Seen) =
     Came old new [] × IsAtEnd new.left × (new.faults ≡ old.faults) × (taken < most_input)
-    × (v.taken ≡ taken)
+    × (v.taken ≡ taken) × (new.ended ≡ true)
 NextPiece taken old new v (Err Failed) =
     Came old new [] × Rose old.faults new.faults × (taken < most_input) × (v.taken ≡ taken)
 NextPiece taken old new v (Err TooLong) = (new ≡ old) × (taken ≡ most_input) × (v.taken ≡ taken)

@@ -132,7 +132,7 @@ written-requires-in-Err-Seen g c =
     let stands = c.in_ok-sealer.ensures.stands in
     let next = rw c.in-Err-Seen.field-0-is at c.in-Err-Seen.ensures.next in
     finish_names g.O.Receiver.takes g.O.Receiver.fails m size id _ _ _ _ _ _ wide
-    (input_ends g.O.Receiver.takes m size id wide g.O.Receiver.fails _ _ _ _ _ _ (c.reads.invariant.feeds m size id wide stands) _ next.0 next.1 next.2 next.3)
+    (input_ends g.O.Receiver.takes m size id wide g.O.Receiver.fails _ _ _ _ _ _ (c.reads.invariant.feeds m size id wide stands) _ next.0 next.1 next.5 next.2 next.3)
     c.finish_into.result c.finish_into.ensures.ends
 
 pub returns-in-Err-Seen-clause-done : goal.returns-in-Err-Seen-clause-done
@@ -151,7 +151,7 @@ returns-in-Err-Seen-clause-done g c =
     let next = rw c.in-Err-Seen.field-0-is at c.in-Err-Seen.ensures.next in
     ends_done asked _ _ _ _ _ c.in-Ok.draws m id c.written-in-Err-Seen.result (record { drew = drew; given = (given, last); begins = taken }) c.message_id-id.ensures
     (ends_written g.O.Receiver.takes g.O.Receiver.fails m size id _ _ _ _ _ _ wide
-    (input_ends g.O.Receiver.takes m size id wide g.O.Receiver.fails _ _ _ _ _ _ (c.reads.invariant.feeds m size id wide stands) _ next.0 next.1 next.2 next.3)
+    (input_ends g.O.Receiver.takes m size id wide g.O.Receiver.fails _ _ _ _ _ _ (c.reads.invariant.feeds m size id wide stands) _ next.0 next.1 next.5 next.2 next.3)
     g.met.O.Receiver.takes_more c.finish_into.result c.written-in-Err-Seen.result c.written-in-Err-Seen.ensures c.finish_into.ensures.ends)
 
 pub returns-in-Err-Seen-clause-ends : goal.returns-in-Err-Seen-clause-ends
@@ -170,7 +170,7 @@ returns-in-Err-Seen-clause-ends g c =
     let next = rw c.in-Err-Seen.field-0-is at c.in-Err-Seen.ensures.next in
     ends_stopped asked _ _ _ _ _ c.in-Ok.draws m id _ _ c.written-in-Err-Seen.result (record { drew = drew; given = (given, last); begins = taken }) c.message_id-id.ensures
     (ends_unwritten g.O.Receiver.takes g.O.Receiver.fails m size id _ _ _ _ _ _ wide
-    (input_ends g.O.Receiver.takes m size id wide g.O.Receiver.fails _ _ _ _ _ _ (c.reads.invariant.feeds m size id wide stands) _ next.0 next.1 next.2 next.3)
+    (input_ends g.O.Receiver.takes m size id wide g.O.Receiver.fails _ _ _ _ _ _ (c.reads.invariant.feeds m size id wide stands) _ next.0 next.1 next.5 next.2 next.3)
     c.finish_into.result c.written-in-Err-Seen.result c.written-in-Err-Seen.ensures c.finish_into.ensures.ends)
 
 pub returns-in-Err-Seen-clause-writes : goal.returns-in-Err-Seen-clause-writes

@@ -1,4 +1,4 @@
-use Rattle.std.proofs.Common.{None}
+use Rattle.std.proofs.Common.{[], None, false}
 use Rattle.esdk_base.specs.Streams.{SourceState}
 use Rattle.esdk_run.proofs.Ages.{ages_kept, no_ages}
 use Rattle.esdk_run.proofs.Batches.{batch_failed, batch_reported, run_status}
@@ -6,7 +6,7 @@ use Rattle.esdk_run.proofs.batch.run_batch.Goals as goal
 
 pub returns-in-Ok-clause-status : goal.returns-in-Ok-clause-status
 returns-in-Ok-clause-status g c =
-    let none : SourceState = record { left = None; given = 0; faults = 0 } in
+    let none : SourceState = record { left = None; given = 0; faults = 0; came = []; ended = false } in
     run_status _ _ _ _ _ (rw c.in-Ok.is at (c.batch_jobs-ended.ensures.done none (g.R.Sink.state c.args.report.now)))
 
 pub returns-in-Ok-clause-runs : goal.returns-in-Ok-clause-runs

@@ -19,7 +19,7 @@ returns-in_default-clause-ends g c =
 pub returns-clause-done : goal.returns-clause-done
 returns-clause-done g c =
     let over = reads_over g.S.Source.state c.args.input.now _ c.over-text.result c.decrypt-ended.new.input c.judge_end-judged.new.text _ (is_open c.decrypt-ended.result) _
-    (ap (λ t. t.now) c.over-text.ensures.text) (λ text. c.over-text.ensures.outlook text) c.over-text.ensures.none c.over-text.ensures.given c.over-text.ensures.faults c.decrypt-ended.ensures.lasts.2 c.judge_end-judged.ensures.looks
+    (ap (λ t. t.now) c.over-text.ensures.text) (λ text. c.over-text.ensures.outlook text) c.over-text.ensures.none c.over-text.ensures.given c.over-text.ensures.faults c.over-text.ensures.goes c.over-text.ensures.came c.over-text.ensures.ended c.decrypt-ended.ensures.lasts.2 c.judge_end-judged.ensures.looks
     c.is_open.ensures c.in_ok-judged.ensures.sees c.in_ok-judged.ensures.passes
     (c.input-1.given.1 (sym (c.into_text.ensures.same ∙ c.judge_end-judged.ensures.same ∙ c.decrypt-ended.ensures.lasts.0 ∙ ap (λ t. t.ghost_name) c.over-text.ensures.text))
     ∙ c.into_text.ensures.now) in
@@ -28,7 +28,7 @@ returns-clause-done g c =
 pub returns-clause-ends : goal.returns-clause-ends
 returns-clause-ends g c =
     let over = reads_over g.S.Source.state c.args.input.now _ c.over-text.result c.decrypt-ended.new.input c.judge_end-judged.new.text _ (is_open c.decrypt-ended.result) _
-    (ap (λ t. t.now) c.over-text.ensures.text) (λ text. c.over-text.ensures.outlook text) c.over-text.ensures.none c.over-text.ensures.given c.over-text.ensures.faults c.decrypt-ended.ensures.lasts.2 c.judge_end-judged.ensures.looks
+    (ap (λ t. t.now) c.over-text.ensures.text) (λ text. c.over-text.ensures.outlook text) c.over-text.ensures.none c.over-text.ensures.given c.over-text.ensures.faults c.over-text.ensures.goes c.over-text.ensures.came c.over-text.ensures.ended c.decrypt-ended.ensures.lasts.2 c.judge_end-judged.ensures.looks
     c.is_open.ensures c.in_ok-judged.ensures.sees c.in_ok-judged.ensures.passes
     (c.input-1.given.1 (sym (c.into_text.ensures.same ∙ c.judge_end-judged.ensures.same ∙ c.decrypt-ended.ensures.lasts.0 ∙ ap (λ t. t.ghost_name) c.over-text.ensures.text))
     ∙ c.into_text.ensures.now) in
@@ -39,7 +39,7 @@ returns-clause-ends g c =
 pub returns-in_err-judged-clause-ends : goal.returns-in_err-judged-clause-ends
 returns-in_err-judged-clause-ends g c =
     let over = reads_over g.S.Source.state c.args.input.now _ c.over-text.result c.decrypt-ended.new.input c.judge_end-judged.new.text _ (is_open c.decrypt-ended.result) _
-    (ap (λ t. t.now) c.over-text.ensures.text) (λ text. c.over-text.ensures.outlook text) c.over-text.ensures.none c.over-text.ensures.given c.over-text.ensures.faults c.decrypt-ended.ensures.lasts.2 c.judge_end-judged.ensures.looks
+    (ap (λ t. t.now) c.over-text.ensures.text) (λ text. c.over-text.ensures.outlook text) c.over-text.ensures.none c.over-text.ensures.given c.over-text.ensures.faults c.over-text.ensures.goes c.over-text.ensures.came c.over-text.ensures.ended c.decrypt-ended.ensures.lasts.2 c.judge_end-judged.ensures.looks
     c.is_open.ensures c.in_err-judged.ensures.sees c.in_err-judged.ensures.passes
     (c.input-1.given.1 (sym (c.into_text.ensures.same ∙ c.judge_end-judged.ensures.same ∙ c.decrypt-ended.ensures.lasts.0 ∙ ap (λ t. t.ghost_name) c.over-text.ensures.text))
     ∙ c.into_text.ensures.now) in

@@ -36,7 +36,7 @@ returns-clause-runs g c = λ input entropy.
     })
     (extracts_more _ _ no_limits c.in-Ok.prepared.context (range_asked c.args.asked.now) middle after c.args.asked.now.from output put c.extract-ended.result allows (rw (c.none.ensures, c.as_str.ensures.text) at c.extract-ended.ensures.done))
     (extract_stops_more _ _ no_limits c.in-Ok.prepared.context (range_asked c.args.asked.now) middle after c.args.asked.now.from output put (c.extract-ended.new.output ≡ c.args.output.now) c.extract-ended.result allows (rw (c.none.ensures, c.as_str.ensures.text) at c.extract-ended.ensures.ends))
-    c.extract-ended.ensures.faults (rw (c.none.ensures, c.as_str.ensures.text) at c.extract-ended.ensures.given) c.report_end.ensures.done c.report_end.ensures.said
+    c.extract-ended.ensures.faults c.extract-ended.ensures.calls (rw (c.none.ensures, c.as_str.ensures.text) at c.extract-ended.ensures.given) c.report_end.ensures.done c.report_end.ensures.said
 
 pub returns-in-Err-clause-runs : goal.returns-in-Err-clause-runs
 returns-in-Err-clause-runs g c = λ input entropy.

@@ -16,7 +16,7 @@ returns-in_default-clause-ends g c =
 pub returns-in-Ok-judged-clause-done : goal.returns-in-Ok-judged-clause-done
 returns-in-Ok-judged-clause-done g c =
     let over = reads_over g.S.Source.state c.args.input.now _ c.over-text.result c.list-ended.new.input c.judge_end-judged.new.text _ (wants_header c.list-ended.result) _
-    (ap (λ t. t.now) c.over-text.ensures.text) (λ text. c.over-text.ensures.outlook text) c.over-text.ensures.none c.over-text.ensures.given c.over-text.ensures.faults c.list-ended.ensures.lasts.2 c.judge_end-judged.ensures.looks
+    (ap (λ t. t.now) c.over-text.ensures.text) (λ text. c.over-text.ensures.outlook text) c.over-text.ensures.none c.over-text.ensures.given c.over-text.ensures.faults c.over-text.ensures.goes c.over-text.ensures.came c.over-text.ensures.ended c.list-ended.ensures.lasts.2 c.judge_end-judged.ensures.looks
     c.wants_header.ensures c.in-Ok-judged.ensures.sees c.in-Ok-judged.ensures.passes
     (c.input-1.given.1 (sym (c.into_text.ensures.same ∙ c.judge_end-judged.ensures.same ∙ c.list-ended.ensures.lasts.0 ∙ ap (λ t. t.ghost_name) c.over-text.ensures.text))
     ∙ c.into_text.ensures.now) in
@@ -25,7 +25,7 @@ returns-in-Ok-judged-clause-done g c =
 pub returns-in-Ok-judged-clause-ends : goal.returns-in-Ok-judged-clause-ends
 returns-in-Ok-judged-clause-ends g c =
     let over = reads_over g.S.Source.state c.args.input.now _ c.over-text.result c.list-ended.new.input c.judge_end-judged.new.text _ (wants_header c.list-ended.result) _
-    (ap (λ t. t.now) c.over-text.ensures.text) (λ text. c.over-text.ensures.outlook text) c.over-text.ensures.none c.over-text.ensures.given c.over-text.ensures.faults c.list-ended.ensures.lasts.2 c.judge_end-judged.ensures.looks
+    (ap (λ t. t.now) c.over-text.ensures.text) (λ text. c.over-text.ensures.outlook text) c.over-text.ensures.none c.over-text.ensures.given c.over-text.ensures.faults c.over-text.ensures.goes c.over-text.ensures.came c.over-text.ensures.ended c.list-ended.ensures.lasts.2 c.judge_end-judged.ensures.looks
     c.wants_header.ensures c.in-Ok-judged.ensures.sees c.in-Ok-judged.ensures.passes
     (c.input-1.given.1 (sym (c.into_text.ensures.same ∙ c.judge_end-judged.ensures.same ∙ c.list-ended.ensures.lasts.0 ∙ ap (λ t. t.ghost_name) c.over-text.ensures.text))
     ∙ c.into_text.ensures.now) in
@@ -36,7 +36,7 @@ returns-in-Ok-judged-clause-ends g c =
 pub returns-in-Err-clause-ends : goal.returns-in-Err-clause-ends
 returns-in-Err-clause-ends g c =
     let over = reads_over g.S.Source.state c.args.input.now _ c.over-text.result c.list-ended.new.input c.judge_end-judged.new.text _ (wants_header c.list-ended.result) _
-    (ap (λ t. t.now) c.over-text.ensures.text) (λ text. c.over-text.ensures.outlook text) c.over-text.ensures.none c.over-text.ensures.given c.over-text.ensures.faults c.list-ended.ensures.lasts.2 c.judge_end-judged.ensures.looks
+    (ap (λ t. t.now) c.over-text.ensures.text) (λ text. c.over-text.ensures.outlook text) c.over-text.ensures.none c.over-text.ensures.given c.over-text.ensures.faults c.over-text.ensures.goes c.over-text.ensures.came c.over-text.ensures.ended c.list-ended.ensures.lasts.2 c.judge_end-judged.ensures.looks
     c.wants_header.ensures c.in-Err.ensures.sees c.in-Err.ensures.passes
     (c.input-1.given.1 (sym (c.into_text.ensures.same ∙ c.judge_end-judged.ensures.same ∙ c.list-ended.ensures.lasts.0 ∙ ap (λ t. t.ghost_name) c.over-text.ensures.text))
     ∙ c.into_text.ensures.now) in

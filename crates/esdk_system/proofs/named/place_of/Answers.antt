@@ -1,5 +1,5 @@
 -- The value that was looked at doesn't have the name.
-use Rattle.std.proofs.Common.{rules, arith, ◌≡◌, ◌≢◌, ◌<◌, All, List, ℕ, length, subst, get_or, take_all}
+use Rattle.std.proofs.Common.{rules, arith, ◌≢◌, All, subst, take_all}
 use Rattle.std.proofs.lemmas.List.Elements.{All-more}
 use Rattle.esdk_system.proofs.named.place_of.Goals as goal
 

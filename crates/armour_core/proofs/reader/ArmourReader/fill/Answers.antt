@@ -11,4 +11,4 @@ loop-filled-preserved c =
     let f = c.fill_some-count in
     let long = part_length l.out l.filled in
     filling_more c.args.self.now l.self f.new.self c.args.out.now l.out f.new.out l.filled f.result (length l.out - l.filled) l.invariant (omega (arith, l.invariant.room)) (f.auto.out ∙ long)
-    (λ text. f.ensures.outlook text) f.ensures.pieces f.ensures.goes (omega (arith, f.ensures.room, long)) (omega (arith, c.if-count-eq0.false))
+    (λ text. f.ensures.outlook text) f.ensures.pieces f.ensures.goes f.ensures.whole (omega (arith, f.ensures.room, long)) (omega (arith, c.if-count-eq0.false))

@@ -15,12 +15,14 @@ loop-self-preserved g c =
       outlook = keeps_more before here now c.args.self.now.reader c.wants_text.new.self c.take_text.new.self (keeps_same before here c.args.self.now.reader c.loop-self.self.reader c.wants_text.new.self i.outlook (λ text. c.wants_text.ensures.outlook text)) c.take_text.ensures.outlook;
       awaits =
           awaits_more before here now c.args.self.now.reader c.wants_text.new.self c.take_text.new.self c.args.self.now.faults c.requires.whole
-          (awaits_same before here c.args.self.now.reader c.loop-self.self.reader c.wants_text.new.self c.args.self.now.faults c.requires.whole i.awaits (λ text. c.wants_text.ensures.outlook text) c.wants_text.ensures.pieces c.wants_text.ensures.goes)
+          (awaits_same before here c.args.self.now.reader c.loop-self.self.reader c.wants_text.new.self c.args.self.now.faults c.requires.whole i.awaits (λ text. c.wants_text.ensures.outlook text) c.wants_text.ensures.pieces c.wants_text.ensures.goes c.wants_text.ensures.whole)
           (spent_gives c.wants_text.new.self wants.0) c.take_text.ensures.takes;
       lasts = g.met.S.Source.lasts_more _ _ _ i.lasts c.take_text.ensures.lasts;
       stays = c.in-Ok.ensures.same ∙ i.stays;
       given = i.given;
       faults = i.faults;
+      came = i.came;
+      ended = i.ended;
     }
 
 pub loop-self-smaller : goal.loop-self-smaller
@@ -37,13 +39,13 @@ returns-in-Err-clause-awaits g c =
     let now = g.S.Source.state c.take_text.new.input in
     let wants = c.wants_text.ensures.wants c.loop-self-test.true in
     awaits_more before here now c.args.self.now.reader c.wants_text.new.self c.take_text.new.self c.args.self.now.faults c.requires.whole
-    (awaits_same before here c.args.self.now.reader c.loop-self.self.reader c.wants_text.new.self c.args.self.now.faults c.requires.whole i.awaits (λ text. c.wants_text.ensures.outlook text) c.wants_text.ensures.pieces c.wants_text.ensures.goes)
+    (awaits_same before here c.args.self.now.reader c.loop-self.self.reader c.wants_text.new.self c.args.self.now.faults c.requires.whole i.awaits (λ text. c.wants_text.ensures.outlook text) c.wants_text.ensures.pieces c.wants_text.ensures.goes c.wants_text.ensures.whole)
     (spent_gives c.wants_text.new.self wants.0) c.take_text.ensures.takes
 
 pub returns-clause-awaits : goal.returns-clause-awaits
 returns-clause-awaits g c =
     awaits_same (g.S.Source.state c.args.self.now.text.now) (g.S.Source.state c.loop-self.self.text.now) c.args.self.now.reader c.loop-self.self.reader c.wants_text.new.self c.args.self.now.faults c.requires.whole c.loop-self.invariant.awaits
-    (λ text. c.wants_text.ensures.outlook text) c.wants_text.ensures.pieces c.wants_text.ensures.goes
+    (λ text. c.wants_text.ensures.outlook text) c.wants_text.ensures.pieces c.wants_text.ensures.goes c.wants_text.ensures.whole
 
 pub loop-self-init : goal.loop-self-init
 loop-self-init g c =
@@ -56,4 +58,6 @@ loop-self-init g c =
       stays = refl;
       given = refl;
       faults = refl;
+      came = refl;
+      ended = refl;
     }

@@ -11,6 +11,8 @@ invariant-loop-self g l = record {
   stays : (g.S.Source.state l.self.text.now).faults ≡ (g.S.Source.state l.fn.self.text.now).faults;
   given : l.self.given ≡ l.fn.self.given;
   faults : l.self.faults ≡ l.fn.self.faults;
+  came : l.self.came.bytes ≡ l.fn.self.came.bytes;
+  ended : l.self.ended ≡ l.fn.self.ended;
 }
 
 abbrev pub decreases-loop-self : goal.decreases-loop-self

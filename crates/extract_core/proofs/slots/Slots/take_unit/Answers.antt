@@ -1,5 +1,18 @@
-use Rattle.extract_core.proofs.Taking.{closed_answer, opened_answer, reads_on, reads_so_far, refused_head, same_as_is}
+use Rattle.extract_core.proofs.Taking.{closed_answer, goes_on, none_taken, opened_answer, reads_on, reads_so_far, refused_head, same_as_is}
+use Rattle.extract_core.proofs.Writing.{passed_on}
 use Rattle.extract_core.proofs.slots.Slots.take_unit.Goals as goal
+
+pub bytes-preserved : goal.bytes-preserved
+bytes-preserved g c =
+    goes_on c.args.self.now c.bytes.self c.take_bytes.new.self (g.F.Shelf.state c.args.shelf.now) (g.F.Shelf.state c.bytes.shelf) (g.F.Shelf.state c.take_bytes.new.shelf) c.args.name.now c.args.at c.args.want c.in-Bytes.end
+    c.bytes.invariant c.take_bytes.ensures.on c.in_ok-take_bytes-in-Bytes.ensures.more c.in-Bytes.ensures
+
+pub returns-in_err-take_bytes-in-Bytes-clause-fails :
+    goal.returns-in_err-take_bytes-in-Bytes-clause-fails
+returns-in_err-take_bytes-in-Bytes-clause-fails g c =
+    passed_on _ c.from_residual.result c.in_err-take_bytes-in-Bytes.field-0.0 c.from_residual.ensures.1
+    (none_taken c.args.self.now c.bytes.self c.take_bytes.new.self (g.F.Shelf.state c.args.shelf.now) (g.F.Shelf.state c.bytes.shelf) (g.F.Shelf.state c.take_bytes.new.shelf) c.args.name.now c.args.at c.args.want c.in-Bytes.end
+    c.in_err-take_bytes-in-Bytes.field-0.0 c.bytes.invariant c.in-Bytes.ensures c.take_bytes.ensures.on c.in_err-take_bytes-in-Bytes.ensures.none)
 
 pub returns-in-Refused-clause-fails : goal.returns-in-Refused-clause-fails
 returns-in-Refused-clause-fails g c =

@@ -17,7 +17,7 @@ loop-slot-preserved g c =
 pub returns-in_err-last-clause-fails : goal.returns-in_err-last-clause-fails
 returns-in_err-last-clause-fails g c =
     passed_on _ c.from_residual.result c.in_err-last.field-0.0 c.from_residual.ensures.1
-    (range_fails c.args.self.now c.loop-slot.self (record { at = c.args.at; count = c.args.count }) (g.F.Shelf.state c.args.shelf.now) (g.F.Shelf.state c.loop-slot.shelf) (g.F.Shelf.state c.take_slot.new.shelf) c.args.name.now (g.O.Sink.state c.args.output.now) (g.O.Sink.state c.loop-slot.output) c.loop-slot.slot c.loop-slot.written c.in_err-last.field-0.0 c.loop-slot.invariant c.in_err-last.ensures.fails (omega (arith, c.if-count-eq0.false))
+    (range_fails c.args.self.now c.loop-slot.self (record { at = c.args.at; count = c.args.count }) (g.F.Shelf.state c.args.shelf.now) (g.F.Shelf.state c.loop-slot.shelf) (g.F.Shelf.state c.take_slot.new.shelf) c.args.name.now (g.O.Sink.state c.args.output.now) (g.O.Sink.state c.loop-slot.output) c.loop-slot.slot c.loop-slot.written c.in_err-last.field-0.0 c.loop-slot.invariant c.take_slot.ensures.reads.grown c.in_err-last.ensures.fails (omega (arith, c.if-count-eq0.false))
     (omega (arith, c.slots_of-first.ensures.first)) (omega (arith, c.loop-slot-test.true, c.slots_of-first.ensures.behind, c.slots_of-first.ensures.first)))
 
 pub returns-in_err-last-clause-given : goal.returns-in_err-last-clause-given

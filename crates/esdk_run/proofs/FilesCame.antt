@@ -1,0 +1,128 @@
+-- What `extract` and `audit` made of the files that came.
+use Rattle.std.proofs.Common.{◌≡◌, ◌∙◌, ℕ, ◌+◌, ◌≤◌, List, ◌++◌, length, map, Bool, false, true, None, Some, inl, inr, refl, sym, ap, subst, arith}
+use Rattle.std.proofs.lemmas.List.{append_cancel_left}
+use Rattle.std.specs.Io.KnownBytes.{Appends}
+use Rattle.esdk_args.specs.declared.request.DecryptWords.{DecryptWords}
+use Rattle.esdk_args.specs.declared.request.EncryptWords.{EncryptWords}
+use Rattle.esdk_args.specs.declared.request.ExtractWords.{ExtractWords}
+use Rattle.esdk_fields.specs.Counts.{Stayed}
+use Rattle.esdk_base.specs.Streams.{ShelfState}
+use Rattle.context_codec.specs.Context.{KeyValue}
+use Rattle.keyring_trait.specs.Keyring.{KeyringMeaning}
+use Rattle.keyring_trait.specs.Wrapping.{WrapKeyValue}
+use Rattle.multi_keyring.specs.Tree.{all_faults}
+use Rattle.audit_core.specs.Lines.{audit_lines}
+use Rattle.audit_core.specs.Messages.{audited}
+use Rattle.audit_core.proofs.Came.{finds_what_came}
+use Rattle.esdk_encrypt.proofs.Gaining.{seals_what_came}
+use Rattle.esdk_encrypt.proofs.Telling.{encrypts_more}
+use Rattle.esdk_decrypt.specs.Decrypt.{Decrypts}
+use Rattle.esdk_decrypt.specs.Told.{Reader, asked_by}
+use Rattle.extract_core.specs.declared.errors.ExtractError.TheVariants as errors
+use Rattle.whole_input.specs.File.{most_file}
+use Rattle.whole_input.specs.FileReads.{Grows, IsSeenAs}
+use Rattle.whole_input.specs.Pieces.{most_piece}
+use Rattle.esdk_report.specs.Report.{Reports}
+use Rattle.esdk_report.specs.declared.failure.Failure.{Failure}
+use Rattle.esdk_report.specs.declared.failure.Failure.TheVariants as failures
+use Rattle.esdk_run.specs.ArmouredMessage.{form_of, output_gains}
+use Rattle.esdk_run.specs.Audit.{WritesAudit, audit_status}
+use Rattle.esdk_run.specs.Decrypt.{DecryptsInput, decrypt_asked, reader_of}
+use Rattle.esdk_run.specs.Encrypt.{EncryptsInput, encrypt_asked, refusal_asked, run_writer}
+use Rattle.esdk_run.specs.Extract.{ExtractFails, ExtractionFails, HasTreeFor, extract_asked, extract_reader}
+use Rattle.esdk_run.specs.Objects.{Objects, Unchanged}
+use Rattle.esdk_run.specs.Read.{ReadsWhole, SaysWhatIsReadAs}
+use Rattle.esdk_run.specs.Run.{AuditRuns, DecryptRuns, EncryptRuns, ExtractRuns, TellsOrLacksMemory}
+use Rattle.esdk_run.specs.Trees.{TreeIs, Trees}
+use Rattle.esdk_run.specs.UnarmouredDecrypt.{DecryptsAs}
+use Rattle.esdk_run.specs.FilesCame.{AuditedWhatCame, AuditsIfDone, ExtractsIfDone, NamesIfFault, ReadsOfWhatCame, ShowsWhatCame}
+use Rattle.esdk_run.proofs.WhatCame.{tree_came}
+use Rattle.esdk_run.proofs.Auditing.{told_many}
+use Rattle.esdk_run.proofs.Decryption.{reader_ends}
+use Rattle.esdk_run.proofs.Extraction.{Ended, fault_named, range_gained, reader_ended}
+use Rattle.esdk_run.proofs.Keys.{told_says_more}
+use Rattle.esdk_run.proofs.Reading.{Ending, says_what_is_read}
+use Rattle.esdk_run.proofs.Statuses.{fault_status, not_done, not_seven}
+
+-- ---- `extract`
+
+of_what_came : (So : Reader → List ℕ → Type 0) (trees : Trees) (asked : ExtractWords) (before after : Objects) (unwritten : Type 0) (code : ℕ) (t : HasTreeFor trees asked before after) → Grows t.middle.calls after.shelf.calls
+    → Ended (extract_asked asked t.given t.tree t.left) asked t.middle before after unwritten code
+    → ((reader : Reader) (bytes : List ℕ) → IsSeenAs t.middle after.shelf asked.from bytes → t.middle.given ≤ before.shelf.given + most_file + most_piece → Ended (asked_by reader) asked t.middle before after unwritten code → So reader bytes)
+    → ReadsOfWhatCame trees asked before after So
+of_what_came So trees asked before after unwritten code t grown ended so = record {
+  given = t.given;
+  pairs = t.has.given.made;
+  tree = t.tree;
+  left = t.left;
+  steady = t.has.goes.still;
+  middle = t.middle;
+  keyring = tree_came trees asked.keyring before.shelf t.middle t.tree t.has.file;
+  grown = grown;
+  so = λ keys bytes told stayed read.
+      so (extract_reader asked t.given keys) bytes (inr read) (omega (arith, t.has.file.file.most, t.has.file.file.few))
+      (reader_ended asked t.middle before after unwritten code t.given t.given t.tree t.left keys refl told stayed ended);
+}
+
+pub extracts_if_done : (trees : Trees) (asked : ExtractWords) (before after : Objects) (unchanged : Unchanged) (code : ℕ)
+    → ExtractRuns trees asked before after unchanged code → ExtractsIfDone trees asked before after code
+extracts_if_done trees asked before after unchanged code (inl done) zero =
+    let t = done.1.tree_for in
+    of_what_came _ trees asked before after unchanged.output code t done.1.grown (inl (done.0, (done.1.written, done.1.done)))
+    (λ reader bytes seen few ended. range_gained reader asked t.middle before after unchanged.output code bytes seen few zero ended)
+extracts_if_done trees asked before after unchanged code (inr fails) zero =
+    absurd (not_done fails.failure code before.report after.report fails.said zero)
+
+pub names_if_fault : (trees : Trees) (asked : ExtractWords) (before after : Objects) (unchanged : Unchanged) (code : ℕ)
+    → ExtractRuns trees asked before after unchanged code → NamesIfFault trees asked before after code
+names_if_fault trees asked before after unchanged code (inl done) one = absurd (omega (arith, done.0.status, one))
+names_if_fault trees asked before after unchanged code (inr fails) one =
+    let named = fault_status fails.failure code before.report after.report fails.said one in
+    let why : ExtractionFails trees asked before after unchanged.output (errors.Fault named.fault) = subst (ExtractFails trees asked before after unchanged) named.is fails.because in
+    let said : Reports (failures.Fault named.fault) code before.report after.report = subst (λ (f : Failure). Reports f code before.report after.report) named.is fails.said in
+    let t = why.tree_for in
+    of_what_came _ trees asked before after unchanged.output code t why.grown (inr (errors.Fault named.fault, (why.ended, said)))
+    (λ reader bytes seen few ended. fault_named reader asked t.middle before after unchanged.output code bytes seen few one ended)
+
+-- ---- `audit`
+
+audited_files : (trees : Trees) (name : List ℕ) (before after : Objects) (code : ℕ) → WritesAudit trees name before.shelf after.shelf before.output after.output code
+    → AuditedWhatCame trees name before after code
+audited_files trees name before after code done =
+    let all = done.all in
+    let audits = all.audits in
+    let has = audits.has in
+    record {
+      bytes = has.audit.read.bytes;
+      file = all.file;
+      between = has.between;
+      read = has.audit.read.file.read;
+      is = has.audit.read.is;
+      tree = audits.tree;
+      left = all.left;
+      steady = audits.goes.still;
+      middle = all.read;
+      keyring = record { file = has.keyring.bytes; read = has.keyring.file.read; is = has.keyring.is };
+      meanings = all.leaves;
+      leaves_are = has.keyring.leaves_are;
+      shown = λ leaves tells stayed.
+          let still : Stayed (all_faults all.leaves) (all_faults all.leaves_left) = omega (arith, stayed, has.faults, all.faults_left) in
+          let found = finds_what_came all.read after.shelf all.leaves all.leaves_left all.file.messages done.found leaves all.each tells still in
+          let count : done.count ≡ length leaves = all.count_is ∙ sym (told_many all.leaves leaves tells) in
+          let lines : audit_lines done.count done.found ≡ audit_lines (length leaves) (map (audited leaves) found.came) =
+          ap (λ (n : ℕ). audit_lines n done.found) count ∙ ap (audit_lines (length leaves)) found.are in
+          record {
+            messages = found.came;
+            came = found.have;
+            shows = record {
+              gained = subst (λ (t : List ℕ). Appends before.output.written after.output.written t) lines done.writes.gained;
+              status = done.writes.status ∙ ap audit_status found.are;
+            };
+          };
+    }
+
+pub audits_if_done : (trees : Trees) (name : List ℕ) (before after : Objects) (unchanged : Unchanged) (code : ℕ) → AuditRuns trees name before after unchanged code
+    → AuditsIfDone trees name before after code
+audits_if_done trees name before after unchanged code (inl done) ended = audited_files trees name before after code done.0
+audits_if_done trees name before after unchanged code (inr fails) (inl zero) = absurd (not_done fails.failure code before.report after.report fails.said zero)
+audits_if_done trees name before after unchanged code (inr fails) (inr seven) = absurd (not_seven fails.failure code before.report after.report fails.said seven)

@@ -1,0 +1,92 @@
+-- What `extract` and `audit` made of the files that came, once they are done. The shelf's calls
+-- tell what its reads gave, so that this is said of real files as of those in memory: a file that
+-- is changed while it is read is what was read.
+use Rattle.std.specs.Prelude.{◌≡◌, ◌⊎◌, ℕ, List, Some, Ok, true}
+use Rattle.esdk_args.specs.declared.request.ExtractWords.{ExtractWords}
+use Rattle.esdk_fields.specs.Counts.{Stayed}
+use Rattle.esdk_base.specs.Streams.{ShelfState}
+use Rattle.context_codec.specs.Context.{KeyValue}
+use Rattle.keyring_trait.specs.Keyring.{KeyringMeaning}
+use Rattle.keyring_trait.specs.Wrapping.{WrapKeyValue}
+use Rattle.job_file.specs.AuditFile.{AuditFile}
+use Rattle.job_file.specs.Audit.{audit_of}
+use Rattle.whole_input.specs.FileReads.{Grows, IsReadAs, ReadsWhole}
+use Rattle.audit_core.specs.Laws.{told_by}
+use Rattle.audit_core.specs.MessageFiles.{HaveCome}
+use Rattle.audit_core.specs.Messages.{Message}
+use Rattle.esdk_decrypt.specs.Told.{Reader}
+use Rattle.esdk_run.specs.AuditTold.{ShowsOpeners}
+use Rattle.esdk_run.specs.Extract.{extract_reader}
+use Rattle.esdk_run.specs.ExtractTold.{GainsRange, NamesExtractFault}
+use Rattle.esdk_run.specs.Objects.{Objects}
+use Rattle.esdk_run.specs.Pairs.{context_in}
+use Rattle.esdk_run.specs.Trees.{Trees}
+use Rattle.esdk_run.specs.WhatCame.{TreeCame}
+
+-- ---- `extract`
+
+-- The keyring file was read as this tree, and behind it the calls of the shelf were only added to.
+-- Of any bytes that agree with what each read of the message's file gave, this is so for who has
+-- the keys of the tree, where it tells them and none of its keyrings failed (none of a steady tree
+-- fails).
+pub record ReadsOfWhatCame (trees : Trees) (asked : ExtractWords) (before after : Objects)
+    (So : Reader → List ℕ → Type 0) : Type 0 where
+  pub given : List KeyValue
+  pub pairs : context_in asked.pairs ≡ Ok given
+  pub tree : KeyringMeaning
+  pub left : KeyringMeaning
+  pub steady : tree.steady ≡ true → Stayed tree.faults left.faults
+  pub middle : ShelfState
+  pub keyring : TreeCame trees asked.keyring before.shelf middle tree
+  pub grown : Grows middle.calls after.shelf.calls
+  pub so : (keys : List WrapKeyValue) (bytes : List ℕ) → tree.keys ≡ Some keys
+      → Stayed tree.faults left.faults
+      → IsReadAs middle.calls after.shelf.calls asked.from bytes
+      → So (extract_reader asked given keys) bytes
+
+-- `extract` that is done wrote what is extracted of what came.
+abbrev pub ExtractsIfDone : Trees → ExtractWords → Objects → Objects → ℕ → Type 0
+ExtractsIfDone trees asked before after code = code ≡ 0 → ReadsOfWhatCame trees asked before after
+    (λ reader bytes. GainsRange reader asked bytes before after)
+
+-- `extract` that ends with a fault, at status 1, names the one of what came, and wrote what is
+-- extracted before it.
+abbrev pub NamesIfFault : Trees → ExtractWords → Objects → Objects → ℕ → Type 0
+NamesIfFault trees asked before after code = code ≡ 1 → ReadsOfWhatCame trees asked before after
+    (λ reader bytes. NamesExtractFault reader asked bytes before after)
+
+-- ---- `audit`
+
+-- From this moment on the calls of the shelf read the files of these messages, and nothing else.
+-- The output gained the lines of what the bytes say that came, and the status says whether each
+-- message has an opener.
+pub record ShowsWhatCame (file : AuditFile) (leaves : List (List WrapKeyValue))
+    (middle : ShelfState) (before after : Objects) (code : ℕ) : Type 0 where
+  pub messages : List Message
+  pub came : HaveCome middle.calls after.shelf.calls file.messages messages
+  pub shows : ShowsOpeners leaves messages before after code
+
+-- The calls of the shelf read the file of the audit, then the keyring file that it names, and then
+-- the files of its messages. The lines are those of what came, where the leaves tell their wrapping
+-- keys and none of them failed (none of a steady tree fails).
+pub record AuditedWhatCame (trees : Trees) (name : List ℕ) (before after : Objects) (code : ℕ)
+    : Type 0 where
+  pub bytes : List ℕ
+  pub file : AuditFile
+  pub between : ShelfState
+  pub read : ReadsWhole name before.shelf.calls between.calls bytes
+  pub is : audit_of bytes ≡ Ok file
+  pub tree : KeyringMeaning
+  pub left : KeyringMeaning
+  pub steady : tree.steady ≡ true → Stayed tree.faults left.faults
+  pub middle : ShelfState
+  pub keyring : TreeCame trees file.keyring between middle tree
+  pub meanings : List KeyringMeaning
+  pub leaves_are : trees.leaves keyring.file ≡ Ok meanings
+  pub shown : (leaves : List (List WrapKeyValue)) → told_by meanings ≡ Some leaves
+      → Stayed tree.faults left.faults → ShowsWhatCame file leaves middle before after code
+
+-- `audit` that is done, at status 0 or 7, said what came.
+abbrev pub AuditsIfDone : Trees → (name : List ℕ) → Objects → Objects → ℕ → Type 0
+AuditsIfDone trees name before after code =
+    (code ≡ 0) ⊎ (code ≡ 7) → AuditedWhatCame trees name before after code
