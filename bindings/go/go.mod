@@ -1,0 +1,3 @@
+module esdk.invalid/esdk
+
+go 1.19

@@ -1,0 +1,146 @@
+"""Seals and opens messages of the AWS Encryption SDK's format, by the proved library libesdk.
+
+    ring = esdk.Keyring.from_file("backups.key")
+    message, _ = esdk.encrypt(source=b"hello", keyring=ring, encryption_context={"set": "photos"})
+    text, header = esdk.decrypt(source=message, keyring=ring)
+    header.encryption_context
+
+    with open("a", "rb") as source, open("a.esdk", "wb") as sink:
+        with esdk.stream(mode="e", source=source, keyring=ring) as message:
+            for piece in message:
+                sink.write(piece)
+
+What a stream of a text gave counts only once its end was reached without an exception. Of a context, compare what a
+header says with what you expect: a message of another context under the same key opens as well. The words of the
+functions are those of the AWS Encryption SDK for Python, where that has them. What the library refuses is an
+EsdkError, with `code` and `line`.
+"""
+
+from __future__ import annotations
+
+import base64
+import json
+import os
+import pathlib
+from collections.abc import Iterable, Mapping
+from typing import Any, Optional, Union
+
+from ._library import NOTHING as _NOWHERE
+from ._session import ANY_LENGTH, Session
+from ._stream import Header, Pieces, Stream
+from .errors import (
+    CallError,
+    EsdkError,
+    KeyringError,
+    MemoryRanOut,
+    MessageError,
+    NotFinished,
+    OutsideError,
+    RequestError,
+)
+
+__all__ = [
+    "CallError",
+    "EsdkError",
+    "Header",
+    "Keyring",
+    "KeyringError",
+    "MemoryRanOut",
+    "MessageError",
+    "NotFinished",
+    "OutsideError",
+    "RequestError",
+    "Stream",
+    "decrypt",
+    "encrypt",
+    "stream",
+]
+
+
+class Keyring:
+    """The bytes of a keyring file, which was found right: a key line, or JSON."""
+
+    def __init__(self, file: Any) -> None:
+        """Raises KeyringError where the file is refused."""
+        self._file = bytes(file)
+        Session(self._file).close()
+
+    @classmethod
+    def from_file(cls, path: Union[str, os.PathLike[str]]) -> Keyring:
+        return cls(pathlib.Path(path).read_bytes())
+
+    @classmethod
+    def raw_aes(cls, *, key_namespace: str, key_name: str, wrapping_key: bytes) -> Keyring:
+        """A keyring of one key of 32 bytes."""
+        key = base64.b64encode(wrapping_key).decode()
+        node = {"raw": {"namespace": key_namespace, "name": key_name, "key": key}}
+        return cls(json.dumps({"version": 1, "ring": node}, separators=(",", ":")).encode())
+
+    def __repr__(self) -> str:
+        return "<esdk.Keyring>"
+
+
+def stream(
+    *,
+    mode: str,
+    source: Any,
+    keyring: Keyring,
+    encryption_context: Optional[Mapping[str, str]] = None,
+    required_encryption_context_keys: Iterable[str] = (),
+    frame_length: int = 4096,
+    source_length: Optional[int] = None,
+    max_encrypted_data_keys: Optional[int] = None,
+    max_body_length: Optional[int] = None,
+    allow_uncommitted: bool = False,
+) -> Stream:
+    """A file object: in mode "e" of the message of the source, in mode "d" of the text of that message.
+
+    `source` is bytes-like, and isn't to be changed meanwhile, or a file object. In mode "e": `frame_length` is 1 to
+    4,294,967,295, and with `source_length` no longer text is taken. In mode "d": `max_body_length` is the most bytes
+    of a frame or a single block, and `allow_uncommitted` opens messages of format 1.0, too. A key that is required
+    isn't stored in a message that is sealed; whoever opens it gives its pair. Messages of strangers want both limits.
+    """
+    if mode not in ("e", "encrypt", "d", "decrypt"):
+        raise ValueError(f'the mode is "e" or "d", and not {mode!r}')
+    opens = mode.startswith("d")
+    context = dict(encryption_context or {})
+    session = Session(keyring._file)
+    try:
+        session.context(context, required_encryption_context_keys)
+        max_keys = _limit("max_encrypted_data_keys", max_encrypted_data_keys, 65535)
+        if opens:
+            session.open(max_keys, _limit("max_body_length", max_body_length, 2**64 - 1), bool(allow_uncommitted))
+        else:
+            frame = _number("frame_length", frame_length, 1, 2**32 - 1)
+            length = ANY_LENGTH if source_length is None else _number("source_length", source_length, 0, ANY_LENGTH - 1)
+            session.seal(frame, length, max_keys)
+            # What the message begins with waits, and a call that takes nothing says so.
+            session.take(_NOWHERE, 0)
+        return Stream(session, Pieces(source), opens, context)
+    except BaseException:
+        session.close()
+        raise
+
+
+def encrypt(*, source: Any, keyring: Keyring, **words: Any) -> tuple[bytes, Header]:
+    """The message of a text, and its header. The words are those of `stream`."""
+    with stream(mode="e", source=source, keyring=keyring, **words) as message:
+        return message.read(), message.header
+
+
+def decrypt(*, source: Any, keyring: Keyring, **words: Any) -> tuple[bytes, Header]:
+    """The whole text of a message, and its header, or an exception. The words are those of `stream`."""
+    with stream(mode="d", source=source, keyring=keyring, **words) as text:
+        return text.read(), text.header
+
+
+def _number(name: str, value: int, least: int, most: int) -> int:
+    """ctypes would cut a number that is too large."""
+    if not isinstance(value, int) or not least <= value <= most:
+        raise ValueError(f"{name} is a number from {least} to {most}, and not {value!r}")
+    return value
+
+
+def _limit(name: str, value: Optional[int], most: int) -> int:
+    """0 is no limit to the library."""
+    return 0 if value is None else _number(name, value, 1, most)

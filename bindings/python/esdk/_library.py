@@ -1,0 +1,117 @@
+"""libesdk.so.1, by ctypes: its functions with their types, and how memory of Python is lent to it.
+
+ctypes lets go of the interpreter's lock while a function of the library runs.
+"""
+
+from __future__ import annotations
+
+import ctypes
+import os
+import pathlib
+from ctypes import POINTER, byref, c_bool, c_int, c_int32, c_size_t, c_ssize_t, c_uint16, c_uint32, c_uint64, c_void_p
+from typing import Any
+
+ABI = 1
+NAME = "libesdk.so.1"
+
+
+class Handle(ctypes.Structure):
+    """What esdk.h calls esdk_handle. Only the library reads or writes the fields; it is never copied."""
+
+    _fields_ = [("state", c_void_p), ("live", c_bool)]
+
+
+_HANDLE = POINTER(Handle)
+_BYTES = [c_void_p, c_size_t]
+_COUNTS = [POINTER(c_size_t), POINTER(c_size_t)]
+_FUNCTIONS: dict[str, tuple[Any, list[Any]]] = {
+    "esdk_abi": (c_uint32, []),
+    "esdk_check": (c_int32, []),
+    "esdk_new": (c_int32, [_HANDLE, *_BYTES]),
+    "esdk_close": (None, [_HANDLE]),
+    "esdk_pair": (c_int32, [_HANDLE, *_BYTES, *_BYTES]),
+    "esdk_require": (c_int32, [_HANDLE, *_BYTES]),
+    "esdk_seal": (c_int32, [_HANDLE, c_uint32, c_uint64, c_uint16]),
+    "esdk_open": (c_int32, [_HANDLE, c_uint16, c_uint64, c_bool]),
+    "esdk_feed": (c_int32, [_HANDLE, *_BYTES, *_BYTES, *_COUNTS]),
+    "esdk_finish": (c_int32, [_HANDLE, *_BYTES, *_COUNTS]),
+    "esdk_take": (c_int32, [_HANDLE, *_BYTES, *_COUNTS]),
+    "esdk_error": (c_size_t, [_HANDLE, *_BYTES]),
+    "esdk_pairs": (c_int32, [_HANDLE]),
+    "esdk_pair_key": (c_int32, [_HANDLE, c_size_t, *_BYTES]),
+    "esdk_pair_value": (c_int32, [_HANDLE, c_size_t, *_BYTES]),
+}
+
+
+def place() -> str:
+    """Where the library is: what ESDK_LIBRARY names (a file, or its folder), beside this file, or where the loader looks."""
+    named = os.environ.get("ESDK_LIBRARY")
+    if named:
+        folder = pathlib.Path(named)
+        return str(folder / NAME if folder.is_dir() else folder)
+    beside = pathlib.Path(__file__).with_name(NAME)
+    return str(beside) if beside.exists() else NAME
+
+
+def load() -> ctypes.CDLL:
+    """The library, once it is known to fit. The ABI is looked at before any other function is called."""
+    try:
+        library = ctypes.CDLL(place())
+        for name, (result, words) in _FUNCTIONS.items():
+            function = getattr(library, name)
+            function.restype, function.argtypes = result, words
+    except (OSError, AttributeError) as error:
+        raise ImportError(f"no fitting {NAME}: {error}") from error
+    if library.esdk_abi() != ABI:
+        raise ImportError(f"{library._name} has the ABI {library.esdk_abi()}, and {ABI} is wanted")
+    if library.esdk_check() != 0:
+        raise ImportError(f"{library._name} doesn't run on this processor: code {library.esdk_check()}")
+    return library
+
+
+class _Buffer(ctypes.Structure):
+    """Python's Py_buffer."""
+
+    _fields_ = [
+        ("buf", c_void_p),
+        ("obj", c_void_p),
+        ("len", c_ssize_t),
+        ("itemsize", c_ssize_t),
+        ("readonly", c_int),
+        ("ndim", c_int),
+        ("format", c_void_p),
+        ("shape", c_void_p),
+        ("strides", c_void_p),
+        ("suboffsets", c_void_p),
+        ("internal", c_void_p),
+    ]
+
+
+_get = ctypes.pythonapi.PyObject_GetBuffer
+_get.restype, _get.argtypes = c_int, [ctypes.py_object, POINTER(_Buffer), c_int]
+_release = ctypes.pythonapi.PyBuffer_Release
+_release.restype, _release.argtypes = None, [POINTER(_Buffer)]
+_SIMPLE, _WRITABLE = 0, 1
+
+# For an empty piece, whose address may be NULL.
+_nothing = ctypes.create_string_buffer(1)
+NOTHING = ctypes.addressof(_nothing)
+
+
+class Lent:
+    """The memory of a bytes-like object, in its place and without a copy, as long as the `with` lasts.
+
+    Nothing can free or move it as long as that lasts.
+    """
+
+    def __init__(self, data: Any, writable: bool = False) -> None:
+        self._buffer = _Buffer()
+        self._data = data
+        self._flags = _WRITABLE if writable else _SIMPLE
+
+    def __enter__(self) -> tuple[int, int]:
+        _get(self._data, byref(self._buffer), self._flags)
+        return self._buffer.buf or NOTHING, self._buffer.len
+
+    def __exit__(self, *_: object) -> None:
+        _release(byref(self._buffer))

@@ -1,0 +1,217 @@
+"""A message that is sealed or opened as it is read."""
+
+from __future__ import annotations
+
+import io
+import threading
+from collections.abc import Iterator
+from dataclasses import dataclass
+from typing import Any, Optional
+
+from ._library import Lent
+from ._session import Session
+from .errors import EsdkError, NotFinished
+
+PIECE = 1 << 16
+
+
+@dataclass(frozen=True)
+class Header:
+    """What a message's header says. Of one that is opened, compare the context with what you expect."""
+
+    encryption_context: dict[str, str]
+
+
+class Pieces:
+    """Pieces of a file object, or of bytes in memory, which aren't copied."""
+
+    def __init__(self, source: Any) -> None:
+        self._read = getattr(source, "read", None)
+        self._all: Optional[memoryview] = None
+        if self._read is None:
+            if isinstance(source, str):
+                raise TypeError("a source is bytes-like or a file object, and this is a str: encode it")
+            self._all = memoryview(source).cast("B")
+
+    def forget(self) -> None:
+        """Lets go of the source: a bytearray may change its length again."""
+        self._all, self._read = None, None
+
+    def next(self) -> Any:
+        """The next piece; an empty one at the end alone."""
+        if self._all is not None:
+            piece, self._all = self._all[:PIECE], self._all[PIECE:]
+            return piece
+        assert self._read is not None
+        piece = self._read(PIECE)
+        if piece is None:
+            raise BlockingIOError("the source has no bytes now, and isn't at its end")
+        return piece
+
+
+class Stream(io.RawIOBase):
+    """A file object to read a message from that is sealed, or a text from that is opened.
+
+    **What is read of a text counts only once the end was reached**: once `read` gave b"", or the loop over the stream
+    ended, with no exception. Each part of the text was found right before it is handed out; that it is whole, only
+    the end says. A `with` that is left before that, and by no exception, raises NotFinished; `close` doesn't.
+
+    Where the message has a fault, the text of the frames before it is handed out, and then MessageError is raised, by
+    each later call as well. `read()` of everything gives all or raises. What the source raises ends the stream, too,
+    but for BlockingIOError, behind which one may go on.
+
+    One thread uses it at a time, and another one gets a RuntimeError. The source isn't closed.
+    """
+
+    def __init__(self, session: Session, pieces: Pieces, opens: bool, context: dict[str, str]) -> None:
+        super().__init__()
+        self._in_use = threading.Lock()
+        self._session = session
+        self._opens = opens
+        self._context = context
+        self._said_end = False
+        self._at_end = False
+        self._fault: Optional[BaseException] = None
+        self._pieces = pieces
+
+    def readable(self) -> bool:
+        return True
+
+    def readinto(self, room: Any) -> int:
+        """Fills the room, and less of it only at the end or before a fault. 0 says that the end was reached."""
+        with self._used(), Lent(room, writable=True) as (address, size):
+            if size == 0:
+                return 0
+            try:
+                count = self._fill(address, size)
+            except BlockingIOError:
+                raise
+            except BaseException as fault:
+                # Bytes may be lost between two calls here: so there is no way to the end any more.
+                self._fault = fault
+                raise
+            self._at_end = count == 0
+            return count
+
+    def _fill(self, address: int, size: int) -> int:
+        count = 0
+        while count < size:
+            if self._session.waits:
+                count += self._session.take(address + count, size - count)
+                continue
+            try:
+                if not self._goes_on():
+                    break
+            except BlockingIOError:
+                if count == 0:
+                    raise
+                break
+        if count == 0 and self._fault is not None:
+            raise self._fault
+        return count
+
+    def readall(self) -> bytes:
+        """All that follows, or the exception."""
+        return b"".join(self)
+
+    def read(self, size: Optional[int] = -1) -> bytes:
+        """So many bytes, or fewer at the end or before a fault; all of them where no size is given."""
+        if self.closed:
+            raise ValueError("the stream is closed")
+        if size is None or size < 0:
+            return self.readall()
+        room = bytearray(min(size, PIECE))
+        parts: list[bytes] = []
+        while size > 0:
+            try:
+                count = self.readinto(memoryview(room)[: min(size, PIECE)])
+            except (EsdkError, BlockingIOError):
+                # The next call raises it.
+                if parts:
+                    break
+                raise
+            if count == 0:
+                break
+            parts.append(bytes(memoryview(room)[:count]))
+            size -= count
+            if count < len(room):
+                break
+        return b"".join(parts)
+
+    def __iter__(self) -> Iterator[bytes]:
+        return self
+
+    def __next__(self) -> bytes:
+        """A piece of at most 65,536 bytes, and not a line: io.BufferedReader over a stream gives lines."""
+        piece = self.read(PIECE)
+        if not piece:
+            raise StopIteration
+        return piece
+
+    @property
+    def header(self) -> Header:
+        """What the header says. Of a message that is opened, it is read as far as that wants; no text counts by it."""
+        if not self._opens:
+            return Header(dict(self._context))
+        with self._used():
+            context = self._session.whole_context()
+            while context is None and self._goes_on():
+                context = self._session.whole_context()
+            if context is None:
+                assert self._fault is not None
+                raise self._fault
+            return Header(context)
+
+    def _used(self) -> _Use:
+        if self.closed:
+            raise ValueError("the stream is closed")
+        return _Use(self._in_use)
+
+    def _goes_on(self) -> bool:
+        """One call of the library, with the next piece or with the end. False where nothing is left to be called."""
+        if self._said_end or self._fault is not None:
+            return False
+        piece = self._pieces.next()
+        try:
+            with Lent(piece) as (address, count):
+                if count:
+                    self._session.feed(address, count)
+                else:
+                    self._said_end = True
+                    self._session.finish()
+        except EsdkError as fault:
+            self._fault = fault
+        return True
+
+    def close(self) -> None:
+        """Frees what the library holds, keys among it. It says nothing of what was read."""
+        if not self.closed:
+            with _Use(self._in_use):
+                self._session.close()
+                self._pieces.forget()
+                super().close()
+
+    def __enter__(self) -> Stream:
+        if self.closed:
+            raise ValueError("the stream is closed")
+        return self
+
+    def __exit__(self, kind: Any, *_: object) -> None:
+        left_early = not (self.closed or self._at_end)
+        self.close()
+        if left_early and kind is None:
+            raise NotFinished("the end of the stream wasn't reached: what was read of it counts for nothing")
+
+
+class _Use:
+    """Keeps a second thread out, which would be inside the library with the same handle."""
+
+    def __init__(self, lock: threading.Lock) -> None:
+        self._lock = lock
+
+    def __enter__(self) -> None:
+        if not self._lock.acquire(blocking=False):
+            raise RuntimeError("the stream is in another call")
+
+    def __exit__(self, *_: object) -> None:
+        self._lock.release()

@@ -1,0 +1,216 @@
+//! Seals and opens messages of the AWS Encryption SDK's format, by the proved library libesdk.
+//!
+//! ```no_run
+//! use esdk::{Keyring, Opening, Sealing};
+//!
+//! let ring = Keyring::from_file("backups.key")?;
+//! let message = Sealing::new().pair("set", "photos").all(&ring, b"hello")?;
+//! let (text, context) = Opening::new().all(&ring, &message)?;
+//! assert!(text == b"hello" && context["set"] == "photos");
+//! # Ok::<(), std::io::Error>(())
+//! ```
+//!
+//! `reader` and `writer` are for what is longer than memory. Of a context, compare what comes back with what you expect:
+//! a message of another context under the same key opens as well. What stands in this crate isn't proved.
+
+mod error;
+mod raw;
+mod session;
+mod streams;
+
+pub use error::{Error, Kind};
+pub use streams::{Reader, Writer};
+
+use session::Session;
+use std::collections::BTreeMap;
+use std::fmt;
+use std::io::{self, Read, Write};
+use std::path::Path;
+
+/// Pairs of keys and values.
+pub type Context = BTreeMap<String, String>;
+
+/// The bytes of a keyring file, which was found right: a key line, or JSON.
+#[derive(Clone)]
+pub struct Keyring(Vec<u8>);
+
+impl Keyring {
+    pub fn new(file: Vec<u8>) -> Result<Keyring, Error> {
+        Session::new(&file)?;
+        Ok(Keyring(file))
+    }
+
+    pub fn from_file(path: impl AsRef<Path>) -> io::Result<Keyring> {
+        Ok(Keyring::new(std::fs::read(path)?)?)
+    }
+}
+
+impl fmt::Debug for Keyring {
+    /// It shows no key.
+    fn fmt(&self, f: &mut fmt::Formatter<'_>) -> fmt::Result {
+        f.write_str("Keyring")
+    }
+}
+
+/// Pairs, in the order in which they were given, and required keys.
+#[derive(Clone, Debug, Default)]
+struct Request {
+    pairs: Vec<(String, String)>,
+    required: Vec<String>,
+}
+
+impl Request {
+    fn session(&self, ring: &Keyring) -> Result<Session, Error> {
+        let mut session = Session::new(&ring.0)?;
+        for (key, value) in &self.pairs {
+            session.pair(key, value)?;
+        }
+        for key in &self.required {
+            session.require(key)?;
+        }
+        Ok(session)
+    }
+}
+
+/// How a message is sealed: in frames of 4,096 bytes unless it is said otherwise.
+#[derive(Clone, Debug)]
+pub struct Sealing {
+    request: Request,
+    frame_length: u32,
+    length: u64,
+    max_keys: u16,
+}
+
+impl Default for Sealing {
+    fn default() -> Sealing {
+        Sealing { request: Request::default(), frame_length: 4_096, length: raw::ANY_LENGTH, max_keys: 0 }
+    }
+}
+
+impl Sealing {
+    pub fn new() -> Sealing {
+        Sealing::default()
+    }
+
+    /// A pair of the encryption context, which the header stores for anyone to read.
+    pub fn pair(mut self, key: &str, value: &str) -> Sealing {
+        self.request.pairs.push((key.into(), value.into()));
+        self
+    }
+
+    /// The pair of this key isn't stored: whoever opens the message has to give it.
+    pub fn require(mut self, key: &str) -> Sealing {
+        self.request.required.push(key.into());
+        self
+    }
+
+    /// The bytes of a frame; 0 is refused.
+    pub fn frame_length(mut self, bytes: u32) -> Sealing {
+        self.frame_length = bytes;
+        self
+    }
+
+    /// No longer text is taken.
+    pub fn length(mut self, most: u64) -> Sealing {
+        self.length = most;
+        self
+    }
+
+    /// No more encrypted data keys are written; 0 is no limit.
+    pub fn max_keys(mut self, most: u16) -> Sealing {
+        self.max_keys = most;
+        self
+    }
+
+    fn session(&self, ring: &Keyring) -> Result<Session, Error> {
+        let mut session = self.request.session(ring)?;
+        session.seal(self.frame_length, self.length, self.max_keys)?;
+        Ok(session)
+    }
+
+    /// Reads the message of a text.
+    pub fn reader<R: Read>(&self, ring: &Keyring, text: R) -> Result<Reader<R>, Error> {
+        Ok(Reader::new(self.session(ring)?, text))
+    }
+
+    /// Writes the message of what is written to it.
+    pub fn writer<W: Write>(&self, ring: &Keyring, message: W) -> Result<Writer<W>, Error> {
+        Ok(Writer::new(self.session(ring)?, message))
+    }
+
+    /// The message of a text.
+    pub fn all(&self, ring: &Keyring, text: &[u8]) -> io::Result<Vec<u8>> {
+        let mut message = Vec::new();
+        self.reader(ring, text)?.read_to_end(&mut message)?;
+        Ok(message)
+    }
+}
+
+/// How a message is opened: without limits, and of format 2.0 alone, unless it is said otherwise.
+#[derive(Clone, Debug, Default)]
+pub struct Opening {
+    request: Request,
+    max_keys: u16,
+    max_unit: u64,
+    uncommitted: bool,
+}
+
+impl Opening {
+    pub fn new() -> Opening {
+        Opening::default()
+    }
+
+    /// A pair that is given: where the message stores it, its value has to be this.
+    pub fn pair(mut self, key: &str, value: &str) -> Opening {
+        self.request.pairs.push((key.into(), value.into()));
+        self
+    }
+
+    /// This key has to be among the pairs that are given.
+    pub fn require(mut self, key: &str) -> Opening {
+        self.request.required.push(key.into());
+        self
+    }
+
+    /// The most encrypted data keys that the message may have; 0 is no limit.
+    pub fn max_keys(mut self, most: u16) -> Opening {
+        self.max_keys = most;
+        self
+    }
+
+    /// The most bytes of a frame or a single block, for which memory is taken; 0 is no limit.
+    pub fn max_unit(mut self, most: u64) -> Opening {
+        self.max_unit = most;
+        self
+    }
+
+    /// Opens messages of format 1.0, too, which don't commit to their data key.
+    pub fn allow_uncommitted(mut self) -> Opening {
+        self.uncommitted = true;
+        self
+    }
+
+    fn session(&self, ring: &Keyring) -> Result<Session, Error> {
+        let mut session = self.request.session(ring)?;
+        session.open(self.max_keys, self.max_unit, self.uncommitted)?;
+        Ok(session)
+    }
+
+    /// Reads the text of a message. It counts once `read` gave 0.
+    pub fn reader<R: Read>(&self, ring: &Keyring, message: R) -> Result<Reader<R>, Error> {
+        Ok(Reader::new(self.session(ring)?, message))
+    }
+
+    /// Writes the text of the message that is written to it. It counts once `finish` gave Ok.
+    pub fn writer<W: Write>(&self, ring: &Keyring, text: W) -> Result<Writer<W>, Error> {
+        Ok(Writer::new(self.session(ring)?, text))
+    }
+
+    /// The whole text of a message, and its whole context.
+    pub fn all(&self, ring: &Keyring, message: &[u8]) -> io::Result<(Vec<u8>, Context)> {
+        let mut text = Vec::new();
+        let mut reader = self.reader(ring, message)?;
+        reader.read_to_end(&mut text)?;
+        Ok((text, reader.context().unwrap_or_default()))
+    }
+}

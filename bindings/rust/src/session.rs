@@ -1,0 +1,147 @@
+//! One handle of the library.
+//!
+//! Each call in `unsafe` meets what esdk.h asks of a caller: the handle was all zero, and only the library wrote it since;
+//! it is moved, and never copied, and `&mut self` keeps a second call out. A slice's pointer isn't null, and what the
+//! library writes is borrowed as `&mut`, so that nothing overlaps it. `Session::new` calls `esdk_check` first.
+
+use crate::error::Error;
+use crate::raw::{self, Handle};
+use crate::Context;
+
+/// The longest text of a pair.
+const MOST_OF_TEXT: usize = 65_535;
+
+pub(crate) struct Session {
+    handle: Handle,
+    waits: usize,
+}
+
+// SAFETY: nothing in a handle belongs to a thread, so that it may go to another one between two calls (esdk.h, "What a caller
+// owes", 1). Nobody has proved that of the library yet.
+unsafe impl Send for Session {}
+
+impl Drop for Session {
+    fn drop(&mut self) {
+        unsafe { raw::esdk_close(&mut self.handle) }
+    }
+}
+
+impl Session {
+    pub(crate) fn new(file: &[u8]) -> Result<Session, Error> {
+        let mut session = Session { handle: Handle::new(), waits: 0 };
+        let fits = unsafe {
+            if raw::esdk_abi() == raw::ABI {
+                raw::esdk_check()
+            } else {
+                Error::OTHER_ABI
+            }
+        };
+        session.judge(fits)?;
+        let code = unsafe { raw::esdk_new(&mut session.handle, file.as_ptr(), file.len()) };
+        session.judge(code)?;
+        Ok(session)
+    }
+
+    fn judge(&mut self, code: i32) -> Result<(), Error> {
+        if code == 0 {
+            return Ok(());
+        }
+        Err(Error::new(code, self.line()))
+    }
+
+    fn line(&mut self) -> String {
+        let mut room = vec![0; 256];
+        loop {
+            let count = unsafe { raw::esdk_error(&mut self.handle, room.as_mut_ptr(), room.len()) };
+            if count <= room.len() {
+                return String::from_utf8_lossy(&room[..count]).into_owned();
+            }
+            room.resize(count, 0);
+        }
+    }
+
+    pub(crate) fn pair(&mut self, key: &str, value: &str) -> Result<(), Error> {
+        let code = unsafe {
+            raw::esdk_pair(&mut self.handle, key.as_ptr(), key.len(), value.as_ptr(), value.len())
+        };
+        self.judge(code)
+    }
+
+    pub(crate) fn require(&mut self, key: &str) -> Result<(), Error> {
+        let code = unsafe { raw::esdk_require(&mut self.handle, key.as_ptr(), key.len()) };
+        self.judge(code)
+    }
+
+    pub(crate) fn seal(&mut self, frame: u32, length: u64, max_keys: u16) -> Result<(), Error> {
+        let code = unsafe { raw::esdk_seal(&mut self.handle, frame, length, max_keys) };
+        self.judge(code)?;
+        // What the message begins with waits, and this says how much.
+        self.take(&mut []);
+        Ok(())
+    }
+
+    pub(crate) fn open(&mut self, max_keys: u16, max_unit: u64, uncommitted: bool) -> Result<(), Error> {
+        let code = unsafe { raw::esdk_open(&mut self.handle, max_keys, max_unit, uncommitted) };
+        self.judge(code)
+    }
+
+    /// Takes the whole piece; what it gives waits.
+    pub(crate) fn feed(&mut self, piece: &[u8]) -> Result<(), Error> {
+        let (mut none, mut written) = ([], 0);
+        let code = unsafe {
+            raw::esdk_feed(
+                &mut self.handle,
+                piece.as_ptr(),
+                piece.len(),
+                none.as_mut_ptr(),
+                0,
+                &mut written,
+                &mut self.waits,
+            )
+        };
+        self.judge(code)
+    }
+
+    /// Says that no byte follows; what that gives waits.
+    pub(crate) fn finish(&mut self) -> Result<(), Error> {
+        let (mut none, mut written) = ([], 0);
+        let code = unsafe {
+            raw::esdk_finish(&mut self.handle, none.as_mut_ptr(), 0, &mut written, &mut self.waits)
+        };
+        self.judge(code)
+    }
+
+    /// Hands out of what waits, and answers how many bytes.
+    pub(crate) fn take(&mut self, room: &mut [u8]) -> usize {
+        let mut written = 0;
+        unsafe {
+            raw::esdk_take(
+                &mut self.handle,
+                room.as_mut_ptr(),
+                room.len(),
+                &mut written,
+                &mut self.waits,
+            );
+        }
+        written
+    }
+
+    pub(crate) fn waits(&self) -> bool {
+        self.waits > 0
+    }
+
+    pub(crate) fn context(&mut self) -> Option<Context> {
+        let count = unsafe { raw::esdk_pairs(&mut self.handle) };
+        let count = usize::try_from(count).ok()?;
+        (0..count).map(|at| Some((self.text(raw::esdk_pair_key, at)?, self.text(raw::esdk_pair_value, at)?))).collect()
+    }
+
+    fn text(&mut self, tell: Tell, at: usize) -> Option<String> {
+        let mut room = vec![0; MOST_OF_TEXT];
+        let count = unsafe { tell(&mut self.handle, at, room.as_mut_ptr(), room.len()) };
+        room.truncate(usize::try_from(count).ok()?);
+        String::from_utf8(room).ok()
+    }
+}
+
+type Tell = unsafe extern "C" fn(*mut Handle, usize, *mut u8, usize) -> i32;

@@ -1,0 +1,159 @@
+//! A message that is sealed or opened as it is read, or as it is written.
+
+use crate::error::Error;
+use crate::session::Session;
+use crate::Context;
+use std::io::{self, ErrorKind, Read, Write};
+
+const PIECE: usize = 65_536;
+
+/// Why no more comes.
+enum Stop {
+    End,
+    Refused(Error),
+    Outside(ErrorKind),
+}
+
+/// Reads a message that is sealed, or a text that is opened, of what is read from a source.
+///
+/// **What is read of a text counts only once `read` gave 0**, which says that the message was whole. Each part of the
+/// text was found right before it is handed out. At a fault the text of the frames before it is handed out, and then
+/// each call gives the error. What the source answers ends the stream, too, but for `Interrupted` and `WouldBlock`.
+pub struct Reader<R> {
+    session: Session,
+    source: R,
+    piece: Vec<u8>,
+    stop: Option<Stop>,
+}
+
+impl<R: Read> Reader<R> {
+    pub(crate) fn new(session: Session, source: R) -> Reader<R> {
+        Reader { session, source, piece: vec![0; PIECE], stop: None }
+    }
+
+    /// The whole context of a message that is opened, once its header was read; None before, and of one that is sealed.
+    pub fn context(&mut self) -> Option<Context> {
+        self.session.context()
+    }
+
+    /// The source, behind what was read of it.
+    pub fn into_source(self) -> R {
+        self.source
+    }
+
+    /// One call of the library, with the next piece or with the end.
+    fn step(&mut self) -> io::Result<()> {
+        let count = match self.source.read(&mut self.piece) {
+            Ok(count) => count,
+            Err(error) => {
+                if !matches!(error.kind(), ErrorKind::Interrupted | ErrorKind::WouldBlock) {
+                    self.stop = Some(Stop::Outside(error.kind()));
+                }
+                return Err(error);
+            }
+        };
+        let done = if count == 0 {
+            self.stop = Some(Stop::End);
+            self.session.finish()
+        } else {
+            self.session.feed(&self.piece[..count])
+        };
+        if let Err(error) = done {
+            self.stop = Some(Stop::Refused(error));
+        }
+        Ok(())
+    }
+}
+
+impl<R: Read> Read for Reader<R> {
+    fn read(&mut self, room: &mut [u8]) -> io::Result<usize> {
+        if room.is_empty() {
+            return Ok(0);
+        }
+        loop {
+            if self.session.waits() {
+                return Ok(self.session.take(room));
+            }
+            match &self.stop {
+                None => self.step()?,
+                Some(Stop::End) => return Ok(0),
+                Some(Stop::Refused(error)) => return Err(error.clone().into()),
+                Some(Stop::Outside(kind)) => return Err((*kind).into()),
+            }
+        }
+    }
+}
+
+/// Writes into a sink the message of what is written to it, or the text of the message that is written to it.
+///
+/// **What is in the sink counts only once `finish` gave Ok.** Without it a message that is sealed isn't whole, and of a
+/// text nobody said that it is. After an error each call gives one.
+pub struct Writer<W> {
+    session: Session,
+    sink: W,
+    room: Vec<u8>,
+    stop: Option<Stop>,
+}
+
+impl<W: Write> Writer<W> {
+    pub(crate) fn new(session: Session, sink: W) -> Writer<W> {
+        Writer { session, sink, room: vec![0; PIECE], stop: None }
+    }
+
+    /// The whole context of a message that is opened, once its header was written; None before, and of one that is sealed.
+    pub fn context(&mut self) -> Option<Context> {
+        self.session.context()
+    }
+
+    /// Says that nothing follows, and flushes the sink.
+    pub fn finish(&mut self) -> io::Result<()> {
+        self.goes_on()?;
+        self.stop = Some(Stop::End);
+        let done = self.session.finish();
+        self.put(done)?;
+        self.flush()
+    }
+
+    /// The sink, with what was written into it.
+    pub fn into_sink(self) -> W {
+        self.sink
+    }
+
+    fn goes_on(&self) -> io::Result<()> {
+        match &self.stop {
+            None => Ok(()),
+            Some(Stop::End) => Err(io::Error::new(ErrorKind::InvalidInput, "the stream was finished")),
+            Some(Stop::Refused(error)) => Err(error.clone().into()),
+            Some(Stop::Outside(kind)) => Err((*kind).into()),
+        }
+    }
+
+    /// Puts what waits into the sink, and then answers what the library did.
+    fn put(&mut self, done: Result<(), Error>) -> io::Result<()> {
+        while self.session.waits() {
+            let count = self.session.take(&mut self.room);
+            if let Err(error) = self.sink.write_all(&self.room[..count]) {
+                self.stop = Some(Stop::Outside(error.kind()));
+                return Err(error);
+            }
+        }
+        done.map_err(|error| {
+            self.stop = Some(Stop::Refused(error.clone()));
+            error.into()
+        })
+    }
+}
+
+impl<W: Write> Write for Writer<W> {
+    fn write(&mut self, piece: &[u8]) -> io::Result<usize> {
+        self.goes_on()?;
+        let piece = &piece[..piece.len().min(PIECE)];
+        let done = self.session.feed(piece);
+        self.put(done)?;
+        Ok(piece.len())
+    }
+
+    fn flush(&mut self) -> io::Result<()> {
+        self.sink.flush()
+    }
+}

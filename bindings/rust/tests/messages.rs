@@ -1,0 +1,165 @@
+//! The crate over a library: ESDK_LIBRARY=FOLDER cargo test. What is expected comes from vectors/ of the checkout.
+
+use esdk::{Error, Keyring, Kind, Opening, Sealing};
+use std::io::{self, Read, Write};
+use std::path::PathBuf;
+use std::{fs, thread};
+
+fn named(name: &str) -> Vec<u8> {
+    let vectors = PathBuf::from(env!("CARGO_MANIFEST_DIR")).join("../../vectors");
+    fs::read(vectors.join(name)).unwrap()
+}
+
+fn ring_of(name: &str, first: u8) -> Keyring {
+    let key: String = (0..32).map(|at| format!("{:02x}", first + at)).collect();
+    Keyring::new(format!("esdk-vectors {name} {key}").into_bytes()).unwrap()
+}
+
+fn ring() -> Keyring {
+    ring_of("first", 0)
+}
+
+/// Gives so many bytes at a time.
+struct Pieces<'a>(&'a [u8], usize);
+
+impl Read for Pieces<'_> {
+    fn read(&mut self, room: &mut [u8]) -> io::Result<usize> {
+        let most = room.len().min(self.1);
+        self.0.read(&mut room[..most])
+    }
+}
+
+/// All that a reader gives, by rooms of a size, and the error behind it.
+fn by_rooms(mut reader: impl Read, size: usize) -> (Vec<u8>, Option<Error>) {
+    let (mut all, mut room) = (Vec::new(), vec![0; size]);
+    loop {
+        match reader.read(&mut room) {
+            Ok(0) => return (all, None),
+            Ok(count) => all.extend_from_slice(&room[..count]),
+            Err(error) => return (all, Some(Error::of(&error).unwrap().clone())),
+        }
+    }
+}
+
+const WHOLE: [(&str, &str); 10] = [
+    ("empty", "0"),
+    ("one-byte", "1"),
+    ("full-frame", "4096"),
+    ("frame-and-a-byte", "4097"),
+    ("many-frames", "1000"),
+    ("frames-of-one-byte", "9"),
+    ("long-frame", "10000"),
+    ("many-pairs", "5000"),
+    ("single-block", "5000"),
+    ("empty-single-block", "0"),
+];
+
+// Which field was altered says the fault, by docs/FORMAT.md.
+const REFUSED: [(&str, i32, &str, usize); 7] = [
+    ("altered-message-id", 1016, "M16 Commitment", 0),
+    ("altered-pair", 1015, "M15 NoKeyOpens", 0),
+    ("altered-header-tag", 1017, "M17 HeaderTag", 0),
+    ("altered-content", 1020, "M20 UnitTag 1", 0),
+    ("altered-tag", 1020, "M20 UnitTag 2", 4096),
+    ("altered-block", 1020, "M20 UnitTag 1", 0),
+    ("cut", 1010, "M10 Truncated", 4096),
+];
+
+#[test]
+fn vectors_are_opened_in_all_pieces_and_rooms() {
+    for (name, text) in WHOLE {
+        let (message, text) = (named(&format!("ciphertexts/{name}")), named(&format!("plaintexts/{text}")));
+        for size in [1, 15, 4095, 4096, 65536] {
+            let reader = Opening::new().reader(&ring(), Pieces(&message, size)).unwrap();
+            assert_eq!(by_rooms(reader, 65536), (text.clone(), None), "{name}");
+            let reader = Opening::new().reader(&ring(), &message[..]).unwrap();
+            assert_eq!(by_rooms(reader, size), (text.clone(), None), "{name}");
+            let mut writer = Opening::new().writer(&ring(), Vec::new()).unwrap();
+            message.chunks(size).for_each(|piece| writer.write_all(piece).unwrap());
+            writer.finish().unwrap();
+            assert!(writer.write(b"x").is_err() && writer.finish().is_err());
+            assert_eq!(writer.into_sink(), text, "{name}");
+        }
+    }
+}
+
+#[test]
+fn altered_vectors_are_refused() {
+    let text = named("plaintexts/5000");
+    for (name, code, line, front) in REFUSED {
+        let message = named(&format!("ciphertexts/{name}"));
+        let (came, error) = by_rooms(Opening::new().reader(&ring(), &message[..]).unwrap(), 1000);
+        let error = error.unwrap();
+        assert_eq!((error.code(), error.line(), error.kind()), (code, line, Kind::Message), "{name}");
+        assert_eq!(came, text[..front], "{name}");
+        let mut writer = Opening::new().writer(&ring(), Vec::new()).unwrap();
+        let refused = writer.write_all(&message).and_then(|()| writer.finish()).unwrap_err();
+        assert_eq!(Error::of(&refused).unwrap().line(), line);
+        assert!(writer.finish().is_err());
+        assert_eq!(writer.into_sink(), text[..front], "{name}");
+    }
+}
+
+#[test]
+fn a_message_comes_back_with_its_context() {
+    let text: Vec<u8> = (0..200_000u32).map(|at| (at * 7 / 3) as u8).collect();
+    let sealing = Sealing::new().pair("set", "photos").pair("tenant", "acme").require("tenant").frame_length(1000);
+    let read = sealing.all(&ring(), &text).unwrap();
+    let mut writer = sealing.writer(&ring(), Vec::new()).unwrap();
+    writer.write_all(&text).unwrap();
+    writer.finish().unwrap();
+    for message in [read, writer.into_sink()] {
+        assert!(!message.windows(4).any(|four| four == b"acme"));
+        let (back, context) = Opening::new().pair("tenant", "acme").all(&ring(), &message).unwrap();
+        assert_eq!(back, text);
+        assert_eq!((context["set"].as_str(), context["tenant"].as_str(), context.len()), ("photos", "acme", 2));
+        let error = Opening::new().all(&ring(), &message).unwrap_err();
+        assert_eq!(error.to_string(), "M15 NoKeyOpens");
+    }
+}
+
+#[test]
+fn what_is_refused() {
+    let line = |error: io::Error| Error::of(&error).unwrap().line().to_string();
+    assert_eq!(Keyring::new(b"a b".to_vec()).unwrap_err().code(), 3002);
+    assert_eq!(Sealing::new().frame_length(0).all(&ring(), b"").map_err(line), Err("a frame length of 0".into()));
+    assert_eq!(Sealing::new().length(4).all(&ring(), b"12345").map_err(line), Err("Q10 OverDeclared 4".into()));
+    let twice = Sealing::new().pair("a", "").pair("a", "").all(&ring(), b"");
+    assert_eq!(twice.map_err(line), Err("Q3 DuplicateKey \"a\"".into()));
+    let two = named("ciphertexts/two-keys");
+    assert_eq!(Opening::new().max_keys(1).all(&ring(), &two).map_err(line), Err("M5 TooManyDataKeys 2".into()));
+    assert_eq!(Opening::new().max_unit(4095).all(&ring(), &two).map_err(line), Err("M9 UnitTooLong 4096".into()));
+    assert_eq!(Opening::new().require("a").all(&ring(), &two).map_err(line), Err("M13 MissingRequired \"a\"".into()));
+    assert_eq!(Opening::new().all(&ring_of("second", 128), &two).unwrap().0, named("plaintexts/5000"));
+    assert!(!format!("{:?}", ring()).contains("0001"));
+}
+
+#[test]
+fn a_source_that_fails_gives_no_whole_message() {
+    struct Failing(usize);
+    impl Read for Failing {
+        fn read(&mut self, room: &mut [u8]) -> io::Result<usize> {
+            self.0 += 1;
+            match self.0 {
+                1 => Ok(room.len()),
+                2 => Err(io::ErrorKind::ConnectionReset.into()),
+                _ => Ok(0),
+            }
+        }
+    }
+    let mut reader = Sealing::new().reader(&ring(), Failing(0)).unwrap();
+    for _ in 0..2 {
+        let error = io::copy(&mut reader, &mut io::sink()).unwrap_err();
+        assert_eq!(error.kind(), io::ErrorKind::ConnectionReset);
+    }
+}
+
+#[test]
+fn a_reader_goes_to_another_thread() {
+    let readers: Vec<_> = (0..4).map(|_| Sealing::new().reader(&ring(), io::repeat(7).take(300_000)).unwrap()).collect();
+    let threads: Vec<_> = readers.into_iter().map(|reader| thread::spawn(move || by_rooms(reader, 5000).0)).collect();
+    for one in threads {
+        let (text, _) = Opening::new().all(&ring(), &one.join().unwrap()).unwrap();
+        assert!(text.len() == 300_000 && text.iter().all(|byte| *byte == 7));
+    }
+}

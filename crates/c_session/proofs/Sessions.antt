@@ -1,0 +1,175 @@
+-- What the calls of a session come to, from what its machine does.
+use Rattle.std.proofs.Common.{◌≡◌, ◌∙◌, ℕ, List, ◌++◌, take, drop, true, false, Option, Some, None, Result, Ok, Err, refl, sym, ap, subst, append_assoc}
+use Rattle.std.proofs.lemmas.List.{take-append-drop}
+use Rattle.context_codec.specs.Context.{KeyValue}
+use Rattle.header_codec.specs.declared.settings.Settings.{Settings}
+use Rattle.keyring_trait.specs.Manager.{ManagerNow}
+use Rattle.stream_open.specs.Receiving.{FedTo}
+use Rattle.stream_open.specs.Session.{judged_now, new_session}
+use Rattle.message_format.specs.Judgement.{content}
+use Rattle.stream_seal.specs.Feeding.{given_so_far}
+use Rattle.stream_seal.specs.Session.{SealingValue}
+use Rattle.c_session.specs.declared.answer.Answer.{Answer}
+use Rattle.c_session.specs.declared.answer.Answer.TheVariants as answers
+use Rattle.c_session.specs.declared.machine.Machine.{Machine}
+use Rattle.c_session.specs.declared.reason.Reason.{Reason}
+use Rattle.c_session.specs.declared.session.Session.{Session}
+use Rattle.c_session.specs.Machine.{EndsMachine, FeedsMachine, FeedsOpening, FeedsSealing}
+use Rattle.c_session.specs.Opening.{OpensEnd}
+use Rattle.c_session.specs.Sealing.{SealsEnd}
+use Rattle.c_session.specs.Session.{BeginsSealing, Ends, Feeds, HandsOutOf, OpensLast, OpensMore, OpensNow, SealsBy, SealsLast, SealsMore, SealsNow, asked, going_answer, request_of, setting_answer, settled, settled_answer, with_its_keys}
+use Rattle.c_session.specs.Waiting.{HandsOut}
+
+pub none_of : (o : Option Answer) → ((a : Answer) → o ≡ Some a → ⊥) → o ≡ None
+none_of None no_answer = refl
+none_of (Some a) no_answer = absurd (no_answer a refl)
+
+-- ---- a piece
+
+module _ {M : Type 0} (state : M → ManagerNow) (base : Session M) (on : base.ended ≡ false) where
+  seals_more : (v : SealingValue) (piece given : List ℕ) (result : Result (Unit {0}) Reason)
+      → FeedsSealing base.machine v piece given base.waiting result
+      → SealsMore (settled base result) v piece given (settled_answer result)
+  seals_more v piece given (Ok done) fed = record {
+    same = fed.seals.same;
+    taken = fed.seals.taken;
+    seals = record { on = on; sealer = fed.sealer; machine = fed.machine; seals = fed.seals.seals };
+  }
+  seals_more v piece given (Err reason) fed = (refl, (reason, refl, (fed.sealer, fed.seals)))
+
+  opens_more : (begun : M × List (List ℕ)) (settings : Settings) (pairs : List KeyValue)
+      (taken piece given : List ℕ) (result : Result (Unit {0}) Reason)
+      → FeedsOpening (asked state) begun base.manager base.machine base.waiting settings pairs taken piece given result
+      → OpensMore state (settled base result) begun settings pairs taken piece given (settled_answer result)
+  opens_more begun settings pairs taken piece given (Ok done) fed =
+      record { on = on; opener = fed.opener; machine = fed.machine; opens = fed.opens }
+  opens_more begun settings pairs taken piece given (Err reason) fed =
+      (refl, (reason, refl, (fed.opener, fed.opens)))
+
+-- the machine of a session was fed
+pub fed_so : {M : Type 0} (state : M → ManagerNow) (old base : Session M) (piece : List ℕ)
+    (result : Result (Unit {0}) Reason) → base.ended ≡ old.ended
+    → FeedsMachine (asked state) old.machine base.machine old.manager base.manager old.waiting base.waiting piece result
+    → ((a : Answer) → going_answer old ≡ Some a → ⊥)
+    → Feeds state old (settled base result) piece (settled_answer result)
+fed_so {M} state old base piece result same fed goes = record {
+  seals = λ v given now.
+      seals_more state base (same ∙ now.on) v piece given result
+      (subst
+      (λ (m : Machine). FeedsMachine (asked state) m base.machine old.manager base.manager old.waiting base.waiting piece result)
+      now.machine fed v given now.seals);
+  opens = λ begun settings pairs taken given now.
+      opens_more state base (same ∙ now.on) begun settings pairs taken piece given result
+      (subst
+      (λ (m : Machine). FeedsMachine (asked state) m base.machine old.manager base.manager old.waiting base.waiting piece result)
+      now.machine fed begun settings pairs taken given now.opens);
+  refused = λ a is. absurd (goes a is);
+}
+
+-- ---- the end
+
+module _ {M : Type 0} (state : M → ManagerNow) (base : Session M) (off : base.ended ≡ true) where
+  seals_last : (v : SealingValue) (given : List ℕ) (result : Result (Unit {0}) Reason)
+      → SealsEnd v given base.waiting result
+      → SealsLast (settled base result) v given (settled_answer result)
+  seals_last v given (Ok done) ends = (off, ends)
+  seals_last v given (Err reason) ends = (refl, (reason, refl, ends))
+
+  opens_last : (begun : M × List (List ℕ)) (settings : Settings) (pairs : List KeyValue)
+      (taken given : List ℕ) (result : Result (Unit {0}) Reason)
+      → OpensEnd (asked state) begun base.manager base.waiting settings pairs taken given result
+      → OpensLast state (settled base result) begun settings pairs taken given (settled_answer result)
+  opens_last begun settings pairs taken given (Ok done) ends = (off, ends)
+  opens_last begun settings pairs taken given (Err reason) ends = (refl, (reason, refl, ends))
+
+-- the machine of a session was ended
+pub ended_so : {M : Type 0} (state : M → ManagerNow) (old base : Session M)
+    (result : Result (Unit {0}) Reason) → base.ended ≡ true → base.manager ≡ old.manager
+    → EndsMachine (asked state) old.machine base.machine old.manager old.waiting base.waiting result
+    → ((a : Answer) → going_answer old ≡ Some a → ⊥)
+    → Ends state old (settled base result) (settled_answer result)
+ended_so {M} state old base result off same ends goes = record {
+  seals = λ v given now.
+      seals_last state base off v given result
+      (subst
+      (λ (m : Machine). EndsMachine (asked state) m base.machine old.manager old.waiting base.waiting result)
+      now.machine ends v given now.seals);
+  opens = λ begun settings pairs taken given now.
+      opens_last state base off begun settings pairs taken given result
+      (subst
+      (λ (m : M × List (List ℕ)). OpensEnd (asked state) begun m base.waiting settings pairs taken given result)
+      (sym same)
+      (subst
+      (λ (m : Machine). EndsMachine (asked state) m base.machine old.manager old.waiting base.waiting result)
+      now.machine ends begun settings pairs taken given now.opens));
+  refused = λ a is. absurd (goes a is);
+}
+
+-- ---- the beginning
+
+pub begins_from : {M : Type 0} (state : M → ManagerNow) (old new : Session M) (size : ℕ)
+    (declared max_keys : Option ℕ) (random : List ℕ) (answer : Answer) → setting_answer old ≡ None
+    → SealsBy state (with_its_keys old) (request_of old declared) new size max_keys random answer
+    → BeginsSealing state old new size declared max_keys random answer
+begins_from state old new size declared max_keys random answers.Done none by = (none, by)
+begins_from state old new size declared max_keys random answers.Failed none by = (none, by)
+begins_from state old new size declared max_keys random answers.NotNow none by = absurd by
+begins_from state old new size declared max_keys random answers.Ended none by = absurd by
+begins_from state old new size declared max_keys random answers.NotText none by = absurd by
+begins_from state old new size declared max_keys random answers.BadFrame none by = absurd by
+begins_from state old new size declared max_keys random answers.BadRandom none by = absurd by
+
+-- ---- what waits
+
+-- a front of what waits is given, and the rest waits
+moved : (given old new total : List ℕ) (count : ℕ) → new ≡ drop count old → given ++ old ≡ total
+    → (given ++ take count old) ++ new ≡ total
+moved given old new total count left all =
+    ap (λ (b : List ℕ). (given ++ take count old) ++ b) left
+    ∙ append_assoc given (take count old) (drop count old)
+    ∙ ap (λ (b : List ℕ). given ++ b) (take-append-drop count old) ∙ all
+
+module _ {M : Type 0} (state : M → ManagerNow) (old : Session M) (waiting : List ℕ) (count : ℕ)
+    (left : waiting ≡ drop count old.waiting) where
+  abbrev after : Session M
+  after = record old { waiting = waiting }
+
+  seals_still : (v : SealingValue) (given : List ℕ) → SealsNow old v given
+      → SealsNow after v (given ++ take count old.waiting)
+  seals_still v given now = record {
+    on = now.on;
+    sealer = now.sealer;
+    machine = now.machine;
+    seals = record {
+      stands = now.seals.stands;
+      fed = now.seals.fed;
+      all = moved given old.waiting waiting (given_so_far v) count left now.seals.all;
+    };
+  }
+
+  opens_still : (begun : M × List (List ℕ)) (settings : Settings) (pairs : List KeyValue)
+      (taken given : List ℕ) → OpensNow state old begun settings pairs taken given
+      → OpensNow state after begun settings pairs taken (given ++ take count old.waiting)
+  opens_still begun settings pairs taken given now =
+      let same : given ++ old.waiting ≡ (given ++ take count old.waiting) ++ waiting =
+      sym (moved given old.waiting waiting (given ++ old.waiting) count left refl) in
+      let both = subst
+      (λ (b : List ℕ). (fed : FedTo (asked state) 0 (new_session settings pairs) taken b begun old.manager now.opener)
+      × (b ≡ content (judged_now fed.session)))
+      same (now.opens.fed, now.opens.all) in
+      record {
+        on = now.on;
+        opener = now.opener;
+        machine = now.machine;
+        opens = record { fed = both.0; all = both.1; went = now.opens.went };
+      }
+
+  pub handed_out : (room : List ℕ) (written : List ℕ) → HandsOut old.waiting room count waiting written
+      → HandsOutOf state old room count after written
+  handed_out room written out = record {
+    out = out;
+    same = ap (λ (w : List ℕ). record old { waiting = w }) left;
+    kept = λ given total all. moved given old.waiting waiting total count left all;
+    seals = seals_still;
+    opens = opens_still;
+  }

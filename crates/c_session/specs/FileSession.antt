@@ -1,0 +1,93 @@
+-- A session over the tree of a keyring file, and what its calls come to.
+use Rattle.std.specs.Prelude.{◌≡◌, ◌⊎◌, ◌≤◌, ◌<◌, ℕ, ◌+◌, ◌*◌, List, [], ◌∷◌, length, Option, Some, None, Ok, Err, ⊤}
+use Rattle.esdk_fields.specs.declared.refusals.FileRefusal.TheVariants.{FileTooLong}
+use Rattle.cmm_default.specs.DefaultCmm.{default_now}
+use Rattle.keyring_file.specs.Found.{wraps_of}
+use Rattle.keyring_file.specs.KeyFile.{tree_of}
+use Rattle.keyring_trait.specs.Manager.{ManagerNow}
+use Rattle.keyring_trait.specs.Wrapping.{WrapKeyValue}
+use Rattle.multi_keyring.specs.declared.tree.Node.{Node}
+use Rattle.multi_keyring.specs.Nodes.{forest}
+use Rattle.multi_keyring.specs.Tree.{tree_meaning}
+use Rattle.raw_aes_keyring.specs.Keyring.{raw_meaning}
+use Rattle.c_session.specs.declared.answer.Answer.{Answer}
+use Rattle.c_session.specs.declared.answer.Answer.TheVariants as answers
+use Rattle.c_session.specs.declared.file_session.Kept.{Kept}
+use Rattle.c_session.specs.declared.file_session.Kept.TheVariants as kepts
+use Rattle.c_session.specs.declared.reason.Reason.{Reason}
+use Rattle.c_session.specs.declared.reason.Reason.TheVariants as reasons
+use Rattle.c_session.specs.declared.session.Session.{Session}
+use Rattle.c_session.specs.Reason.{code_of}
+use Rattle.c_session.specs.Session.{HandsOutOf, IsFresh}
+
+-- the tree of raw keys that a file describes
+abbrev pub Tree : Type 0
+Tree = Node WrapKeyValue
+
+-- what the manager over a tree is at a moment
+abbrev pub file_state : Tree → ManagerNow
+file_state tree = default_now (tree_meaning raw_meaning tree)
+
+-- The bytes mean this tree, and the session over it is set up; or they are refused, and it has
+-- ended.
+abbrev pub ReadsFile : List ℕ → Kept → Type 0
+ReadsFile bytes (kepts.Read s) = IsFresh s × (length bytes ≤ 1048576)
+    × (tree_of (wraps_of raw_meaning) bytes [] ≡ Ok (forest (s.manager.0 ∷ [])))
+ReadsFile bytes (kepts.Refused (reasons.File refusal)) =
+    ((1048576 < length bytes) × (refusal ≡ FileTooLong))
+    ⊎ (tree_of (wraps_of raw_meaning) bytes [] ≡ Err refusal)
+ReadsFile bytes (kepts.Refused reasons.Memory) = ⊤
+ReadsFile bytes (kepts.Refused reason) = ⊥
+
+-- The call came to this, of a session whose file was read; any other has ended, and stays as it is.
+abbrev pub KeepsRead : Kept → Kept → Answer → (Session Tree → Session Tree → Type 0) → Type 0
+KeepsRead (kepts.Refused reason) new answer call =
+    (answer ≡ answers.Ended) × (new ≡ kepts.Refused reason)
+KeepsRead (kepts.Read old) new answer call =
+    (s : Session Tree) × (new ≡ kepts.Read s) × call old s
+
+-- The session is set up anew over the same tree.
+abbrev pub Again : Kept → Kept → Answer → Type 0
+Again old new answer = KeepsRead old new answer (λ before after.
+    (answer ≡ answers.Done) × IsFresh after × (after.manager.0 ≡ before.manager.0))
+
+-- what waits; where no file was read, nothing
+abbrev pub waiting_in : Kept → List ℕ
+waiting_in (kepts.Refused reason) = []
+waiting_in (kepts.Read s) = s.waiting
+
+-- some of it was handed out
+abbrev pub TakesKept : Kept → List ℕ → ℕ → Kept → List ℕ → Type 0
+TakesKept (kepts.Refused reason) room count new after =
+    (count ≡ 0) × (new ≡ kepts.Refused reason) × (after ≡ room)
+TakesKept (kepts.Read old) room count new after =
+    (s : Session Tree) × (new ≡ kepts.Read s) × HandsOutOf file_state old room count s after
+
+-- why it ended, where it was an error
+abbrev pub reason_kept : Kept → Option Reason
+reason_kept (kepts.Refused reason) = Some reason
+reason_kept (kepts.Read s) = s.reason
+
+abbrev pub kept_code : Option Reason → ℕ
+kept_code (Some reason) = code_of reason
+kept_code None = 5000
+
+-- the code of an answer
+abbrev pub answer_code : Answer → Option Reason → ℕ
+answer_code answers.Done reason = 0
+answer_code answers.NotNow reason = 2002
+answer_code answers.Ended reason = 2003
+answer_code answers.NotText reason = 2004
+answer_code answers.BadFrame reason = 2005
+answer_code answers.BadRandom reason = 2006
+answer_code answers.Failed reason = kept_code reason
+
+-- how many random bytes a message takes; where no file was read, none
+abbrev pub drawn_by : Kept → ℕ
+drawn_by (kepts.Refused reason) = 0
+drawn_by (kepts.Read s) = 64 + 12 * (file_state s.manager.0).meaning.wraps
+
+-- what a new session answers
+abbrev pub first_answer : Kept → Answer
+first_answer (kepts.Refused reason) = answers.Failed
+first_answer (kepts.Read s) = answers.Done

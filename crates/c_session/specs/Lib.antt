@@ -1,0 +1,10 @@
+pub mod Beginning
+pub mod Machine
+pub mod Opening
+pub mod Reason
+pub mod Sealing
+pub mod Session
+pub mod FileSession
+pub mod Telling
+pub mod Waiting
+pub mod WaitingLaws

@@ -1,0 +1,318 @@
+//! A session over the tree of a keyring file: what stands behind a handle of another language.
+
+ghost use Rattle.std.specs.Prelude.{◌≡◌, ◌≤◌, length};
+ghost use Rattle.std.specs.Option.{option_copied};
+ghost use Rattle.c_session.specs.Session.{BeginsOpening, BeginsSealing, Ends, Feeds, PairsAs, RequiresAs};
+ghost use Rattle.c_session.specs.FileSession.{Again, KeepsRead, ReadsFile, TakesKept, answer_code, drawn_by, file_state, first_answer, kept_code, reason_kept, waiting_in};
+
+use crate::answer::Answer;
+use crate::reason::Reason;
+use crate::session::Session;
+use crate::telling::show;
+use cmm_default::DefaultCmm;
+use context_codec::Context;
+use esdk_fields::FileRefusal;
+use header_codec::Settings;
+use keyring_file::{TreeError, read_tree};
+use multi_keyring::Node;
+use raw_aes_keyring::RawAes;
+use std::alloc::Global;
+use std::mem;
+
+/// The most bytes that a keyring file may have.
+const MOST_FILE: usize = 1_048_576;
+
+/// A session over the tree of a keyring file; or why the file wasn't read.
+#[derive(Drop)]
+pub(crate) enum Kept {
+    /// The file is refused, or memory ran out.
+    Refused(Reason),
+    /// A session over its tree.
+    Read(Session<DefaultCmm<Node<RawAes>>>),
+}
+
+/// A session over the tree of a keyring file. Where the file wasn't read it has ended.
+#[derive(Drop)]
+pub struct FileSession {
+    pub(crate) kept: Kept,
+}
+
+impl FileSession {
+    /// A session that is set up, over the tree of the keyring file in these bytes.
+    pub fn new(alloc: Global, file: &[u8]) -> FileSession
+        ensures { ReadsFile file.now result.kept }
+    {
+        FileSession {
+            kept: read(alloc, file),
+        }
+    }
+
+    /// Sets the session up again, for another message.
+    pub fn again(&mut self, alloc: Global) -> Answer
+        ensures { Again self.old.kept self.new.kept result }
+    {
+        match taken(&mut self.kept) {
+            Kept::Refused(reason) => {
+                put(&mut self.kept, Kept::Refused(reason));
+                Answer::Ended
+            }
+            Kept::Read(session) => {
+                put(&mut self.kept, Kept::Read(session.again(alloc)));
+                Answer::Done
+            }
+        }
+    }
+
+    /// Puts a pair. Both are UTF-8.
+    pub fn pair(&mut self, alloc: Global, key: &[u8], value: &[u8]) -> Answer
+        ensures { KeepsRead self.old.kept self.new.kept result
+            (λ old new. PairsAs old new key.now value.now result) }
+    {
+        match &mut self.kept {
+            Kept::Refused(_) => Answer::Ended,
+            Kept::Read(session) => session.pair(alloc, key, value),
+        }
+    }
+
+    /// Requires a key, which is UTF-8.
+    pub fn require(&mut self, alloc: Global, key: &[u8]) -> Answer
+        ensures { KeepsRead self.old.kept self.new.kept result
+            (λ old new. RequiresAs old new key.now result) }
+    {
+        match &mut self.kept {
+            Kept::Refused(_) => Answer::Ended,
+            Kept::Read(session) => session.require(alloc, key),
+        }
+    }
+
+    /// How many random bytes a message takes that is sealed; none, where no file was read.
+    pub fn draws(&self) -> u32
+        ensures draws { result ≡ drawn_by self.now.kept }
+        ensures most { result ≤ 832 }
+    {
+        match &self.kept {
+            Kept::Refused(_) => 0,
+            Kept::Read(session) => session.draws(),
+        }
+    }
+
+    /// Begins a message that is sealed, in frames of so many bytes, with these random bytes.
+    pub fn seal(
+        &mut self,
+        alloc: Global,
+        frame_length: u32,
+        declared: Option<u64>,
+        max_keys: Option<u16>,
+        random: &[u8],
+    ) -> Answer
+        ensures { KeepsRead self.old.kept self.new.kept result (λ old new.
+            BeginsSealing file_state old new frame_length declared max_keys random.now result) }
+    {
+        match taken(&mut self.kept) {
+            Kept::Refused(reason) => {
+                put(&mut self.kept, Kept::Refused(reason));
+                Answer::Ended
+            }
+            Kept::Read(session) => {
+                let (answer, session) = session.seal(
+                    alloc,
+                    frame_length,
+                    declared,
+                    max_keys,
+                    random,
+                );
+                put(&mut self.kept, Kept::Read(session));
+                answer
+            }
+        }
+    }
+
+    /// Begins a message that is opened, with these limits.
+    pub fn open(&mut self, alloc: Global, settings: Settings) -> Answer
+        ensures { KeepsRead self.old.kept self.new.kept result
+            (λ old new. BeginsOpening file_state old new settings result) }
+    {
+        match taken(&mut self.kept) {
+            Kept::Refused(reason) => {
+                put(&mut self.kept, Kept::Refused(reason));
+                Answer::Ended
+            }
+            Kept::Read(session) => {
+                let (answer, session) = session.open(alloc, settings);
+                put(&mut self.kept, Kept::Read(session));
+                answer
+            }
+        }
+    }
+
+    /// Takes a piece, of a text or of a message. What it gives waits.
+    pub fn feed(&mut self, alloc: Global, piece: &[u8]) -> Answer
+        ensures { KeepsRead self.old.kept self.new.kept result
+            (λ old new. Feeds file_state old new piece.now result) }
+    {
+        match &mut self.kept {
+            Kept::Refused(_) => Answer::Ended,
+            Kept::Read(session) => session.feed(alloc, piece),
+        }
+    }
+
+    /// Says that no byte follows. What that gives waits.
+    pub fn finish(&mut self) -> Answer
+        ensures { KeepsRead self.old.kept self.new.kept result
+            (λ old new. Ends file_state old new result) }
+    {
+        match &mut self.kept {
+            Kept::Refused(_) => Answer::Ended,
+            Kept::Read(session) => session.finish(),
+        }
+    }
+
+    /// Hands out of what waits, to the front of the room, and answers how many bytes.
+    pub fn take(&mut self, room: &mut [u8]) -> usize
+        ensures { TakesKept self.old.kept room.old result self.new.kept room.new }
+    {
+        match &mut self.kept {
+            Kept::Refused(_) => 0,
+            Kept::Read(session) => session.take(room),
+        }
+    }
+
+    /// How many bytes wait.
+    pub fn waits(&self) -> usize
+        ensures { result ≡ length (waiting_in self.now.kept) }
+    {
+        match &self.kept {
+            Kept::Refused(_) => 0,
+            Kept::Read(session) => session.waits(),
+        }
+    }
+
+    /// Why it ended, where it was an error.
+    pub fn reason(&self) -> Option<&Reason>
+        ensures { option_copied result ≡ reason_kept self.now.kept }
+    {
+        match &self.kept {
+            Kept::Refused(reason) => Some(reason),
+            Kept::Read(session) => session.reason(),
+        }
+    }
+
+    /// What a new session answers: that it is done, or that it failed.
+    pub fn first_answer(&self) -> Answer
+        ensures { result ≡ first_answer self.now.kept }
+    {
+        match &self.kept {
+            Kept::Refused(_) => Answer::Failed,
+            Kept::Read(_) => Answer::Done,
+        }
+    }
+
+    /// Shows the line of the reason, or its name where memory runs out; nothing where there is
+    /// none.
+    pub fn show_line(&self, alloc: Global, room: &mut [u8]) -> usize {
+        let Some(reason) = self.reason() else {
+            return 0;
+        };
+        match reason.line(alloc) {
+            Ok(line) => show(line.bytes(), room),
+            Err(_) => show(reason.name().as_bytes(), room),
+        }
+    }
+
+    /// Shows the name of the reason; nothing where there is none.
+    pub fn show_name(&self, room: &mut [u8]) -> usize {
+        match self.reason() {
+            Some(reason) => show(reason.name().as_bytes(), room),
+            None => 0,
+        }
+    }
+
+    /// How many pairs the whole context has, where it is known.
+    pub fn pair_count(&self) -> Option<usize> {
+        Some(self.context()?.pairs().len())
+    }
+
+    /// Shows the key of the pair of this number, where there is one.
+    pub fn show_key(&self, index: usize, room: &mut [u8]) -> Option<usize> {
+        let pair = self.context()?.pairs().get(index)?;
+        Some(show(pair.key().as_bytes(), room))
+    }
+
+    /// Shows the value of the pair of this number, where there is one.
+    pub fn show_value(&self, index: usize, room: &mut [u8]) -> Option<usize> {
+        let pair = self.context()?.pairs().get(index)?;
+        Some(show(pair.value().as_bytes(), room))
+    }
+
+    /// The whole context of the message that is opened, once its header was unlocked.
+    pub fn context(&self) -> Option<&Context> {
+        match &self.kept {
+            Kept::Refused(_) => None,
+            Kept::Read(session) => session.context(),
+        }
+    }
+
+    /// The code of an answer: 0, one of the caller's, or that of the reason.
+    pub fn code(&self, answer: Answer) -> u32
+        ensures code { result ≡ answer_code answer (reason_kept self.now.kept) }
+        ensures few { result ≤ 9999 }
+    {
+        match answer {
+            Answer::Done => 0,
+            Answer::NotNow => 2002,
+            Answer::Ended => 2003,
+            Answer::NotText => 2004,
+            Answer::BadFrame => 2005,
+            Answer::BadRandom => 2006,
+            Answer::Failed => reason_code(self.reason()),
+        }
+    }
+}
+
+/// What is kept, taken out. Something stays in its place that is thrown away.
+fn taken(kept: &mut Kept) -> Kept
+    ensures { result ≡ kept.old }
+{
+    mem::replace(kept, Kept::Refused(Reason::Memory))
+}
+
+/// Puts this in the place of what is thrown away.
+fn put(place: &mut Kept, kept: Kept)
+    ensures { place.new ≡ kept }
+{
+    *place = kept;
+}
+
+/// The code of a reason, where there is one.
+fn reason_code(reason: Option<&Reason>) -> u32
+    ensures code { result ≡ kept_code (option_copied reason.entry) }
+    ensures few { result ≤ 9999 }
+{
+    match reason {
+        Some(reason) => reason.code(),
+        None => 5000,
+    }
+}
+
+/// The session over the tree of the keyring file in these bytes.
+fn read(alloc: Global, file: &[u8]) -> Kept
+    ensures { ReadsFile file.now result }
+{
+    if file.len() > MOST_FILE {
+        return Kept::Refused(Reason::File(FileRefusal::FileTooLong));
+    }
+    match read_tree(alloc, file, Vec::new(alloc)) {
+        Ok(tree) => Kept::Read(Session::new(alloc, DefaultCmm::new(tree))),
+        Err(TreeError::File(refusal)) => Kept::Refused(Reason::File(refusal)),
+        Err(TreeError::Memory) => Kept::Refused(Reason::Memory),
+    }
+}
+
+/// The limits of a reader, of which 0 sets none.
+pub fn settings(max_keys: u16, max_unit: u64, uncommitted: bool) -> Settings {
+    Settings {
+        max_keys: if max_keys == 0 { None } else { Some(max_keys) },
+        max_unit: if max_unit == 0 { None } else { Some(max_unit) },
+        uncommitted,
+    }
+}

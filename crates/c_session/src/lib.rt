@@ -1,0 +1,21 @@
+//! One message at a time, sealed or opened by a caller who holds nothing but bytes: what a program
+//! in another language holds of this library.
+#![tactic(auto)]
+
+mod answer;
+mod beginning;
+mod file_session;
+mod machine;
+mod opening;
+mod reason;
+mod sealing;
+mod session;
+mod telling;
+mod waiting;
+
+pub use answer::Answer;
+pub use file_session::{FileSession, settings};
+pub use reason::Reason;
+pub use session::Session;
+pub use telling::show;
+pub use waiting::Waiting;

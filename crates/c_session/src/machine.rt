@@ -1,0 +1,58 @@
+//! The machine of a session.
+
+ghost use Rattle.std.specs.Prelude.{◌≡◌};
+ghost use Rattle.keyring_trait.specs.Manager.{Went};
+ghost use Rattle.c_session.specs.Machine.{EndsMachine, FeedsMachine};
+
+use crate::opening::OpenMachine;
+use crate::reason::Reason;
+use crate::sealing::{end_sealer, feed_sealer};
+use crate::waiting::Waiting;
+use keyring_trait::Manager;
+use std::alloc::Global;
+use stream_seal::Sealer;
+
+/// What a session does.
+#[derive(Drop)]
+pub(crate) enum Machine {
+    /// It is set up.
+    SetUp,
+    /// It seals a message.
+    Sealing(Sealer),
+    /// It opens a message.
+    Opening(OpenMachine),
+}
+
+/// Takes a piece, of a text or of a message. What it gives waits.
+pub(crate) fn feed_machine<M: Manager>(
+    alloc: Global,
+    machine: &mut Machine,
+    manager: &mut M,
+    waiting: &mut Waiting,
+    piece: &[u8],
+) -> Result<(), Reason>
+    ensures { FeedsMachine M.state machine.old machine.new manager.old manager.new waiting.old
+        waiting.new piece.now result }
+{
+    match machine {
+        Machine::SetUp => Ok(()),
+        Machine::Sealing(sealer) => feed_sealer(sealer, waiting, piece),
+        Machine::Opening(opener) => opener.feed(alloc, manager, waiting, piece),
+    }
+}
+
+/// Says that no byte follows. What that gives waits.
+pub(crate) fn end_machine<M: Manager>(
+    machine: &mut Machine,
+    manager: &M,
+    waiting: &mut Waiting,
+) -> Result<(), Reason>
+    ensures { EndsMachine M.state machine.old machine.new manager.now waiting.old waiting.new
+        result }
+{
+    match machine {
+        Machine::SetUp => Ok(()),
+        Machine::Sealing(sealer) => end_sealer(sealer, waiting),
+        Machine::Opening(opener) => opener.end(manager, waiting),
+    }
+}

@@ -1,0 +1,13 @@
+//! Texts that are shown in a room.
+
+ghost use Rattle.c_session.specs.Telling.{Shows};
+
+/// Writes as much of the text as the room has room for, to its front, and answers how many bytes
+/// the whole text has.
+pub fn show(text: &[u8], room: &mut [u8]) -> usize
+    ensures { Shows text.now room.old result room.new }
+{
+    let count = text.len().min(room.len());
+    room[..count].copy_from_slice(&text[..count]);
+    text.len()
+}

@@ -1,0 +1,16 @@
+//! A handle, as C has it.
+
+ghost use Rattle.std.specs.Prelude.{◌≡◌, true, IsSome};
+
+use crate::held::Held;
+use std::alloc::Global;
+
+/// A handle: what it holds, and whether that is a session.
+#[repr(C)]
+#[derive(Drop)]
+pub struct Handle {
+    pub(crate) held: Held,
+    pub(crate) live: bool,
+    pub(crate) alloc: Global,
+    ghost full: { live ≡ true → IsSome held.home },
+}
