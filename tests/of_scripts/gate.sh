@@ -17,7 +17,7 @@ make_gate() {
     cp "$top/.ci/run" gate/.ci
     make_check tools/checks
     cp "$top/tools/checks" gate/tools
-    for check in tests/scripts tests/outside tests/secrets docs/try_pages vectors/make.py docs/pictures/make docs/trusted with-tools/shellcheck with-tools/mandoc; do
+    for check in tests/scripts tests/outside docs/try_pages vectors/make.py docs/pictures/make docs/trusted with-tools/shellcheck with-tools/mandoc; do
         make_check "$check"
     done
     cat >with-gate/rt <<END
@@ -25,7 +25,7 @@ make_gate() {
 echo "rt \$*" >>"$work/checked"
 . "$work/gate-does"
 END
-    for tool in strace cc valgrind jq python3; do
+    for tool in strace cc jq python3; do
         printf '#!/bin/sh\nexit 0\n' >"gate/with-tools/$tool"
     done
     chmod +x with-gate/rt gate/with-tools/*
@@ -56,14 +56,14 @@ gate_runs() {
     make_gate
     gate 0 '5 passed, 0 failed'
     ended "the gate" 0
-    want "the gate counts the checks" last '14 passed, 0 failed'
+    want "the gate counts the checks" last '13 passed, 0 failed'
     want "the gate shows what rt said" grep -qx 'rt: something proved' output
     want "rt ci, with no more words, comes first" [ "$(head -n 1 checked)" = 'rt ci' ]
     want "each check is run over the program that was built" [ "$(cut -d ' ' -f 1,2 checked | tr -s ' \n' ' ')" = \
-        "rt ci tests/scripts tests/outside tests/secrets docs/try_pages vectors/make.py --check docs/pictures/make --check docs/trusted --check with-tools/shellcheck esdk with-tools/mandoc -T " ]
-    want "over that program alone" [ "$(grep -c " $work/gate/crates/esdk_tool/out/esdk_tool\$" checked)" -eq 9 ]
+        "rt ci tests/scripts tests/outside docs/try_pages vectors/make.py --check docs/pictures/make --check docs/trusted --check with-tools/shellcheck esdk with-tools/mandoc -T " ]
+    want "over that program alone" [ "$(grep -c " $work/gate/crates/esdk_tool/out/esdk_tool\$" checked)" -eq 8 ]
     want "the program is newer than its sources then" [ gate/crates/esdk_tool/out/esdk_tool -nt gate/.ci/run ]
-    want "each check stands under its name" [ "$(grep -c '^== ' output)" -eq 9 ]
+    want "each check stands under its name" [ "$(grep -c '^== ' output)" -eq 8 ]
     for status in 1 2 130; do
         gate "$status" '4 passed, 1 failed'
         ended "the gate where rt ci fails" "$status"
@@ -74,14 +74,14 @@ gate_runs() {
 
 # Each check, failing alone: the others are run, and it is named.
 failing_checks() {
-    for check in tests/scripts tests/outside tests/secrets docs/try_pages vectors/make.py docs/pictures/make docs/trusted shellcheck; do
+    for check in tests/scripts tests/outside docs/try_pages vectors/make.py docs/pictures/make docs/trusted shellcheck; do
         echo 3 >"ends/$(basename "$check")"
         gate 0 '5 passed, 0 failed'
         rm "ends/$(basename "$check")"
         ended "the gate where $check fails" 1
-        want "the gate where $check fails: the others are run" [ "$(wc -l <checked)" -eq 10 ]
+        want "the gate where $check fails: the others are run" [ "$(wc -l <checked)" -eq 9 ]
         want "the gate where $check fails: it is named" grep -qx "FAILED: $check" output
-        want "the gate where $check fails: it is counted" last '13 passed, 1 failed'
+        want "the gate where $check fails: it is counted" last '12 passed, 1 failed'
     done
     printf '#!/bin/sh\necho "mandoc: %s/docs/esdk.1:1:2: STYLE: referenced manual not found: Xr esdk-into 1"\nexit 1\n' "$work" >gate/with-tools/mandoc
     gate 0 '5 passed, 0 failed'
@@ -89,12 +89,12 @@ failing_checks() {
     printf '#!/bin/sh\necho "mandoc: %s/docs/esdk.1:1:2: WARNING: missing section"\nexit 2\n' "$work" >gate/with-tools/mandoc
     gate 0 '5 passed, 0 failed'
     ended "the gate where a page has a fault" 1
-    want "the gate where a page has a fault: it is counted" last '13 passed, 1 failed'
+    want "the gate where a page has a fault: it is counted" last '12 passed, 1 failed'
     make_check with-tools/mandoc
     for said in 'no count' '5 passed, 0 failed (low and the crates below alone: not the gate)'; do
         gate 0 "$said"
         ended "the gate where rt gives no count: $said" 1
-        want "the gate where rt gives no count: $said: that is a failure" last '9 passed, 1 failed'
+        want "the gate where rt gives no count: $said: that is a failure" last '8 passed, 1 failed'
     done
 }
 
@@ -105,14 +105,14 @@ lacking_tools() {
     for name in bash sh env cat tee tail grep sed awk mktemp rm touch chmod dirname basename readlink; do
         ln -s "$(command -v "$name")" few/
     done
-    for tool in strace cc valgrind jq python3 shellcheck mandoc; do
+    for tool in strace cc jq python3 shellcheck mandoc; do
         mv "gate/with-tools/$tool" gate/lacking
         : >checked
         run env -u ESDK PATH="$work/with-gate:$work/gate/with-tools:$work/few" gate/.ci/run
         ended "the gate without $tool" 0
         want "the gate without $tool says so" grep -q "^skipped: .*: no $tool\$" output
         want "the gate without $tool counts what was skipped" grep -q '^[1-9] skipped: ' output
-        want "the gate without $tool counts all others" last "$((5 + 9 - $(grep -c '^skipped: ' output))) passed, 0 failed"
+        want "the gate without $tool counts all others" last "$((5 + 8 - $(grep -c '^skipped: ' output))) passed, 0 failed"
         mv gate/lacking "gate/with-tools/$tool"
     done
     printf '#!/bin/sh\n[ "$1" != -c ]\n' >gate/with-tools/python3
