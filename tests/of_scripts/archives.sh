@@ -136,6 +136,10 @@ archive_faults() {
     cp arc3/2.esdk bad/2.esdk
     cp arc4/index.esdk bad/index.esdk
     faulty "the index of another archive" '[0-9]*.esdk: esdk: M12 ContextMismatch "archive"'
+    for _ in 1 2 3 4 5 6 7 8; do
+        archive check key bad
+        ended "parts that are refused at once" 1
+    done
     cp arc3/1.esdk bad/index.esdk
     faulty "a part as the index" 'index.esdk: it is no index'
     rm bad/index.esdk
