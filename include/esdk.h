@@ -1,5 +1,7 @@
-/* esdk.h: the proved sealer and opener of the AWS Encryption SDK message format, for callers of
- * another language. Messages of format 2.0 are sealed and opened, messages of format 1.0 opened.
+/* esdk.h: a sealer and opener of the AWS Encryption SDK message format, for callers of another
+ * language. Messages of format 2.0 are sealed and opened, messages of format 1.0 opened. The
+ * sessions below the exports are proved; which exports are, and which are tested alone, stands in
+ * docs/PROOFS.md.
  *
  *     esdk_handle handle = ESDK_INIT;
  *     esdk_new(&handle, file, file_len);              the keyring file's bytes

@@ -1,4 +1,4 @@
-"""Seals and opens messages of the AWS Encryption SDK's format, by the proved library libesdk.
+"""Seals and opens messages of the AWS Encryption SDK's format, by libesdk, whose sessions are proved.
 
     ring = esdk.Keyring.from_file("backups.key")
     message, _ = esdk.encrypt(source=b"hello", keyring=ring, encryption_context={"set": "photos"})

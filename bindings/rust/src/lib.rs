@@ -1,4 +1,4 @@
-//! Seals and opens messages of the AWS Encryption SDK's format, by the proved library libesdk.
+//! Seals and opens messages of the AWS Encryption SDK's format, by libesdk, whose sessions are proved.
 //!
 //! ```no_run
 //! use esdk::{Keyring, Opening, Sealing};
