@@ -1,8 +1,9 @@
--- What a source, a sink, a shelf and an entropy tell and count at one moment.
+-- What a source, a sink, a shelf, an entropy and a clock tell and count at one moment.
 use Rattle.std.specs.Prelude.{◌≡◌, ◌⊎◌, ℕ, List, Bool, true, ⊤}
 use Rattle.std.specs.Prelude.{Option, Some, None}
 use Rattle.esdk_fields.specs.Counts.{Rose}
 use Rattle.esdk_seen.specs.Calls.{ShelfCall}
+use Rattle.esdk_base.specs.Clock.{Moments}
 use Rattle.esdk_base.specs.Shelf.{Files, is_missing}
 
 -- the bytes left, and the counts of bytes given and of faults; the bytes that came so far, and that
@@ -31,6 +32,12 @@ pub record EntropyState : Type 0 where
   pub to_come : Option (List ℕ)
   pub faults : ℕ
   pub drawn : List ℕ
+
+-- the moments to come, and the one that stays behind them; the moments that were given so far, in
+-- their order
+pub record ClockState : Type 0 where
+  pub moments : Option Moments
+  pub given : List ℕ
 
 -- why a file can't be read: the shelf failed, or tells that the name isn't there
 abbrev pub FailsToRead : ShelfState → ShelfState → List ℕ → Type 0

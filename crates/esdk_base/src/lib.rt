@@ -4,9 +4,10 @@
 //! the front to the end; a `Shelf` holds files by their names; an `Entropy` gives random bytes; a
 //! `Clock` gives the moment. Each has a meaning, as the bytes left, the bytes written, the files,
 //! the bytes to come or the moments to come, which an object may tell or not, and all but the clock
-//! a count of their faults. The adapters over the system's files, streams, generator and clock tell
-//! no content, and are a crate of their own, `esdk_system`; so are forms in memory that tell
-//! everything, `esdk_memory`.
+//! a count of their faults. What went through it each object tells, but a sink: the bytes that came,
+//! the calls of a shelf, the bytes drawn, the moments given. The adapters over the system's files,
+//! streams, generator and clock are a crate of their own, `esdk_system`; so are forms in memory
+//! that tell everything, `esdk_memory`.
 //!
 //! A `Receiver` is what a machine's bytes go into, piece by piece: each sink is one, and what else
 //! takes bytes can be one too.

@@ -1,4 +1,4 @@
--- A step that the proofs by hand of src/bytes.rt share: what is made has no field. Assumes `Logic`.
+-- A step that the proofs by hand of this crate share: what is made has no field. Assumes `Logic`.
 use Rattle.std.proofs.Common.{List, [], ◌∷◌, refl}
 use seplogic.Ra.Ura.{Ura}
 use mir.Val.{Val, vstruct, vnil}

@@ -7,6 +7,8 @@
 
 mod bytes;
 mod calls;
+mod moments;
 
 pub use bytes::SeenBytes;
 pub use calls::{Call, SeenCalls};
+pub use moments::SeenMoments;

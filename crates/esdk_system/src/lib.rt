@@ -1,9 +1,10 @@
 //! The real outside of `esdk`: the system's files, streams, generator and clock, behind the traits
 //! of `esdk_base`.
 //!
-//! What a contract can say of a real file or stream is little: each adapter counts its failures. A
-//! sink tells what its writer took since it was made; the others tell no content. What they do
-//! beyond that is tested over the real system.
+//! What a contract can say of a real file or stream is little: each adapter but the clock counts its
+//! failures, and each tells what went through it since it was made: the bytes that came, were taken
+//! or were drawn, the calls of a shelf, the moments given. What a file or a stream holds, and what
+//! is to come, none of them tells. What they do beyond that is tested over the real system.
 #![tactic(auto)]
 
 mod file_shelf;
