@@ -1,5 +1,5 @@
 -- A sealer that is fed a piece step by step, and what it gives, which a receiver takes.
-use Rattle.std.proofs.Common.{◌≡◌, ◌∙◌, ℕ, ◌≤◌, List, [], ◌++◌, length, drop, Bool, true, false, ◌==◌, Result, Ok, Err, refl, sym, subst, arith, length-append}
+use Rattle.std.proofs.Common.{◌≡◌, ◌∙◌, ℕ, ◌≤◌, List, [], ◌++◌, length, drop, Bool, true, false, ◌==◌, Result, Ok, Err, refl, sym, ap, subst, arith, length-append}
 use Rattle.std.proofs.lemmas.Bool.{eqb-false, eqb-true}
 use Rattle.std.proofs.lemmas.List.{nil_from_length}
 use Rattle.esdk_base.specs.declared.receiver.FeedError.{FeedError}
@@ -26,6 +26,12 @@ pub none_left : (rest : List ℕ) (empty : Bool) → empty ≡ (length rest == 0
     → rest ≡ []
 none_left rest empty is is_empty =
     nil_from_length rest (eqb-true (length rest) 0 (sym is ∙ is_empty))
+
+-- something is left, and nothing can be
+pub some_of_none : {So : Type 0} (rest : List ℕ) (empty : Bool) → empty ≡ (length rest == 0)
+    → empty ≡ false → rest ≡ [] → So
+some_of_none rest empty is not_empty none =
+    absurd (let more = some_left rest empty is not_empty in omega (arith, more, ap length none))
 
 -- ---- a session that is finished
 

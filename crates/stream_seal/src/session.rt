@@ -1,6 +1,6 @@
 //! A message that is sealed piece by piece.
 
-ghost use Rattle.std.specs.Prelude.{◌≡◌, ◌-◌, ◌<◌, ◌≤◌, true, false, length, None, Err, IfErr, IfOk, OnOk};
+ghost use Rattle.std.specs.Prelude.{◌≡◌, ◌-◌, ◌<◌, ◌≤◌, true, false, length, [], None, Ok, Err, IfErr, IfOk, OnOk};
 ghost use Rattle.esdk_base.specs.declared.receiver.FeedError.TheVariants.{Machine};
 ghost use Rattle.stream_seal.specs.declared.errors.SealError.TheVariants.{Stopped};
 ghost use Rattle.stream_seal.specs.Feeding.{IsFeeding};
@@ -179,6 +179,7 @@ impl Sealer {
     /// all their frames but the last handed over. `Receiver`, where the receiver failed at a frame;
     /// it isn't asked again. `Stopped`, exactly where the sealer had stopped before; then the
     /// receiver isn't asked. After Ok it goes on, whatever it was fed before, and by `step`, too.
+    /// Where it hasn't stopped, an empty piece changes nothing: what a step gave isn't handed over.
     pub fn feed<R: Receiver>(
         &mut self,
         piece: &[u8],
@@ -190,6 +191,8 @@ impl Sealer {
             → (result ≡ Err (Machine Stopped)) × (output.new ≡ output.old) }
         ensures on { (v : SealingValue) → Stands self.old v → v.stopped ≡ false
             → FeedsOn R.takes R.fails v piece.now output.old output.new self.new result }
+        ensures empty { piece.now ≡ [] → self.old.stopped ≡ false
+            → (result ≡ Ok tt) × (self.new ≡ self.old) × (output.new ≡ output.old) }
     {
         if self.stopped {
             return Err(FeedError::Machine(SealError::Stopped));

@@ -1,6 +1,6 @@
-use Rattle.std.proofs.Common.{[]}
+use Rattle.std.proofs.Common.{[], refl}
 use Rattle.std.proofs.lemmas.Result.{err_from_is_err_and}
-use Rattle.stream_seal.proofs.FedReceivers.{feeding_ends, feeding_more, feeding_none, fails_on, none_left, receiver_fails, refuses_on, some_left, step_fails}
+use Rattle.stream_seal.proofs.FedReceivers.{feeding_ends, feeding_more, feeding_none, fails_on, none_left, receiver_fails, refuses_on, some_left, some_of_none, step_fails}
 use Rattle.stream_seal.proofs.FedSealers.{going_begins, going_ends, going_fails, going_more}
 use Rattle.stream_seal.proofs.session.Sealer.feed.Goals as goal
 
@@ -11,6 +11,7 @@ loop-left-init g c = record {
       c.args.piece.now c.args.output.now c.args.self.now stands is;
   still = λ v stands on. going_begins v c.args.piece.now c.args.self.now stands on;
   handed = λ v stands on. ([], g.met.R.Receiver.takes_none c.args.output.now);
+  empty = λ none. (none, refl, refl);
 }
 
 pub returns-in-Err-clause-feeds : goal.returns-in-Err-clause-feeds
@@ -53,7 +54,21 @@ loop-left-preserved g c = record {
       let took = c.loop-left.invariant.handed v stands on in
       let after = c.step.ensures.stands before.session before.stands in
       (_, g.met.R.Receiver.takes_more _ _ _ took.0 _ took.1 (c.in_ok-hand_out.ensures _ after).0));
+  empty = λ none.
+      some_of_none c.loop-left.left.now c.is_empty.result c.is_empty.ensures c.loop-left-test.true (c.loop-left.invariant.empty none).0;
 }
+
+pub returns-clause-empty : goal.returns-clause-empty
+returns-clause-empty g c = λ none on.
+    let same = c.loop-left.invariant.empty none in (refl, same.1, same.2)
+
+pub returns-in-Err-clause-empty : goal.returns-in-Err-clause-empty
+returns-in-Err-clause-empty g c = λ none on.
+    some_of_none c.loop-left.left.now c.is_empty.result c.is_empty.ensures c.loop-left-test.true (c.loop-left.invariant.empty none).0
+
+pub returns-in_err-hand_out-clause-empty : goal.returns-in_err-hand_out-clause-empty
+returns-in_err-hand_out-clause-empty g c = λ none on.
+    some_of_none c.loop-left.left.now c.is_empty.result c.is_empty.ensures c.loop-left-test.true (c.loop-left.invariant.empty none).0
 
 pub returns-clause-feeds : goal.returns-clause-feeds
 returns-clause-feeds g c = λ v stands is.

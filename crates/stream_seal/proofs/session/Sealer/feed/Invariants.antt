@@ -1,4 +1,4 @@
-use Rattle.std.proofs.Common.{◌≡◌, ℕ, List, false, length}
+use Rattle.std.proofs.Common.{◌≡◌, ℕ, List, [], false, length}
 use Rattle.stream_seal.specs.Feeding.{IsFeeding}
 use Rattle.stream_seal.specs.Session.{SealingValue}
 use Rattle.stream_seal.specs.Stands.{Stands, work_of}
@@ -14,6 +14,7 @@ invariant-loop-left g l = record {
       → GoesOn v l.piece l.self l.left;
   handed : (v : SealingValue) → Stands l.fn.self v → v.stopped ≡ false
       → (given : List ℕ) × g.R.Receiver.takes l.fn.output l.output given;
+  empty : l.piece ≡ [] → (l.left ≡ []) × (l.self ≡ l.fn.self) × (l.output ≡ l.fn.output);
 }
 
 abbrev pub decreases-loop-left : goal.decreases-loop-left
