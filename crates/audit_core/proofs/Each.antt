@@ -1,5 +1,5 @@
 -- One message more.
-use Rattle.std.proofs.Common.{◌≡◌, ◌∙◌, ℕ, ◌+◌, ◌<◌, List, [], ◌∷◌, ◌++◌, length, take, drop, get_or, refl, sym, ap, subst, arith}
+use Rattle.std.proofs.Common.{◌≡◌, ◌∙◌, ℕ, ◌+◌, ◌<◌, List, [], ◌∷◌, ◌++◌, length, take, drop, get_or, Ok, Err, inl, inr, refl, sym, ap, subst, arith}
 use Rattle.std.proofs.lemmas.List.{drop_more, length-map, take-append-drop, take_more}
 use Rattle.esdk_base.specs.Streams.{ShelfState}
 use Rattle.header_codec.specs.Header.{HeaderValue}
@@ -8,11 +8,10 @@ use Rattle.keyring_trait.specs.Keyring.{KeyringMeaning}
 use Rattle.multi_keyring.specs.Tree.{all_faults}
 use Rattle.job_file.specs.declared.audit.AuditMessage.{AuditMessage}
 use Rattle.esdk_report.specs.declared.failure.Failure.{Failure}
-use Rattle.esdk_report.specs.declared.failure.Failure.TheVariants as failures
 use Rattle.audit_core.specs.declared.audited.Audited.{Audited}
 use Rattle.audit_core.specs.declared.audited.Audited.TheVariants.{OpenedBy, Fault}
 use Rattle.audit_core.specs.Asking.{LeafAnswer, NamesOpeners}
-use Rattle.audit_core.specs.MessageFiles.{FindsEach, FindsFirst, FindsNotEach, FindsNotOf, FindsOf}
+use Rattle.audit_core.specs.MessageFiles.{FindsEach, FindsNotEach, FindsNotOf, FindsOf, HasNoMemory}
 
 -- ---- as many leaves
 
@@ -75,9 +74,9 @@ module _ (messages : List AuditMessage) (i : ℕ) (m : AuditMessage) (lt : i < l
       (subst (λ (l : List AuditMessage). FindsEach old new before after l (xs ++ x ∷ [])) (sym taken) (last_found old mid new before between after (take i messages) xs m x each found))
 
   -- or nothing is found of it
-  stops : (old mid new : ShelfState) (before between : List KeyringMeaning) (counted after : ℕ) (xs : List Audited) (failure : Failure) → counted ≡ all_faults between
-      → FindsEach old mid before between (take i messages) xs → FindsNotOf mid new counted after m failure → FindsFirst old new before after messages failure
-  stops old mid new before between counted after xs failure counts each fails = record {
+  pub not_found : (old mid new : ShelfState) (before between : List KeyringMeaning) (counted after : ℕ) (xs : List Audited) (failure : Failure) → counted ≡ all_faults between
+      → FindsEach old mid before between (take i messages) xs → FindsNotOf mid new counted after m failure → FindsNotEach old new before after messages failure
+  not_found old mid new before between counted after xs failure counts each fails = record {
     done = take i messages;
     message = m;
     behind = drop (i + 1) messages;
@@ -89,13 +88,10 @@ module _ (messages : List AuditMessage) (i : ℕ) (m : AuditMessage) (lt : i < l
     fails = subst (λ (n : ℕ). FindsNotOf mid new n after m failure) counts fails;
   }
 
-  pub not_found : (old mid new : ShelfState) (before between : List KeyringMeaning) (counted after : ℕ) (xs : List Audited) (failure : Failure) → counted ≡ all_faults between
-      → FindsEach old mid before between (take i messages) xs → FindsNotOf mid new counted after m failure → FindsNotEach old new before after messages failure
-  not_found old mid new before between counted after xs failures.Memory counts each fails = tt
-  not_found old mid new before between counted after xs failures.NotRead counts each fails = stops old mid new before between counted after xs failures.NotRead counts each fails
-  not_found old mid new before between counted after xs (failures.BadNumber name) counts each fails = stops old mid new before between counted after xs (failures.BadNumber name) counts each fails
-  not_found old mid new before between counted after xs (failures.BadPair number) counts each fails = stops old mid new before between counted after xs (failures.BadPair number) counts each fails
-  not_found old mid new before between counted after xs (failures.Fault fault) counts each fails = stops old mid new before between counted after xs (failures.Fault fault) counts each fails
-  not_found old mid new before between counted after xs (failures.File refusal) counts each fails = stops old mid new before between counted after xs (failures.File refusal) counts each fails
-  not_found old mid new before between counted after xs (failures.Outside outside) counts each fails = stops old mid new before between counted after xs (failures.Outside outside) counts each fails
-  not_found old mid new before between counted after xs (failures.Refusal refusal) counts each fails = stops old mid new before between counted after xs (failures.Refusal refusal) counts each fails
+-- ---- memory runs out
+
+-- what was found has no room
+pub lacks_room : (old new : ShelfState) (before after : List KeyringMeaning) (m : AuditMessage) (x : Audited) → FindsOf old new before after m x → HasNoMemory old new m.from
+lacks_room old new before after m (OpenedBy openers) found = inr (Ok found.header, found.has)
+lacks_room old new before after m (Fault fault) (inl has, same) = inr (Err fault, has)
+lacks_room old new before after m (Fault fault) (inr has, same) = inr (Ok has.header, has.has)

@@ -13,14 +13,14 @@ use Rattle.esdk_base.specs.Shelf.{Files, Holds, is_missing}
 use Rattle.esdk_base.specs.Streams.{FailsToRead, ShelfState, SourceState}
 use Rattle.header_codec.specs.Header.{HeaderValue}
 use Rattle.header_codec.specs.Table.{header, opening}
-use Rattle.header_input.specs.Taking.{EndCame, FaultCame, IsTooLong, ReadFailed}
+use Rattle.header_input.specs.Taking.{EndCame, FaultCame, IsTooLong, LacksMemory, ReadFailed}
 use Rattle.whole_input.specs.FileReads.{ComesFrom, ReadsRow, SeesEnd}
 use Rattle.whole_input.specs.FileSource.{ReadsOn, file_left, left_from}
 use Rattle.whole_input.specs.Taken.{Came}
 use Rattle.esdk_report.specs.declared.failure.Failure.{Failure}
 use Rattle.esdk_report.specs.declared.failure.Failure.TheVariants as failures
 use Rattle.audit_core.specs.Messages.{no_limits}
-use Rattle.audit_core.specs.MessageFiles.{FindsHeader, FindsNoHeader, HasHeaderFault, HasHeader, IsCut, IsEndless, HeaderUnread, ReadsWell, ReadsFront}
+use Rattle.audit_core.specs.MessageFiles.{FindsHeader, FindsNoHeader, HasHeaderFault, HasHeader, IsCut, IsEndless, HeaderLacksMemory, HeaderUnread, ReadsWell, ReadsFront}
 use Rattle.audit_core.specs.Taking.{HeaderCame, TakesHeader, TakesNone}
 
 -- the source of a file that came so far and failed so often, and what came from it
@@ -161,10 +161,18 @@ module _ (old new : ShelfState) (name : List ℕ) (at count : ℕ) (came : List 
   came_endless found =
       record { bytes = found.bytes; read = reads_front old new name at count came ended on comes found.bytes found.came; wanting = found.wanting; count = found.most.count }
 
+  came_lacking : LacksMemory no_limits (source_at old name 0 0 [] false) (source_at new name at count came ended) → HeaderLacksMemory old new name
+  came_lacking found = record {
+    bytes = found.bytes;
+    read = reads_front old new name at count came ended on comes found.bytes found.came;
+    last = found.last;
+    faults = on.same found.faults (omega (arith, found.faults));
+  }
+
   takes_none : (failure : Failure) → at ≤ 2 ^ 62 → TakesNone (source_at old name 0 0 [] false) (source_at new name at count came ended) failure → FindsNoHeader old new name failure
   takes_none (failures.Outside outsides.ShelfFault) few came = came_unread came few
   takes_none (failures.Outside outsides.InputTooLong) few came = came_endless came
-  takes_none failures.Memory few came = tt
+  takes_none failures.Memory few came = came_lacking came
   takes_none (failures.Outside outside) few came = absurd came
   takes_none failures.NotRead few came = absurd came
   takes_none (failures.BadNumber option) few came = absurd came

@@ -19,7 +19,7 @@ use Rattle.keyring_trait.specs.Unlocking.{pair_offence}
 use Rattle.multi_keyring.specs.Tree.{all_faults}
 use Rattle.whole_input.specs.File.{IsFront}
 use Rattle.whole_input.specs.FileReads.{ReadsRow, SeesEnd}
-use Rattle.whole_input.specs.Pieces.{most_piece}
+use Rattle.whole_input.specs.Pieces.{APieceBehind, most_piece}
 use Rattle.job_file.specs.declared.audit.AuditMessage.{AuditMessage}
 use Rattle.esdk_report.specs.declared.failure.Failure.{Failure}
 use Rattle.esdk_report.specs.declared.failure.Failure.TheVariants as failures
@@ -91,11 +91,19 @@ pub record IsEndless (old new : ShelfState) (name : List ℕ) : Type 0 where
   pub wanting : header no_limits (start bytes) ≡ Wanting
   pub count : length bytes ≡ 2 ^ 62
 
--- why there is neither; want of memory is free
+-- Memory ran out before the first read or at the last piece that was read; what was read before it
+-- is the beginning of a header, and no read failed.
+pub record HeaderLacksMemory (old new : ShelfState) (name : List ℕ) : Type 0 where
+  pub bytes : List ℕ
+  pub read : ReadsFront old new name bytes
+  pub last : APieceBehind (λ before. header no_limits (start before) ≡ Wanting) bytes
+  pub faults : new.faults ≡ old.faults
+
+-- why there is neither
 abbrev pub FindsNoHeader : ShelfState → ShelfState → (name : List ℕ) → Failure → Type 0
 FindsNoHeader old new name (failures.Outside outsides.ShelfFault) = HeaderUnread old new name
 FindsNoHeader old new name (failures.Outside outsides.InputTooLong) = IsEndless old new name
-FindsNoHeader old new name failures.Memory = ⊤
+FindsNoHeader old new name failures.Memory = HeaderLacksMemory old new name
 FindsNoHeader old new name failure = ⊥
 
 -- ---- one message
@@ -129,12 +137,18 @@ pub record LeafFails (old new : ShelfState) (before after : ℕ) (m : AuditMessa
   pub sound : pair_offence header.stored m.given [] ≡ None
   pub rose : Rose before after
 
+-- memory ran out while the header wasn't whole, or once it or its fault was found
+abbrev pub HasNoMemory : ShelfState → ShelfState → (name : List ℕ) → Type 0
+HasNoMemory old new name = HeaderLacksMemory old new name
+    ⊎ ((found : Result HeaderValue faults.Fault) × FindsHeader old new name found)
+
 -- why nothing was found of a message, where so many faults of the tree were counted before and
 -- after
 abbrev pub FindsNotOf : ShelfState → ShelfState → (before after : ℕ) → AuditMessage → Failure
     → Type 0
 FindsNotOf old new before after m (failures.Outside outsides.KeyringFault) =
     LeafFails old new before after m
+FindsNotOf old new before after m failures.Memory = HasNoMemory old new m.from
 FindsNotOf old new before after m failure = FindsNoHeader old new m.from failure
 
 -- ---- each of them
@@ -157,7 +171,7 @@ FindsEach old new before after (m ∷ ms) (x ∷ xs) =
     FirstFound old new before m x (λ between leaves. FindsEach between new leaves after ms xs)
 
 -- It was found of the first messages, and not of the one behind them, for this reason.
-pub record FindsFirst (old new : ShelfState) (before : List KeyringMeaning) (after : ℕ)
+pub record FindsNotEach (old new : ShelfState) (before : List KeyringMeaning) (after : ℕ)
     (messages : List AuditMessage) (failure : Failure) : Type 0 where
   pub done : List AuditMessage
   pub message : AuditMessage
@@ -168,13 +182,6 @@ pub record FindsFirst (old new : ShelfState) (before : List KeyringMeaning) (aft
   pub leaves : List KeyringMeaning
   pub each : FindsEach old between before leaves done found
   pub fails : FindsNotOf between new (all_faults leaves) after message failure
-
--- why it wasn't found of each; want of memory is free
-abbrev pub FindsNotEach : ShelfState → ShelfState → (before : List KeyringMeaning) → (after : ℕ)
-    → List AuditMessage → Failure → Type 0
-FindsNotEach old new before after messages failures.Memory = ⊤
-FindsNotEach old new before after messages failure =
-    FindsFirst old new before after messages failure
 
 -- ---- files that the shelf tells
 

@@ -1,5 +1,5 @@
 -- What a source gave when the header of a message was taken from it.
-use Rattle.std.specs.Prelude.{◌≡◌, ◌⊎◌, ◌+◌, ◌<◌, ℕ, List, length, ⊤, Result, Ok, Err}
+use Rattle.std.specs.Prelude.{◌≡◌, ◌⊎◌, ◌+◌, ◌<◌, ℕ, List, length, Result, Ok, Err}
 use Rattle.esdk_fields.specs.declared.faults.Fault.{Fault}
 use Rattle.esdk_fields.specs.declared.faults.Fault.TheVariants.{Truncated}
 use Rattle.esdk_fields.specs.declared.refusals.Outside.TheVariants as outsides
@@ -7,7 +7,7 @@ use Rattle.esdk_fields.specs.Place.{Place}
 use Rattle.esdk_base.specs.Streams.{SourceState}
 use Rattle.header_codec.specs.Header.{HeaderValue}
 use Rattle.header_codec.specs.Table.{BeginsWith}
-use Rattle.header_input.specs.Taking.{EndCame, FaultCame, IsTooLong, ReadFailed}
+use Rattle.header_input.specs.Taking.{EndCame, FaultCame, IsTooLong, LacksMemory, ReadFailed}
 use Rattle.whole_input.specs.Pieces.{most_piece}
 use Rattle.whole_input.specs.Taken.{Came}
 use Rattle.esdk_report.specs.declared.failure.Failure.{Failure}
@@ -30,9 +30,9 @@ TakesHeader old new (Ok h) = HeaderCame h old new
 TakesHeader old new (Err fault) =
     FaultCame no_limits fault old new ⊎ ((fault ≡ Truncated) × EndCame no_limits old new)
 
--- why there is neither, of a file; want of memory is free
+-- why there is neither, of a file
 abbrev pub TakesNone : SourceState → SourceState → Failure → Type 0
 TakesNone old new (failures.Outside outsides.ShelfFault) = ReadFailed no_limits old new
 TakesNone old new (failures.Outside outsides.InputTooLong) = IsTooLong no_limits old new
-TakesNone old new failures.Memory = ⊤
+TakesNone old new failures.Memory = LacksMemory no_limits old new
 TakesNone old new failure = ⊥

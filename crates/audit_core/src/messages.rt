@@ -27,7 +27,9 @@ use whole_input::{End, FileSource};
 ///
 /// The first failure ends it: `ShelfFault` where a read failed or the file isn't there,
 /// `InputTooLong` where 2^62 bytes are the beginning of a header, `KeyringFault` where a leaf
-/// failed, whichever others open, `Memory` where memory runs out.
+/// failed, whichever others open, `Memory` where memory runs out. That is before the first read of
+/// a file, at the last piece that was read of it, behind the beginning of a header, or once its
+/// header or its fault was found.
 pub fn audit_messages<P: Keyring, F: Shelf>(
     alloc: Global,
     node: &mut Node<P>,

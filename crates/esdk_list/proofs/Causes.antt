@@ -46,7 +46,7 @@ input_cause uncommitted old new (errors.End ends.Seen) came = record {
 }
 input_cause uncommitted old new (errors.End ends.Failed) came = came
 input_cause uncommitted old new (errors.End ends.TooLong) came = came
-input_cause uncommitted old new errors.Memory came = tt
+input_cause uncommitted old new errors.Memory came = inl came
 
 -- and why `list` ends
 pub list_cause : (uncommitted : Bool) (old new : SourceState) (before now : SinkState) (error : NoHeader) → NoneCame (limits_of uncommitted) old new error
@@ -55,4 +55,4 @@ list_cause uncommitted old new before now (errors.Fault fault) came = input_caus
 list_cause uncommitted old new before now (errors.End ends.Seen) came = input_cause uncommitted old new (errors.End ends.Seen) came
 list_cause uncommitted old new before now (errors.End ends.Failed) came = came
 list_cause uncommitted old new before now (errors.End ends.TooLong) came = came
-list_cause uncommitted old new before now errors.Memory came = tt
+list_cause uncommitted old new before now errors.Memory came = inl came

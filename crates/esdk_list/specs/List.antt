@@ -1,5 +1,5 @@
 -- What `list` makes of its input.
-use Rattle.std.specs.Prelude.{◌≡◌, ◌⊎◌, ◌+◌, ◌<◌, ℕ, Bool, List, length, Option, Some, None, ⊤}
+use Rattle.std.specs.Prelude.{◌≡◌, ◌⊎◌, ◌+◌, ◌<◌, ℕ, Bool, List, length, Option, Some, None}
 use Rattle.std.specs.Io.KnownBytes.{Appends}
 use Rattle.esdk_fields.specs.Counts.{Rose}
 use Rattle.esdk_base.specs.Sink.{AppendsFront}
@@ -17,7 +17,7 @@ use Rattle.esdk_list.specs.Listing.{list_of}
 use Rattle.esdk_base.specs.Streams.{OnTold, SinkState, SourceState}
 use Rattle.header_input.specs.declared.errors.NoHeader.{NoHeader}
 use Rattle.header_input.specs.declared.errors.NoHeader.TheVariants as errors
-use Rattle.header_input.specs.Taking.{EndCame, FaultCame, IsTooLong, ReadFailed}
+use Rattle.header_input.specs.Taking.{EndCame, FaultCame, IsTooLong, LacksMemory, ReadFailed}
 use Rattle.whole_input.specs.declared.pieces.End.TheVariants as ends
 use Rattle.whole_input.specs.Taken.{Came}
 
@@ -87,6 +87,11 @@ pub record HasFault (uncommitted : Bool) (fault : Fault) (old new : SourceState)
       ⊎ ((fault ≡ Truncated) × EndCame (limits_of uncommitted) old new)
   pub told : OnTold old.left (λ bytes. input_fault uncommitted bytes ≡ Some fault)
 
+-- memory ran out while the header wasn't whole, or once it was
+abbrev pub HasNoMemory : Bool → SourceState → SourceState → Type 0
+HasNoMemory uncommitted old new = LacksMemory (limits_of uncommitted) old new
+    ⊎ ((h : HeaderValue) × HeaderCame uncommitted h old new)
+
 -- why the input is refused so
 abbrev pub IsInputCause : Bool → Failure → SourceState → SourceState → Type 0
 IsInputCause uncommitted (failures.Fault fault) old new = HasFault uncommitted fault old new
@@ -94,7 +99,7 @@ IsInputCause uncommitted (failures.Outside outsides.SourceFault) old new =
     ReadFailed (limits_of uncommitted) old new
 IsInputCause uncommitted (failures.Outside outsides.InputTooLong) old new =
     IsTooLong (limits_of uncommitted) old new
-IsInputCause uncommitted failures.Memory old new = ⊤
+IsInputCause uncommitted failures.Memory old new = HasNoMemory uncommitted old new
 IsInputCause uncommitted failure old new = ⊥
 
 -- why `list` ends so, by what the input and the output did

@@ -58,20 +58,22 @@ pub extract_ends_allowed : (from to : Answering) (settings : Settings) (given : 
     → ExtractEnds (asked_of from settings given) range old new name output put unwritten error → ExtractEnds (asked_of to settings given) range old new name output put unwritten error
 extract_ends_allowed from to settings given range old new name output put unwritten (errors.Fault fault) allows ends = record {
   there = ends.there;
+  faults = ends.faults;
   writes = λ b held.
       let w = ends.writes b held in
       record { answer = w.answer; answered = answers_allowed from to settings given b w.answer allows w.answered; fault_is = w.fault_is; gained = w.gained; read = w.read };
 }
 extract_ends_allowed from to settings given range old new name output put unwritten (errors.Outside outsides.SourceFault) allows ends = absurd ends
 extract_ends_allowed from to settings given range old new name output put unwritten (errors.Outside outsides.SinkFault) allows ends =
-    record { there = ends.there; rose = ends.rose; writes = λ b held. front_allowed from to settings given range old new output put b allows (ends.writes b held) }
+    record { there = ends.there; faults = ends.faults; rose = ends.rose; writes = λ b held. front_allowed from to settings given range old new output put b allows (ends.writes b held) }
 extract_ends_allowed from to settings given range old new name output put unwritten (errors.Outside outsides.ShelfFault) allows ends =
     (ends.0, less_allowed from to settings given range old new name output put unwritten allows ends.1)
 extract_ends_allowed from to settings given range old new name output put unwritten (errors.Outside outsides.EntropyFault) allows ends = absurd ends
 extract_ends_allowed from to settings given range old new name output put unwritten (errors.Outside outsides.KeyringFault) allows ends =
     record { header = ends.header; has = ends.has; failed = allows.finds_none _ managers.KeyringFault ends.failed; same = ends.same }
 extract_ends_allowed from to settings given range old new name output put unwritten (errors.Outside outsides.InputTooLong) allows ends = absurd ends
-extract_ends_allowed from to settings given range old new name output put unwritten errors.Memory allows ends = less_allowed from to settings given range old new name output put unwritten allows ends
+extract_ends_allowed from to settings given range old new name output put unwritten errors.Memory allows ends =
+    (ends.0, less_allowed from to settings given range old new name output put unwritten allows ends.1)
 
 -- the same of a result
 pub extracts_more : (from to : Answering) (settings : Settings) (given : List KeyValue) (range : ByteRange) (old new : ShelfState) (name : List ℕ) (output put : SinkState) (r : Result ℕ ExtractError) → Allows from to

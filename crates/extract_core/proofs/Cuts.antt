@@ -1,7 +1,7 @@
 -- Parts of lists, cut in two ways.
-use Rattle.std.proofs.Common.{◌≡◌, ℕ, ◌+◌, ◌-◌, List, [], take, drop, refl, sym, ap, ◌∙◌, arith, inl, inr}
+use Rattle.std.proofs.Common.{◌≡◌, ℕ, ◌+◌, ◌-◌, min, List, [], length, take, drop, refl, sym, ap, ◌∙◌, arith, inl, inr}
 use Rattle.std.proofs.lemmas.Bool.{cases_lt}
-use Rattle.std.proofs.lemmas.List.{drop-take, drop-drop, drop_all, length-take}
+use Rattle.std.proofs.lemmas.List.{drop-take, drop-drop, drop_all, length-drop, length-take, take_all}
 
 take_none : (n : ℕ) (l : List ℕ) → n ≡ 0 → take n l ≡ []
 take_none n l e = rw e refl
@@ -21,3 +21,28 @@ skipped begin end count l =
     ap (λ (n : ℕ). take n (drop (begin + count) l)) e
     ∙ sym (ap (take (end - begin - count)) (drop-drop count begin l))
     ∙ sym (drop_cut count (end - begin) (drop begin l))
+
+-- a front as long as there are bytes
+front_short : (n m : ℕ) (l : List ℕ) → n ≡ min m (length l) → take n l ≡ take m l
+front_short n m l is =
+    elim (cases_lt (length l) m) [
+      | inl short ↦ take_all n l (omega (arith, is, short)) ∙ sym (take_all m l (omega arith))
+      | inr long ↦ (let e : n ≡ m = omega (arith, is, long) in ap (λ (k : ℕ). take k l) e)
+    ]
+
+-- what is behind a place that is within the bytes
+rest_short : (n m : ℕ) (l : List ℕ) → n ≡ min m (length l) → drop n l ≡ drop m l
+rest_short n m l is =
+    elim (cases_lt (length l) m) [
+      | inl short ↦ drop_all n l (omega (arith, is, short)) ∙ sym (drop_all m l (omega arith))
+      | inr long ↦ (let e : n ≡ m = omega (arith, is, long) in ap (λ (k : ℕ). drop k l) e)
+    ]
+
+-- the bytes between two places that are within them
+pub cut_within : (from behind begin end : ℕ) (l out : List ℕ) → l ≡ out → end ≡ min behind (length l) → begin ≡ min from end → take (length (take end l) - begin) (drop begin (take end l)) ≡ drop from (take behind out)
+cut_within from behind begin end l out same end_is begin_is =
+    let long : length (take end l) ≡ end = length-take end l ∙ omega (arith, end_is) in
+    take_all (length (take end l) - begin) (drop begin (take end l)) (omega (arith, length-drop begin (take end l)))
+    ∙ rest_short begin from (take end l) (omega (arith, begin_is, long))
+    ∙ ap (drop from) (front_short end behind l end_is)
+    ∙ ap (λ (x : List ℕ). drop from (take behind x)) same

@@ -1,7 +1,6 @@
 -- What an extraction comes to, once the file's header is known and the manager was asked about it.
 use Rattle.std.proofs.Common.{◌≡◌, ℕ, ◌+◌, ◌-◌, ◌≤◌, Bool, true, false, List, length, drop, Option, Some, None, Result, Ok, Err, IfOk, IfErr, refl, sym, ap, subst, ◌∙◌, arith, inl, inr, mul-le-mul_right}
 use Rattle.std.specs.Prelude.{◌==◌, if◌then◌else◌}
-use Rattle.std.specs.Result.{IsErrAnd}
 use Rattle.esdk_base.specs.Sink.{AppendsFront}
 use Rattle.std.specs.Io.KnownBytes.{Appends}
 use Rattle.std.proofs.KnownBytes.{Appends-nil}
@@ -33,7 +32,7 @@ use Rattle.extract_core.specs.declared.errors.ExtractError.{ExtractError}
 use Rattle.extract_core.specs.declared.errors.ExtractError.TheVariants as errors
 use Rattle.extract_core.specs.declared.slots.Slots.{Slots}
 use Rattle.extract_core.specs.Extracted.{ByteRange, Extraction, OpenBody, body_behind, extracted, extracted_body, extracted_header, extracted_lock, extracted_reading, nothing, slot_count, slot_width, slots_taken}
-use Rattle.extract_core.specs.Extract.{ExtractEnds, Extracts, HasHeader, HasNoHeader, IsHeaderOf, OnFile, UnlessMemory, WritesBefore, WritesFront, WritesLess, answer_reach, body_begin, header_fault_at_end, header_reach, lock_reach, locked_as, most_header, most_read, most_taken, named_reach, taken_reach}
+use Rattle.extract_core.specs.Extract.{ExtractEnds, Extracts, HasHeader, HasNoHeader, IsHeaderOf, OnFile, WritesBefore, WritesFront, WritesLess, answer_reach, body_begin, header_fault_at_end, header_reach, lock_reach, locked_as, most_header, most_read, most_taken, named_reach, taken_reach}
 use Rattle.extract_core.specs.Slots.{AreSlotsOf, OnBody, RangeFails, WritesRange, body_in, range_reach, slots_reach}
 use Rattle.extract_core.proofs.Definition.{taken_most}
 use Rattle.extract_core.proofs.Taking.{fails_from}
@@ -132,18 +131,19 @@ ends_empty asked range old new output fault b answer answers is read = record {
 }
 
 -- nothing is written
-writes_none : (asked : Asked) (range : ByteRange) (old new : ShelfState) (name : List ℕ) (output put : SinkState) (unwritten : Type 0) → unwritten → WritesLess asked range old new name output put unwritten
+pub writes_none : (asked : Asked) (range : ByteRange) (old new : ShelfState) (name : List ℕ) (output put : SinkState) (unwritten : Type 0) → unwritten → WritesLess asked range old new name output put unwritten
 writes_none asked range old new name output put unwritten same = record { front = inl same; missing = λ missing. same }
 
 -- ---- no header came
 
 pub without_header : (asked : Asked) (range : ByteRange) (old new : ShelfState) (name : List ℕ) (output : SinkState) (unwritten : Type 0) (error : ExtractError) → unwritten
-    → HasNoHeader asked.settings old new name error → UnlessMemory {T = HeaderValue} (Err error) (OnFile old new name (λ b. new.given ≤ old.given + most_header asked.settings b)) → ExtractEnds asked range old new name output output unwritten error
+    → HasNoHeader asked.settings old new name error → OnFile old new name (λ b. new.given ≤ old.given + most_header asked.settings b) → ExtractEnds asked range old new name output output unwritten error
 without_header asked range old new name output unwritten (errors.Fault fault) same none given = record {
   there = none.0;
+  faults = none.1;
   writes = λ b h. ends_empty asked range old new output fault b (Refuses fault)
-      (headless_answer asked.manager asked.given b fault (header asked.settings (start b)) (none.1 b h))
-      (extracted_is b asked.settings (Refuses fault) range (header asked.settings (start b)) refl ∙ headless b asked.settings range fault (header asked.settings (start b)) (none.1 b h)) (given b h);
+      (headless_answer asked.manager asked.given b fault (header asked.settings (start b)) (none.2 b h))
+      (extracted_is b asked.settings (Refuses fault) range (header asked.settings (start b)) refl ∙ headless b asked.settings range fault (header asked.settings (start b)) (none.2 b h)) (given b h);
 }
 without_header asked range old new name output unwritten (errors.Outside outsides.SourceFault) same none given = absurd none
 without_header asked range old new name output unwritten (errors.Outside outsides.SinkFault) same none given = absurd none
@@ -151,14 +151,12 @@ without_header asked range old new name output unwritten (errors.Outside outside
 without_header asked range old new name output unwritten (errors.Outside outsides.EntropyFault) same none given = absurd none
 without_header asked range old new name output unwritten (errors.Outside outsides.KeyringFault) same none given = absurd none
 without_header asked range old new name output unwritten (errors.Outside outsides.InputTooLong) same none given = absurd none
-without_header asked range old new name output unwritten errors.Memory same none given = writes_none asked range old new name output output unwritten same
+without_header asked range old new name output unwritten errors.Memory same none given = (none, writes_none asked range old new name output output unwritten same)
 
-pub given_less : (T S : Type 0) (settings : Settings) (range : ByteRange) (old new : ShelfState) (name : List ℕ) (error : ExtractError)
-    → UnlessMemory {T = T} (Err error) (OnFile old new name (λ b. new.given ≤ old.given + most_header settings b))
-    → UnlessMemory {T = S} (Err error) (OnFile old new name (λ b. new.given ≤ old.given + most_read settings range b))
-given_less T S settings range old new name (errors.Fault fault) given = λ b h. omega (arith, given b h)
-given_less T S settings range old new name (errors.Outside outside) given = λ b h. omega (arith, given b h)
-given_less T S settings range old new name errors.Memory given = tt
+-- what is read for the header is within what is read at the most
+pub given_less : (settings : Settings) (range : ByteRange) (old new : ShelfState) (name : List ℕ)
+    → OnFile old new name (λ b. new.given ≤ old.given + most_header settings b) → OnFile old new name (λ b. new.given ≤ old.given + most_read settings range b)
+given_less settings range old new name given = λ b h. omega (arith, given b h)
 
 -- ---- the header stays locked
 
@@ -166,12 +164,14 @@ pub stays_locked : (old_m new_m : ManagerNow) (now : ℕ) (settings : Settings) 
     → unwritten → HasHeader settings old mid name h → StaysLocked old_m new_m now given h error → ExtractEnds (asked_from old_m new_m now settings given) range old mid name output output unwritten (locked_as error)
 stays_locked old_m new_m now settings given range old mid name output unwritten h (locks.Fault fault) same has (inl named) = record {
   there = has.there;
+  faults = has.faults;
   writes = λ b held. ends_empty (asked_from old_m new_m now settings given) range old mid output fault b (Refuses fault)
       (answers_of (asked_from old_m new_m now settings given).manager settings given b h (Refuses fault) (has.is b held) named.0)
       (extracted_refused b settings fault range h (has.is b held)) (header_read settings old mid name h has b held);
 }
 stays_locked old_m new_m now settings given range old mid name output unwritten h (locks.Fault fault) same has (inr closed) = record {
   there = has.there;
+  faults = has.faults;
   writes = λ b held.
       let m = closed.materials in
       ends_empty (asked_from old_m new_m now settings given) range old mid output fault b (Unlocks m.context m.only m.key)
@@ -184,7 +184,7 @@ stays_locked old_m new_m now settings given range old mid name output unwritten 
   failed = failed.0;
   same = same;
 }
-stays_locked old_m new_m now settings given range old mid name output unwritten h locks.Memory same has memory = writes_none (asked_from old_m new_m now settings given) range old mid name output output unwritten same
+stays_locked old_m new_m now settings given range old mid name output unwritten h locks.Memory same has memory = (has.faults, writes_none (asked_from old_m new_m now settings given) range old mid name output output unwritten same)
 
 pub bears_locked : (old_m new_m : ManagerNow) (now : ℕ) (given : List KeyValue) (h : HeaderValue) (error : UnlockError) → StaysLocked old_m new_m now given h error → BearsOnce old_m new_m now
 bears_locked old_m new_m now given h (locks.Fault fault) (inl named) = (None, named.1)
@@ -299,8 +299,9 @@ range_ends : (old_m new_m : ManagerNow) (now : ℕ) (settings : Settings) (given
     → ExtractEnds (asked_from old_m new_m now settings given) range old after name output put unwritten error
 range_ends old_m new_m now settings given old mid after name s range output put unwritten (errors.Fault fault) o fails read = record {
   there = o.has.there;
+  faults = fails.0 ∙ o.has.faults;
   writes = λ b held.
-      let w = fails b (seen_second old mid after name b o.files o.grown o.later held) in
+      let w = fails.1 b (seen_second old mid after name b o.files o.grown o.later held) in
       let is = open_extracts old_m new_m now settings given old mid after name s range o b (seen_first old mid after name b o.grown o.later held) in
       record {
         answer = Unlocks o.unlocked.materials.context o.unlocked.materials.only o.unlocked.materials.key;
@@ -312,14 +313,14 @@ range_ends old_m new_m now settings given old mid after name s range output put 
 }
 range_ends old_m new_m now settings given old mid after name s range output put unwritten (errors.Outside outsides.SourceFault) o fails read = absurd fails
 range_ends old_m new_m now settings given old mid after name s range output put unwritten (errors.Outside outsides.SinkFault) o fails read =
-    record { there = o.has.there; rose = fails.0; writes = writes_front old_m new_m now settings given old mid after name s range output put o fails.1 read }
+    record { there = o.has.there; faults = fails.0 ∙ o.has.faults; rose = fails.1; writes = writes_front old_m new_m now settings given old mid after name s range output put o fails.2 read }
 range_ends old_m new_m now settings given old mid after name s range output put unwritten (errors.Outside outsides.ShelfFault) o fails read =
     (fails_from old mid after name o.files o.has.faults fails.0, writes_some old_m new_m now settings given old mid after name s range output put unwritten o fails.1 read)
 range_ends old_m new_m now settings given old mid after name s range output put unwritten (errors.Outside outsides.EntropyFault) o fails read = absurd fails
 range_ends old_m new_m now settings given old mid after name s range output put unwritten (errors.Outside outsides.KeyringFault) o fails read = absurd fails
 range_ends old_m new_m now settings given old mid after name s range output put unwritten (errors.Outside outsides.InputTooLong) o fails read = absurd fails
 range_ends old_m new_m now settings given old mid after name s range output put unwritten errors.Memory o fails read =
-    writes_some old_m new_m now settings given old mid after name s range output put unwritten o fails read
+    (fails.0 ∙ o.has.faults, writes_some old_m new_m now settings given old mid after name s range output put unwritten o fails.1 read)
 
 pub extract_ends : (old_m new_m : ManagerNow) (now : ℕ) (settings : Settings) (given : List KeyValue) (old mid after : ShelfState) (name : List ℕ) (s : Slots) (range : ByteRange) (output put : SinkState) (unwritten : Type 0) (r : Result ℕ ExtractError)
     → IsOpen old_m new_m now settings given old mid after name s → IfErr r (RangeFails s range mid after name output put) → OnBody s mid after name (λ b. after.given ≤ mid.given + range_reach b range)
@@ -328,12 +329,7 @@ extract_ends old_m new_m now settings given old mid after name s range output pu
 extract_ends old_m new_m now settings given old mid after name s range output put unwritten (Err error) o fails read =
     range_ends old_m new_m now settings given old mid after name s range output put unwritten error o fails read
 
--- how much is read
-pub unless : {T : Type 0} (r : Result T ExtractError) (so : Type 0) → so → UnlessMemory r so
-unless (Ok x) so holds = holds
-unless (Err (errors.Fault fault)) so holds = holds
-unless (Err (errors.Outside outside)) so holds = holds
-unless (Err errors.Memory) so holds = tt
+-- ---- how much is read
 
 -- the slots that are taken are among those that the range names
 reach_named : (b : OpenBody) (range : ByteRange) → range_reach b range ≤ slots_reach b.content b.max_unit range b.bytes (slot_count b.content range)
@@ -346,23 +342,14 @@ reach_named b range =
     less true few = omega arith
     less false few = few
 
-pub extract_given : (old_m new_m : ManagerNow) (now : ℕ) (settings : Settings) (given : List KeyValue) (old mid after : ShelfState) (name : List ℕ) (s : Slots) (range : ByteRange) (r : Result ℕ ExtractError)
+pub extract_given : (old_m new_m : ManagerNow) (now : ℕ) (settings : Settings) (given : List KeyValue) (old mid after : ShelfState) (name : List ℕ) (s : Slots) (range : ByteRange)
     → IsOpen old_m new_m now settings given old mid after name s → OnBody s mid after name (λ b. after.given ≤ mid.given + range_reach b range)
-    → UnlessMemory r (OnFile old after name (λ b. after.given ≤ old.given + most_read settings range b))
-extract_given old_m new_m now settings given old mid after name s range r o read =
-    unless r _ (λ b held.
+    → OnFile old after name (λ b. after.given ≤ old.given + most_read settings range b)
+extract_given old_m new_m now settings given old mid after name s range o read = λ b held.
     let is = o.has.is b (seen_first old mid after name b o.grown o.later held) in
     let more = read b (seen_second old mid after name b o.files o.grown o.later held) in
     let content : s.content ≡ is.begins.parts.content = o.slots.content ∙ ap (λ (l : HeaderValue). l.content) o.unlocked.opens.lock_is ∙ ap (λ (x : HeaderValue). x.content) (sym (head_is settings o.h b is)) in
     let left : drop s.begin b ≡ is.end.left = ap (λ (n : ℕ). drop n b) (o.slots.first ∙ o.at) ∙ sym (body_left b settings o.h is) in
     let reach : slots_reach s.content s.max_unit range (drop s.begin b) (slot_count s.content range) ≡ named_reach settings range (Read is.begins.parts is.end) = rw (content, left, o.slots.limit) refl in
     let named = ap (named_reach settings range) is.begins.read in
-    omega (arith, more, header_read settings old mid name o.h o.has b (seen_first old mid after name b o.grown o.later held), reach, named, reach_named (body_in s b) range))
-
--- the same of an error that was passed on
-pub passed_given : (T S : Type 0) (settings : Settings) (range : ByteRange) (old new : ShelfState) (name : List ℕ) (error : ExtractError) (r : Result S ExtractError) → IsErrAnd r (λ other. other ≡ error)
-    → UnlessMemory {T = T} (Err error) (OnFile old new name (λ b. new.given ≤ old.given + most_header settings b))
-    → UnlessMemory r (OnFile old new name (λ b. new.given ≤ old.given + most_read settings range b))
-passed_given T S settings range old new name error (Ok x) is given = absurd is
-passed_given T S settings range old new name error (Err other) is given =
-    subst (λ (e : ExtractError). UnlessMemory {T = S} (Err e) (OnFile old new name (λ b. new.given ≤ old.given + most_read settings range b))) (sym is) (given_less T S settings range old new name error given)
+    omega (arith, more, header_read settings old mid name o.h o.has b (seen_first old mid after name b o.grown o.later held), reach, named, reach_named (body_in s b) range)

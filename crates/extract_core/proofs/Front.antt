@@ -1,5 +1,5 @@
 -- The header at the front of a file.
-use Rattle.std.proofs.Common.{◌≡◌, ◌⊎◌, ℕ, ◌+◌, ◌^◌, ◌<◌, ◌≤◌, Bool, true, false, List, [], ◌∷◌, ◌++◌, length, take, drop, Option, Some, None, Err, refl, sym, ap, subst, ◌∙◌, arith, inl, inr, append_assoc}
+use Rattle.std.proofs.Common.{◌≡◌, ◌⊎◌, ℕ, ◌+◌, ◌^◌, ◌<◌, ◌≤◌, Bool, true, false, List, [], ◌∷◌, ◌++◌, length, take, drop, Option, Some, None, refl, sym, ap, subst, ◌∙◌, arith, inl, inr, append_assoc}
 use Rattle.std.specs.FinMap.{get}
 use Rattle.std.specs.Io.KnownBytes.{Consumes, IsAtEnd}
 use Rattle.std.proofs.lemmas.List.{append-nil, length-append, length-take}
@@ -23,14 +23,15 @@ use Rattle.header_codec.proofs.Order.{IsSequential-header}
 use Rattle.header_codec.proofs.Steps.{header_is_read}
 use Rattle.header_codec.proofs.Whole.{size_within}
 use Rattle.header_input.specs.Feeding.{Holds as ReaderHolds, session_of}
-use Rattle.header_input.specs.Taking.{HoldsHeader, NoneCame}
+use Rattle.header_input.specs.Taking.{HoldsHeader, LacksMemory, NoneCame}
 use Rattle.header_input.specs.declared.errors.NoHeader.{NoHeader}
 use Rattle.header_input.specs.declared.errors.NoHeader.TheVariants as headers
 use Rattle.whole_input.specs.declared.pieces.End.TheVariants as ends
 use Rattle.whole_input.specs.FileReads.{ComesFrom, Grows, IsSeenAs, reads_in_row}
+use Rattle.whole_input.specs.Pieces.{most_piece}
 use Rattle.whole_input.specs.Taken.{Came, EndSeen}
 use Rattle.whole_input.proofs.Agreeing.{came_front, came_whole}
-use Rattle.extract_core.specs.Extract.{HasHeader, HasNoHeader, IsHeaderOf, OnFile, UnlessMemory, authentication_size, body_begin, header_fault_at_end, header_reach, most_header, unheaded_as}
+use Rattle.extract_core.specs.Extract.{HasHeader, HasNoHeader, IsHeaderOf, OnFile, authentication_size, body_begin, header_fault_at_end, header_reach, most_header, unheaded_as}
 use Rattle.whole_input.specs.FileSource.{ReadsOn, file_left, left_from}
 
 -- ---- where a header ends
@@ -158,6 +159,10 @@ there_ended old new name first now at front end =
       | inr there ↦ there
     ]
 
+-- where no read of the source failed, none of the file did
+none_failed : (old new : ShelfState) (name : List ℕ) (first now : SourceState) (at : ℕ) → IsFront old new name first now at → now.faults ≡ first.faults → new.faults ≡ old.faults
+none_failed old new name first now at front same = front.on.same (same ∙ ap (λ (s : SourceState). s.faults) front.first_is) (omega (arith, same, ap (λ (s : SourceState). s.faults) front.first_is))
+
 some_bytes : (settings : Settings) (b : List ℕ) → (header settings (start b) ≡ Wanting → ⊥) → 1 ≤ length b
 some_bytes settings [] other = absurd (other (nothing_read settings))
 some_bytes settings (x ∷ xs) other = omega arith
@@ -181,7 +186,7 @@ header_came settings reader old new name first now at h front holds shows =
             begins = BeginsWith-append settings taken (rest ++ more.0) h (record { at = length taken; left = [] }) shows;
             begin = begin;
           });
-      faults = front.on.same (holds.faults ∙ ap (λ (s : SourceState). s.faults) front.first_is) (omega (arith, holds.faults, ap (λ (s : SourceState). s.faults) front.first_is));
+      faults = none_failed old new name first now at front holds.faults;
       given = omega (arith, front.on.given, front.given, holds.came.most, holds.few, ap length holds.holds.front, long, begin, ap (λ (s : SourceState). s.given) front.first_is);
     }
   where
@@ -205,6 +210,7 @@ pub none_came : (settings : Settings) (old new : ShelfState) (name : List ℕ) (
     → NoneCame settings first now error → HasNoHeader settings old new name (unheaded_as error)
 none_came settings old new name first now at (headers.Fault fault) front none = (
   there_came old new name first now at (length none.bytes) front (some_bytes settings none.bytes (refused_not_wanting (header settings (start none.bytes)) fault none.at none.refused)) none.came.given,
+  none_failed old new name first now at front none.faults,
   λ told h.
       let more = begins_with old new name first now at told none.bytes front h none.came in
       ap (λ (b : List ℕ). header_fault_at_end (header settings (start b))) more.1
@@ -212,12 +218,13 @@ none_came settings old new name first now at (headers.Fault fault) front none = 
 )
 none_came settings old new name first now at (headers.End ends.Seen) front none = (
   there_ended old new name first now at front none.end.end,
+  none_failed old new name first now at front none.end.faults,
   λ told h. ap (λ (b : List ℕ). header_fault_at_end (header settings (start b))) (is_whole old new name first now at told none.bytes front h none.came none.end)
       ∙ ap header_fault_at_end none.wanting,
 )
 none_came settings old new name first now at (headers.End ends.Failed) front none = failed_cause old new name first now at front none.rose
-none_came settings old new name first now at (headers.End ends.TooLong) front none = tt
-none_came settings old new name first now at headers.Memory front none = tt
+none_came settings old new name first now at (headers.End ends.TooLong) front none = none_failed old new name first now at front none.most.faults
+none_came settings old new name first now at headers.Memory front none = none_failed old new name first now at front none.faults
 
 -- ---- how much was read
 
@@ -239,6 +246,27 @@ within_reach settings told b rest (Refused fault at) is wants e =
     let h = fault_after_at (header settings) (start b) rest fault at (IsSequential-header settings) wants e in omega (arith, h)
 within_reach settings told b rest Wanting is wants e = omega (arith, ap length is, length-append b rest)
 
+-- of bytes that want more, and a piece behind them
+piece_reach : (settings : Settings) (told before piece rest : List ℕ) (r : Reading Head) → told ≡ (before ++ piece) ++ rest → header settings (start before) ≡ Wanting → length piece ≤ most_piece
+    → header settings (start (before ++ (piece ++ rest))) ≡ r → length before + length piece ≤ header_reach told r
+piece_reach settings told before piece rest (Read parts end) is wants few e =
+    let h = read_after (header settings) before (piece ++ rest) parts end (IsSequential-header settings) wants e in omega (arith, h, few)
+piece_reach settings told before piece rest (Refused fault at) is wants few e =
+    let h = fault_after_at (header settings) (start before) (piece ++ rest) fault at (IsSequential-header settings) wants e in omega (arith, h, few)
+piece_reach settings told before piece rest Wanting is wants few e = omega (arith, ap length is, length-append (before ++ piece) rest, length-append before piece)
+
+-- memory ran out at a piece behind bytes that want more
+lacking_given : (settings : Settings) (old new : ShelfState) (name : List ℕ) (first now : SourceState) (at : ℕ) → IsFront old new name first now at
+    → LacksMemory settings first now → OnFile old new name (λ told. new.given ≤ old.given + most_header settings told)
+lacking_given settings old new name first now at front lacks = λ told h.
+    let more = begins_with old new name first now at told lacks.bytes front h lacks.came in
+    let before : List ℕ = lacks.last.before in
+    let piece : List ℕ = lacks.last.piece in
+    let is : told ≡ (before ++ piece) ++ more.0 = more.1 ∙ ap (λ (l : List ℕ). l ++ more.0) lacks.last.all in
+    let most = piece_reach settings told before piece more.0 (header settings (start (before ++ (piece ++ more.0)))) is lacks.last.was lacks.last.few refl in
+    let same = ap (λ (l : List ℕ). header_reach told (header settings (start l))) (is ∙ append_assoc before piece more.0) in
+    omega (arith, front.on.given, front.given, lacks.came.most, most, same, ap length lacks.last.all, length-append before piece, ap (λ (s : SourceState). s.given) front.first_is)
+
 wanting_given : (settings : Settings) (old new : ShelfState) (name : List ℕ) (first now : SourceState) (at : ℕ) (b : List ℕ) → IsFront old new name first now at
     → Came first now b → header settings (start b) ≡ Wanting → OnFile old new name (λ told. new.given ≤ old.given + most_header settings told)
 wanting_given settings old new name first now at b front came wants = λ told h.
@@ -248,7 +276,7 @@ wanting_given settings old new name first now at b front came wants = λ told h.
     omega (arith, front.on.given, front.given, came.most, most, same, ap (λ (s : SourceState). s.given) front.first_is)
 
 pub none_given : (settings : Settings) (old new : ShelfState) (name : List ℕ) (first now : SourceState) (at : ℕ) (error : NoHeader) → IsFront old new name first now at
-    → NoneCame settings first now error → UnlessMemory {T = HeaderValue} (Err (unheaded_as error)) (OnFile old new name (λ told. new.given ≤ old.given + most_header settings told))
+    → NoneCame settings first now error → OnFile old new name (λ told. new.given ≤ old.given + most_header settings told)
 none_given settings old new name first now at (headers.Fault fault) front none = λ told h.
     let more = begins_with old new name first now at told none.bytes front h none.came in
     let refused : header settings (start told) ≡ Refused fault none.at =
@@ -256,8 +284,8 @@ none_given settings old new name first now at (headers.Fault fault) front none =
     omega (arith, front.on.given, front.given, none.came.most, none.few, reach_of settings told (Refused fault none.at) refused, ap (λ (s : SourceState). s.given) front.first_is)
 none_given settings old new name first now at (headers.End ends.Seen) front none = wanting_given settings old new name first now at none.bytes front none.came none.wanting
 none_given settings old new name first now at (headers.End ends.Failed) front none = wanting_given settings old new name first now at none.bytes front none.came none.wanting
-none_given settings old new name first now at (headers.End ends.TooLong) front none = tt
-none_given settings old new name first now at headers.Memory front none = tt
+none_given settings old new name first now at (headers.End ends.TooLong) front none = wanting_given settings old new name first now at none.bytes front none.came none.wanting
+none_given settings old new name first now at headers.Memory front none = lacking_given settings old new name first now at front none
 
 pub shows_none : (settings : Settings) (reader : HeaderReader) (bytes : List ℕ) (holds : ReaderHolds settings reader bytes) → ShowsHeader (session_of settings holds.taken) None → ⊥
 shows_none settings reader bytes holds wanting = read_not_wanting (header settings (start holds.taken)) holds.parts holds.end holds.read wanting

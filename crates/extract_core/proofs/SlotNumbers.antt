@@ -62,7 +62,7 @@ fails_there s before after name slot width (errors.Outside outsides.ShelfFault) 
 fails_there s before after name slot width (errors.Outside outsides.EntropyFault) h is fails = fails
 fails_there s before after name slot width (errors.Outside outsides.KeyringFault) h is fails = fails
 fails_there s before after name slot width (errors.Outside outsides.InputTooLong) h is fails = fails
-fails_there s before after name slot width errors.Memory h is fails = tt
+fails_there s before after name slot width errors.Memory h is fails = fails
 
 pub fails_slot : (s : Slots) (before after : ShelfState) (name : List ℕ) (slot width : ℕ) (r : Result Bool ExtractError) → slot ≤ last_slot → width ≡ slot_width s.content
     → IfErr r (UnitFails (λ told. unit_read s (slot + 1) (drop (s.begin + slot * width) told)) before after name)

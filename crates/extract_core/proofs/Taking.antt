@@ -162,7 +162,7 @@ none_taken old l new before mid after name at want end (errors.Outside outsides.
 none_taken old l new before mid after name at want end (errors.Outside outsides.EntropyFault) taking needs on none = none
 none_taken old l new before mid after name at want end (errors.Outside outsides.KeyringFault) taking needs on none = none
 none_taken old l new before mid after name at want end (errors.Outside outsides.InputTooLong) taking needs on none = none
-none_taken old l new before mid after name at want end errors.Memory taking needs on none = tt
+none_taken old l new before mid after name at want end errors.Memory taking needs on none = none ∙ taking.faults
 
 -- the unit is whole
 unit_is : (s : Slots) (want : ℕ) (head : UnitHead) (o : Option (List ℕ)) → IsThere s want head → opened_of s.key s.message_id head s.unit.held ≡ o → unit_read s want s.unit.held ≡ whole_reading head s.unit.held o

@@ -1,5 +1,5 @@
 -- What is so while the parts of a range are written.
-use Rattle.std.proofs.Common.{◌≡◌, ℕ, ◌+◌, ◌-◌, ◌*◌, ◌/◌, ◌<◌, ◌≤◌, min, Bool, true, false, List, [], ◌++◌, length, take, drop, Option, Some, None, Result, Ok, Err, IfErr, refl, sym, ap, subst, ◌∙◌, arith, inl, inr, append-nil, mul-le-mul_right}
+use Rattle.std.proofs.Common.{◌≡◌, ℕ, ◌+◌, ◌-◌, ◌*◌, ◌/◌, ◌<◌, ◌≤◌, min, Bool, true, false, List, [], ◌++◌, length, take, drop, Option, Some, None, Result, Ok, Err, IfErr, IfOk, refl, sym, ap, subst, ◌∙◌, arith, inl, inr, append-nil, mul-le-mul_right}
 use Rattle.std.proofs.lemmas.List.{length-append, length-take, length-drop, take_all}
 use Rattle.std.proofs.lemmas.Bool.{cases_lt}
 use Rattle.std.proofs.KnownBytes.{Appends-nil, Appends-trans}
@@ -15,7 +15,6 @@ use Rattle.esdk_base.specs.ReceiverLaws.{front_after, front_longer}
 use Rattle.esdk_base.specs.Sink.{AppendsFront}
 use Rattle.esdk_base.specs.Streams.{ShelfState, SinkState}
 use Rattle.frame_codec.specs.Unit.{Piece}
-use Rattle.header_codec.specs.Header.{frame_length}
 use Rattle.body_format.specs.Rows.{is_more}
 use Rattle.whole_input.specs.FileReads.{Grows, IsSeenAs}
 use Rattle.whole_input.proofs.Agreeing.{grows_more, grows_none, seen_first, seen_second}
@@ -23,7 +22,7 @@ use Rattle.extract_core.specs.declared.errors.ExtractError.{ExtractError}
 use Rattle.extract_core.specs.declared.errors.ExtractError.TheVariants as errors
 use Rattle.extract_core.specs.declared.slots.Slots.{Slots}
 use Rattle.extract_core.specs.Extracted.{ByteRange, Extraction, OpenBody, extracted_body, first_slot, in_range, slot_count, slot_part, slot_read, slot_width, slots_taken, unit_content, unit_fault}
-use Rattle.extract_core.specs.Slots.{FindsFault, IsRead, IsSized, OnBody, RangeFails, ReadsSlot, SameBody, TakesSlot, UnitFails, WritesRange, body_in, first_byte, range_reach, unit_reach}
+use Rattle.extract_core.specs.Slots.{FindsFault, IsRead, IsSized, OnBody, PartFails, RangeFails, ReadsSlot, SameBody, SlotFails, TakesSlot, UnitFails, WritesRange, WritesSlot, body_in, first_byte, range_reach, unit_reach}
 use Rattle.extract_core.proofs.Definition.{AreGood, begins_part, ends_at, ends_behind, fault_ends, not_zero, nothing_in_range, of_nothing, parts_before, parts_next, taken_all, taken_least}
 use Rattle.extract_core.proofs.Taking.{fails_from, same_same}
 
@@ -153,13 +152,12 @@ sized_same old l last out same sized = subst (λ (c : Content). IsSized c last o
 
 -- a slot more that another one follows
 pub writes_on : (old l new : Slots) (range : ByteRange) (before mid after : ShelfState) (name : List ℕ) (output put put2 : SinkState) (slot written n : ℕ)
-    → IsWriting old l range before mid name output put slot written → TakesSlot l new mid after name slot false → ReadsSlot l new mid after name
-    → Appends put.written put2.written (in_range range (first_byte l.content slot) new.unit.out) → n ≡ length (in_range range (first_byte l.content slot) new.unit.out)
-    → put.faults ≤ put2.faults → first_slot old.content range ≤ slot
-    → IsWriting old new range before after name output put2 (slot + 1) (written + n)
-writes_on old l new range before mid after name output put put2 slot written n w takes reads put_is n_is later order =
+    → IsWriting old l range before mid name output put slot written → WritesSlot l new range mid after name put put2 slot n false → ReadsSlot l new mid after name
+    → first_slot old.content range ≤ slot → IsWriting old new range before after name output put2 (slot + 1) (written + n)
+writes_on old l new range before mid after name output put put2 slot written n w wrote reads order =
+    let takes = wrote.takes in
     let sized = sized_same old l false new.unit.out w.same takes.sized in
-    let size : n ≡ length (in_range range (first_byte old.content slot) new.unit.out) = n_is ∙ ap (λ (c : Content). length (in_range range (first_byte c slot) new.unit.out)) w.same.content in
+    let size : n ≡ length (in_range range (first_byte old.content slot) new.unit.out) = wrote.count ∙ ap (λ (c : Content). length (in_range range (first_byte c slot) new.unit.out)) w.same.content in
     record {
       same = same_same old l new w.same reads.same;
       empty = takes.empty;
@@ -177,10 +175,10 @@ writes_on old l new range before mid after name output put put2 slot written n w
             ];
           };
       gained = λ told h. subst (Appends output.written put2.written) (sym (parts_next (body_in old told) range slot order))
-          (gained_next old l new range before mid after name output put put2 slot written false w takes put_is told h);
-      count = λ told h. count_next old l new range before mid after name output put slot written n false w takes n_is told h ∙ sym (ap length (parts_next (body_in old told) range slot order));
+          (gained_next old l new range before mid after name output put put2 slot written false w takes wrote.gained told h);
+      count = λ told h. count_next old l new range before mid after name output put slot written n false w takes wrote.count told h ∙ sym (ap length (parts_next (body_in old told) range slot order));
       given = width_next old l new range before mid after name output put slot written w takes order;
-      later = omega (arith, w.later, later);
+      later = omega (arith, w.later, wrote.later);
     }
 
 -- ---- the ends
@@ -204,18 +202,18 @@ reach_at old l new range before mid after name output put slot written w reads s
 
 -- the last unit's part is written
 pub writes_last : (old l new : Slots) (range : ByteRange) (before mid after : ShelfState) (name : List ℕ) (output put put2 : SinkState) (slot written n : ℕ)
-    → IsWriting old l range before mid name output put slot written → TakesSlot l new mid after name slot true
-    → Appends put.written put2.written (in_range range (first_byte l.content slot) new.unit.out) → n ≡ length (in_range range (first_byte l.content slot) new.unit.out)
+    → IsWriting old l range before mid name output put slot written → WritesSlot l new range mid after name put put2 slot n true
     → 1 ≤ range.count → slot < first_slot old.content range + slot_count old.content range
     → OnBody old before after name (λ b. WritesRange b range output put2 (written + n))
-writes_last old l new range before mid after name output put put2 slot written n w takes put_is n_is some within = λ told h.
+writes_last old l new range before mid after name output put put2 slot written n w wrote some within = λ told h.
+    let takes = wrote.takes in
     let b : OpenBody = body_in old told in
     let read = read_same old l told new.unit.out slot true w.same (takes.read told (seen_second before mid after name told w.files w.grown takes.grown h)) in
     let is = ends_at b range slot some (w.good told (seen_first before mid after name told w.grown takes.grown h)) within (last_is (slot_read b slot) new.unit.out read) in
     record {
       fault = ap (λ (x : Extraction). x.fault) is ∙ none_wrong (slot_read b slot) true new.unit.out read;
-      gained = subst (Appends output.written put2.written) (sym (ap (λ (x : Extraction). x.part) is)) (gained_next old l new range before mid after name output put put2 slot written true w takes put_is told h);
-      count = count_next old l new range before mid after name output put slot written n true w takes n_is told h ∙ sym (ap (λ (x : Extraction). length x.part) is);
+      gained = subst (Appends output.written put2.written) (sym (ap (λ (x : Extraction). x.part) is)) (gained_next old l new range before mid after name output put put2 slot written true w takes wrote.gained told h);
+      count = count_next old l new range before mid after name output put slot written n true w takes wrote.count told h ∙ sym (ap (λ (x : Extraction). length x.part) is);
     }
 
 -- all slots of the range are written
@@ -283,11 +281,12 @@ fault_at old l range before mid after name output put slot written fault w grown
     }
 
 -- why the slot isn't taken is why the range isn't written
-pub range_fails : (old l : Slots) (range : ByteRange) (before mid after : ShelfState) (name : List ℕ) (output put : SinkState) (slot written : ℕ) (error : ExtractError)
+range_fails : (old l : Slots) (range : ByteRange) (before mid after : ShelfState) (name : List ℕ) (output put : SinkState) (slot written : ℕ) (error : ExtractError)
     → IsWriting old l range before mid name output put slot written → Grows mid.calls after.calls → UnitFails (λ told. slot_read (body_in l told) slot) mid after name error
     → 1 ≤ range.count → first_slot old.content range ≤ slot → slot < first_slot old.content range + slot_count old.content range
     → RangeFails old range before after name output put error
-range_fails old l range before mid after name output put slot written (errors.Fault fault) w grown fails some order within = fault_at old l range before mid after name output put slot written fault w grown fails.1 some within
+range_fails old l range before mid after name output put slot written (errors.Fault fault) w grown fails some order within =
+    (fails.0 ∙ w.faults, fault_at old l range before mid after name output put slot written fault w grown fails.1 some within)
 range_fails old l range before mid after name output put slot written (errors.Outside outsides.SourceFault) w grown fails some order within = absurd fails
 range_fails old l range before mid after name output put slot written (errors.Outside outsides.SinkFault) w grown fails some order within = absurd fails
 range_fails old l range before mid after name output put slot written (errors.Outside outsides.ShelfFault) w grown fails some order within =
@@ -295,42 +294,74 @@ range_fails old l range before mid after name output put slot written (errors.Ou
 range_fails old l range before mid after name output put slot written (errors.Outside outsides.EntropyFault) w grown fails some order within = absurd fails
 range_fails old l range before mid after name output put slot written (errors.Outside outsides.KeyringFault) w grown fails some order within = absurd fails
 range_fails old l range before mid after name output put slot written (errors.Outside outsides.InputTooLong) w grown fails some order within = absurd fails
-range_fails old l range before mid after name output put slot written errors.Memory w grown fails some order within = body_later old before mid after name (λ (b : OpenBody). AppendsFront output.written put.written (extracted_body b range).part) w.grown grown (front_before old l range before mid name output put slot written w some order within)
+range_fails old l range before mid after name output put slot written errors.Memory w grown fails some order within =
+    (fails ∙ w.faults, body_later old before mid after name (λ (b : OpenBody). AppendsFront output.written put.written (extracted_body b range).part) w.grown grown (front_before old l range before mid name output put slot written w some order within))
 
 -- the output fails at the slot's part
-pub put_fails : (old l new : Slots) (range : ByteRange) (before mid after : ShelfState) (name : List ℕ) (output put put2 : SinkState) (slot written : ℕ) (last : Bool) (error : ExtractError)
-    → IsWriting old l range before mid name output put slot written → TakesSlot l new mid after name slot last
-    → (error ≡ errors.Outside outsides.SinkFault) × Rose put.faults put2.faults × AppendsFront put.written put2.written (in_range range (first_byte l.content slot) new.unit.out)
+put_fails : (old l new : Slots) (range : ByteRange) (before mid after : ShelfState) (name : List ℕ) (output put put2 : SinkState) (slot written : ℕ)
+    → IsWriting old l range before mid name output put slot written → PartFails l new range mid after name put put2 slot
+    → 1 ≤ range.count → first_slot old.content range ≤ slot → slot < first_slot old.content range + slot_count old.content range
+    → RangeFails old range before after name output put2 (errors.Outside outsides.SinkFault)
+put_fails old l new range before mid after name output put put2 slot written w fails some order within = (
+  fails.takes.faults ∙ w.faults,
+  omega (arith, fails.rose, w.later),
+  λ told h.
+      let b : OpenBody = body_in old told in
+      let read = read_same old l told new.unit.out slot fails.last w.same (fails.takes.read told (seen_second before mid after name told w.files w.grown fails.takes.grown h)) in
+      let here : in_range range (first_byte l.content slot) new.unit.out ≡ slot_part b range slot =
+      ap (λ (c : Content). in_range range (first_byte c slot) new.unit.out) w.same.content ∙ sym (part_is b range slot fails.last new.unit.out read) in
+      let early : IsSeenAs before mid name told = seen_first before mid after name told w.grown fails.takes.grown h in
+      let more = begins_part b range slot some (w.good told early) within in
+      let all : (extracted_body b range).part ≡ (parts_before b range slot ++ slot_part b range slot) ++ more.0 = more.1 ∙ ap (λ (l : List ℕ). l ++ more.0) (parts_next b range slot order) in
+      subst (AppendsFront output.written put2.written) (sym all)
+      (front_longer output.written put2.written (parts_before b range slot ++ slot_part b range slot) more.0
+      (front_after output.written put.written put2.written (parts_before b range slot) (slot_part b range slot) (w.gained told early) (subst (AppendsFront put.written put2.written) here fails.front))),
+)
+
+-- why the slot isn't written is why the range isn't
+pub slot_fails : (old l new : Slots) (range : ByteRange) (before mid after : ShelfState) (name : List ℕ) (output put put2 : SinkState) (slot written : ℕ) (error : ExtractError)
+    → IsWriting old l range before mid name output put slot written → Grows mid.calls after.calls → SlotFails l new range mid after name put put2 slot error
     → 1 ≤ range.count → first_slot old.content range ≤ slot → slot < first_slot old.content range + slot_count old.content range
     → RangeFails old range before after name output put2 error
-put_fails old l new range before mid after name output put put2 slot written last error w takes fails some order within =
-    subst (RangeFails old range before after name output put2) (sym fails.0) (
-      omega (arith, fails.1, w.later),
-      λ told h.
-          let b : OpenBody = body_in old told in
-          let read = read_same old l told new.unit.out slot last w.same (takes.read told (seen_second before mid after name told w.files w.grown takes.grown h)) in
-          let here : in_range range (first_byte l.content slot) new.unit.out ≡ slot_part b range slot =
-          ap (λ (c : Content). in_range range (first_byte c slot) new.unit.out) w.same.content ∙ sym (part_is b range slot last new.unit.out read) in
-          let more = begins_part b range slot some (w.good told (seen_first before mid after name told w.grown takes.grown h)) within in
-          let all : (extracted_body b range).part ≡ (parts_before b range slot ++ slot_part b range slot) ++ more.0 = more.1 ∙ ap (λ (l : List ℕ). l ++ more.0) (parts_next b range slot order) in
-          subst (AppendsFront output.written put2.written) (sym all)
-          (front_longer output.written put2.written (parts_before b range slot ++ slot_part b range slot) more.0
-          (front_after output.written put.written put2.written (parts_before b range slot) (slot_part b range slot) (w.gained told (seen_first before mid after name told w.grown takes.grown h)) (subst (AppendsFront put.written put2.written) here fails.2))),
-    )
+slot_fails old l new range before mid after name output put put2 slot written error w grown (inl fails) some order within =
+    subst (λ (s : SinkState). RangeFails old range before after name output s error) (sym fails.1) (range_fails old l range before mid after name output put slot written error w grown fails.0 some order within)
+slot_fails old l new range before mid after name output put put2 slot written error w grown (inr fails) some order within =
+    subst (RangeFails old range before after name output put2) (sym fails.0) (put_fails old l new range before mid after name output put put2 slot written w fails.1 some order within)
 
 -- what was put is the range's part of the slot, by where the slot's content begins
-pub step_of : (l new : Slots) (range : ByteRange) (put put2 : SinkState) (slot frame n : ℕ) → frame ≡ frame_length l.content → Appends put.written put2.written (in_range range (slot * frame) new.unit.out)
-    → n ≡ length (in_range range (slot * frame) new.unit.out)
-    → Appends put.written put2.written (in_range range (first_byte l.content slot) new.unit.out) × (n ≡ length (in_range range (first_byte l.content slot) new.unit.out))
-step_of l new range put put2 slot frame n is appends size = (
-  subst (λ (f : ℕ). Appends put.written put2.written (in_range range (slot * f) new.unit.out)) is appends,
-  size ∙ ap (λ (f : ℕ). length (in_range range (slot * f) new.unit.out)) is,
+pub wrote_slot : (old new : Slots) (range : ByteRange) (before after : ShelfState) (name : List ℕ) (output put : SinkState) (slot first n : ℕ) (last : Bool) → first ≡ first_byte old.content slot
+    → TakesSlot old new before after name slot last → Appends output.written put.written (in_range range first new.unit.out) → n ≡ length (in_range range first new.unit.out) → output.faults ≤ put.faults
+    → WritesSlot old new range before after name output put slot n last
+wrote_slot old new range before after name output put slot first n last is takes appends size later = record {
+  takes = takes;
+  gained = subst (λ (f : ℕ). Appends output.written put.written (in_range range f new.unit.out)) is appends;
+  count = size ∙ ap (λ (f : ℕ). length (in_range range f new.unit.out)) is;
+  later = later;
+}
+
+-- or a front of it
+pub part_fails : (old new : Slots) (range : ByteRange) (before after : ShelfState) (name : List ℕ) (output put : SinkState) (slot first : ℕ) (last : Bool) (error : ExtractError) → first ≡ first_byte old.content slot
+    → TakesSlot old new before after name slot last → (error ≡ errors.Outside outsides.SinkFault) × Rose output.faults put.faults × AppendsFront output.written put.written (in_range range first new.unit.out)
+    → SlotFails old new range before after name output put slot error
+part_fails old new range before after name output put slot first last error is takes fails = inr (
+  fails.0,
+  record {
+    last = last;
+    takes = takes;
+    rose = fails.1;
+    front = subst (λ (f : ℕ). AppendsFront output.written put.written (in_range range f new.unit.out)) is fails.2;
+  },
 )
 
 -- an error that was passed on
 pub passed_on : {T E : Type 0} (P : E → Type 0) (r : Result T E) (error : E) → IsErrAnd r (λ other. other ≡ error) → P error → IfErr r P
 passed_on P (Ok x) error is so = tt
 passed_on P (Err other) error is so = subst P (sym is) so
+
+-- where an error was passed on, nothing is said of what is done
+pub none_done : {T E : Type 0} (P : T → Type 0) (r : Result T E) (error : E) → IsErrAnd r (λ other. other ≡ error) → IfOk r P
+none_done P (Ok x) error is = absurd is
+none_done P (Err other) error is = tt
 
 -- an empty range is written by writing nothing
 pub writes_nothing : (b : OpenBody) (range : ByteRange) (output : SinkState) → range.count ≡ 0 → WritesRange b range output output 0

@@ -1,6 +1,6 @@
 -- What extracting a range of a message comes to, which stands in a file of a shelf. Standard: AWS
 -- Encryption SDK Specification, "Decrypt".
-use Rattle.std.specs.Prelude.{◌≡◌, ◌⊎◌, ℕ, ◌+◌, ◌≤◌, List, length, false, true, Option, Some, None, Result, Ok, Err, ⊤}
+use Rattle.std.specs.Prelude.{◌≡◌, ◌⊎◌, ℕ, ◌+◌, ◌≤◌, List, length, false, true, Option, Some, None}
 use Rattle.std.specs.Io.KnownBytes.{Appends}
 use Rattle.esdk_fields.specs.Counts.{Rose}
 use Rattle.esdk_fields.specs.declared.faults.Fault.{Fault}
@@ -119,15 +119,16 @@ header_fault_at_end (Read parts body) = None
 header_fault_at_end (Refused fault at) = Some fault
 header_fault_at_end Wanting = Some Truncated
 
--- Why the file gives no header, and how much of it was read. Want of memory is free.
+-- Why the file gives no header. Where it isn't a read that failed, none did.
 abbrev pub HasNoHeader : Settings → ShelfState → ShelfState → List ℕ → ExtractError → Type 0
 HasNoHeader settings old new name (errors.Fault fault) = (is_missing old.files name ≡ false)
+    × (new.faults ≡ old.faults)
     × OnFile old new name
     (λ bytes. header_fault_at_end (header settings (start bytes)) ≡ Some fault)
 HasNoHeader settings old new name (errors.Outside outsides.ShelfFault) =
     FailsToRead old new name
 HasNoHeader settings old new name (errors.Outside outside) = ⊥
-HasNoHeader settings old new name errors.Memory = ⊤
+HasNoHeader settings old new name errors.Memory = new.faults ≡ old.faults
 
 -- ---- how it ends
 
@@ -170,17 +171,19 @@ pub record Extracts (asked : Asked) (range : ByteRange) (old new : ShelfState) (
   pub there : is_missing old.files name ≡ false
   pub writes : OnFile old new name (WritesAll asked range old new output put written)
 
--- The shelf has the file, and its header, the answer or a slot of the range has this fault. What
--- stands before it in the range was written.
+-- The shelf has the file, and no read failed; its header, the answer or a slot of the range has
+-- this fault. What stands before it in the range was written.
 pub record HasFault (asked : Asked) (range : ByteRange) (old new : ShelfState) (name : List ℕ)
     (output put : SinkState) (fault : Fault) : Type 0 where
   pub there : is_missing old.files name ≡ false
+  pub faults : new.faults ≡ old.faults
   pub writes : OnFile old new name (WritesBefore asked range old new output put fault)
 
--- The shelf has the file, and the output failed at a front of the range.
+-- The shelf has the file, and no read failed; the output failed at a front of the range.
 pub record SinkFails (asked : Asked) (range : ByteRange) (old new : ShelfState) (name : List ℕ)
     (output put : SinkState) : Type 0 where
   pub there : is_missing old.files name ≡ false
+  pub faults : new.faults ≡ old.faults
   pub rose : Rose output.faults put.faults
   pub writes : OnFile old new name (WritesFront asked range old new output put)
 
@@ -201,7 +204,7 @@ pub record WritesLess (asked : Asked) (range : ByteRange) (old new : ShelfState)
   pub missing : is_missing old.files name ≡ true → unwritten
 
 -- Why a range isn't extracted, and what that left; `unwritten` says that the output is as before.
--- Want of memory is free.
+-- Want of memory is free, but it doesn't come behind a read that failed.
 abbrev pub ExtractEnds : Asked → ByteRange → ShelfState → ShelfState → List ℕ → SinkState
     → SinkState → Type 0 → ExtractError → Type 0
 ExtractEnds asked range old new name output put unwritten (errors.Fault fault) =
@@ -214,14 +217,7 @@ ExtractEnds asked range old new name output put unwritten (errors.Outside outsid
     ManagerFails asked old new name unwritten
 ExtractEnds asked range old new name output put unwritten (errors.Outside outside) = ⊥
 ExtractEnds asked range old new name output put unwritten errors.Memory =
-    WritesLess asked range old new name output put unwritten
-
--- This is so, unless memory ran out.
-abbrev pub UnlessMemory : {T : Type 0} → Result T ExtractError → Type 0 → Type 0
-UnlessMemory (Ok value) so = so
-UnlessMemory (Err (errors.Fault fault)) so = so
-UnlessMemory (Err (errors.Outside outside)) so = so
-UnlessMemory (Err errors.Memory) so = ⊤
+    (new.faults ≡ old.faults) × WritesLess asked range old new name output put unwritten
 
 -- ---- what errors of the calls below are called
 

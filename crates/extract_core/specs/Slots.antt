@@ -1,6 +1,6 @@
 -- What is so while slots are read and opened one after another. Standard: AWS Encryption SDK
 -- Specification, message body.
-use Rattle.std.specs.Prelude.{◌≡◌, ℕ, ◌+◌, ◌-◌, ◌*◌, ◌^◌, ◌<◌, ◌≤◌, max, min, List, [], ◌++◌, length, drop, Bool, true, false, ◌==◌, if◌then◌else◌, Option, Some, None, ⊤}
+use Rattle.std.specs.Prelude.{◌≡◌, ◌⊎◌, ℕ, ◌+◌, ◌-◌, ◌*◌, ◌^◌, ◌<◌, ◌≤◌, max, min, List, [], ◌++◌, length, drop, Bool, true, false, ◌==◌, if◌then◌else◌, Option, Some, None}
 use Rattle.std.specs.Io.KnownBytes.{Appends}
 use Rattle.esdk_fields.specs.Counts.{Rose}
 use Rattle.esdk_fields.specs.declared.contents.Content.{Content}
@@ -29,7 +29,7 @@ use Rattle.extract_core.specs.declared.slots.Needs.TheVariants as needs
 use Rattle.extract_core.specs.declared.slots.Slots.{Slots}
 use Rattle.header_codec.specs.Header.{IsContent, frame_length}
 use Rattle.message_format.specs.declared.unlocking.Unlocked.{Unlocked}
-use Rattle.extract_core.specs.Extracted.{ByteRange, OpenBody, extracted_body, last_slot, slot_read, slot_width, slots_taken, unit_fault}
+use Rattle.extract_core.specs.Extracted.{ByteRange, OpenBody, extracted_body, in_range, last_slot, slot_read, slot_width, slots_taken, unit_fault}
 
 -- ---- the body
 
@@ -135,7 +135,8 @@ pub record TakesMore (old new : Slots) (before after : ShelfState) (end : ℕ) :
   pub most : length new.unit.held ≤ end
   pub faults : after.faults ≡ before.faults
 
--- Why no more bytes are held: the file ends behind those, or a read failed. Want of memory is free.
+-- Why no more bytes are held: the file ends behind those, or a read failed; or memory ran out, and
+-- no read failed.
 abbrev pub TakesNone : Slots → ShelfState → ShelfState → List ℕ → ℕ → ExtractError → Type 0
 TakesNone old before after name at (errors.Fault fault) = (fault ≡ Truncated)
     × (after.faults ≡ before.faults)
@@ -144,7 +145,7 @@ TakesNone old before after name at (errors.Fault fault) = (fault ≡ Truncated)
 TakesNone old before after name at (errors.Outside outsides.ShelfFault) =
     FailsToRead before after name
 TakesNone old before after name at (errors.Outside outside) = ⊥
-TakesNone old before after name at errors.Memory = ⊤
+TakesNone old before after name at errors.Memory = after.faults ≡ before.faults
 
 -- ---- its content
 
@@ -193,7 +194,7 @@ pub record TakesUnit (old new : Slots) (before after : ShelfState) (name : List 
   pub width : ReadsWidth old.content before after name last
 
 -- Why no unit is opened: what is read there isn't a good unit, and has this fault; or a read
--- failed. Want of memory is free.
+-- failed; or memory ran out, and no read failed.
 abbrev pub UnitFails : (List ℕ → Reading Piece) → ShelfState → ShelfState → List ℕ → ExtractError
     → Type 0
 UnitFails read before after name (errors.Fault fault) = (after.faults ≡ before.faults)
@@ -201,7 +202,7 @@ UnitFails read before after name (errors.Fault fault) = (after.faults ≡ before
 UnitFails read before after name (errors.Outside outsides.ShelfFault) =
     FailsToRead before after name
 UnitFails read before after name (errors.Outside outside) = ⊥
-UnitFails read before after name errors.Memory = ⊤
+UnitFails read before after name errors.Memory = after.faults ≡ before.faults
 
 -- What reading one unit at that offset leaves, however it ends.
 pub record ReadsUnit (old new : Slots) (before after : ShelfState) (name : List ℕ) (at : ℕ)
@@ -239,6 +240,33 @@ pub record ReadsSlot (old new : Slots) (before after : ShelfState) (name : List 
   pub later : before.faults ≤ after.faults
   pub given : (told : List ℕ) → IsSeenAs before after name told
       → after.given ≤ before.given + unit_reach old.content old.max_unit (drop old.begin told)
+
+-- The slot was taken, and what the range has of its content was written: so many bytes.
+pub record WritesSlot (old new : Slots) (range : ByteRange) (before after : ShelfState)
+    (name : List ℕ) (output put : SinkState) (slot written : ℕ) (last : Bool) : Type 0 where
+  pub takes : TakesSlot old new before after name slot last
+  pub gained : Appends output.written put.written
+      (in_range range (first_byte old.content slot) new.unit.out)
+  pub count : written ≡ length (in_range range (first_byte old.content slot) new.unit.out)
+  pub later : output.faults ≤ put.faults
+
+-- The slot was taken, and the output failed at a front of what the range has of its content.
+pub record PartFails (old new : Slots) (range : ByteRange) (before after : ShelfState)
+    (name : List ℕ) (output put : SinkState) (slot : ℕ) : Type 0 where
+  pub last : Bool
+  pub takes : TakesSlot old new before after name slot last
+  pub rose : Rose output.faults put.faults
+  pub front : AppendsFront output.written put.written
+      (in_range range (first_byte old.content slot) new.unit.out)
+
+-- Why the slot isn't written: it isn't taken, and the output is as before; or the output failed.
+abbrev pub SlotFails : Slots → Slots → ByteRange → ShelfState → ShelfState → List ℕ → SinkState
+    → SinkState → ℕ → ExtractError → Type 0
+SlotFails old new range before after name output put slot error =
+    (UnitFails (λ told. slot_read (body_in old told) slot) before after name error
+    × (put ≡ output))
+    ⊎ ((error ≡ errors.Outside outsides.SinkFault)
+    × PartFails old new range before after name output put slot)
 
 -- how many bytes are read of a body for so many slots of a range at the most: the width of each but
 -- the last, and what that has; none, where the range is empty
@@ -286,17 +314,19 @@ WritesFrontOf range output put b =
     AppendsFront output.written put.written (extracted_body b range).part
 
 -- Why the range isn't written to its end, and what was: its part before the slot that has a fault,
--- or a front of its part. Want of memory is free.
+-- or a front of its part. Where it isn't a read that failed, none did.
 abbrev pub RangeFails : Slots → ByteRange → ShelfState → ShelfState → List ℕ → SinkState
     → SinkState → ExtractError → Type 0
 RangeFails s range before after name output put (errors.Fault fault) =
-    OnBody s before after name (λ b. FindsFault b range output put fault)
+    (after.faults ≡ before.faults)
+    × OnBody s before after name (λ b. FindsFault b range output put fault)
 RangeFails s range before after name output put (errors.Outside outsides.ShelfFault) =
     FailsToRead before after name
     × OnBody s before after name (WritesFrontOf range output put)
 RangeFails s range before after name output put (errors.Outside outsides.SinkFault) =
-    Rose output.faults put.faults
+    (after.faults ≡ before.faults) × Rose output.faults put.faults
     × OnBody s before after name (WritesFrontOf range output put)
 RangeFails s range before after name output put (errors.Outside outside) = ⊥
 RangeFails s range before after name output put errors.Memory =
-    OnBody s before after name (WritesFrontOf range output put)
+    (after.faults ≡ before.faults)
+    × OnBody s before after name (WritesFrontOf range output put)

@@ -5,7 +5,7 @@ ghost use Rattle.esdk_decrypt.specs.Decrypt.{asked_from};
 ghost use Rattle.esdk_decrypt.specs.Underway.{BearsOnce};
 ghost use Rattle.keyring_trait.specs.Manager.{Went};
 ghost use Rattle.whole_input.specs.FileReads.{Grows};
-ghost use Rattle.extract_core.specs.Extract.{ExtractEnds, Extracts, HasHeader, HasNoHeader, OnFile, UnlessMemory, body_begin, locked_as, most_header, most_read, range_of, unheaded_as};
+ghost use Rattle.extract_core.specs.Extract.{ExtractEnds, Extracts, HasHeader, HasNoHeader, OnFile, body_begin, locked_as, most_header, most_read, range_of, unheaded_as};
 
 use crate::errors::ExtractError;
 use crate::slots::Slots;
@@ -56,6 +56,8 @@ const IV_AND_TAG: usize = 28;
 ///   the header were read.
 /// - `Memory`: memory ran out. A front of the range was written; nothing, where the shelf tells
 ///   that it has no file of the name.
+///
+/// Where the answer isn't `ShelfFault`, no read failed.
 pub fn extract<M: Manager, F: Shelf, O: Sink>(
     alloc: Global,
     manager: &mut M,
@@ -80,10 +82,9 @@ pub fn extract<M: Manager, F: Shelf, O: Sink>(
         (O.state output.old) (O.state output.new) (output.new ≡ output.old)) }
     ensures files { (F.state shelf.new).files ≡ (F.state shelf.old).files }
     ensures faults { IfOk result (λ _. (F.state shelf.new).faults ≡ (F.state shelf.old).faults) }
-    ensures given { UnlessMemory result (OnFile (F.state shelf.old) (F.state shelf.new)
-        name.now
+    ensures given { OnFile (F.state shelf.old) (F.state shelf.new) name.now
         (λ bytes. (F.state shelf.new).given
-        ≤ (F.state shelf.old).given + most_read settings (range_of at count) bytes)) }
+        ≤ (F.state shelf.old).given + most_read settings (range_of at count) bytes) }
     ensures calls { Grows (F.state shelf.old).calls (F.state shelf.new).calls }
     ensures went { Went (M.state manager.old) (M.state manager.new) }
     ensures bears { BearsOnce (M.state manager.old) (M.state manager.new) now }
@@ -115,10 +116,9 @@ fn header_in<F: Shelf>(
     ensures none { IfErr result (HasNoHeader settings (F.state shelf.old) (F.state shelf.new)
         name.now) }
     ensures files { (F.state shelf.new).files ≡ (F.state shelf.old).files }
-    ensures given { UnlessMemory result (OnFile (F.state shelf.old) (F.state shelf.new)
-        name.now
+    ensures given { OnFile (F.state shelf.old) (F.state shelf.new) name.now
         (λ bytes. (F.state shelf.new).given
-        ≤ (F.state shelf.old).given + most_header settings bytes)) }
+        ≤ (F.state shelf.old).given + most_header settings bytes) }
     ensures calls { Grows (F.state shelf.old).calls (F.state shelf.new).calls }
 {
     let mut file = FileSource::new(shelf, name, 0);

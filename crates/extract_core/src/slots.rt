@@ -13,7 +13,7 @@ ghost use Rattle.header_codec.specs.Header.{IsContent, frame_length};
 ghost use Rattle.whole_input.specs.FileReads.{Grows};
 ghost use Rattle.extract_core.specs.declared.errors.ExtractError.TheVariants as errors;
 ghost use Rattle.extract_core.specs.Extracted.{first_slot, in_range, slot_count, slot_read, slot_width};
-ghost use Rattle.extract_core.specs.Slots.{AreSlotsOf, IsWithin, NeedsAre, OnBody, RangeFails, ReadsSlot, ReadsUnit, SameBody, TakesMore, TakesNone, TakesOn, TakesSlot, TakesUnit, UnitFails, WritesRange, body_in, first_byte, is_last, range_reach, unit_read};
+ghost use Rattle.extract_core.specs.Slots.{AreSlotsOf, IsWithin, NeedsAre, OnBody, RangeFails, ReadsSlot, ReadsUnit, SameBody, SlotFails, TakesMore, TakesNone, TakesOn, TakesSlot, TakesUnit, UnitFails, WritesRange, WritesSlot, body_in, first_byte, is_last, range_reach, unit_read};
 
 use crate::errors::ExtractError;
 use crate::read_ahead::ReadAhead;
@@ -194,13 +194,11 @@ impl Slots {
             × (opened_of self.old.key self.old.message_id head.now self.old.unit.held ≡ None)) }
         ensures same { SameBody self.old self.new }
     {
-        if !self.unit.open(&mut self.key, self.message_id.bytes(), head) {
-            return Err(ExtractError::Fault(Fault::UnitTag(head.number)));
+        let is_right = self.unit.open(&mut self.key, self.message_id.bytes(), head);
+        if is_right {
+            return Ok(is_last(head.kind));
         }
-        match head.kind {
-            UnitKind::Regular => Ok(false),
-            UnitKind::Final | UnitKind::Single => Ok(true),
-        }
+        Err(ExtractError::Fault(Fault::UnitTag(head.number)))
     }
 
     /// Reads the unit of this number at this offset of the file, opens it where it lies, and
@@ -298,6 +296,38 @@ impl Slots {
         }
     }
 
+    /// Reads and opens a slot, counted from 0, and writes what the range has of it; answers how
+    /// many bytes that is, and whether it is the last slot. None is held before. Fails as
+    /// `take_slot` says, with nothing written, or as `write_part` says.
+    fn write_slot<F: Shelf, O: Sink>(
+        &mut self,
+        shelf: &mut F,
+        name: &str,
+        output: &mut O,
+        slot: u64,
+        at: u64,
+        count: u64,
+    ) -> Result<(u64, bool), ExtractError>
+        requires none { self.old.unit.held ≡ [] }
+        requires begin { self.old.begin ≤ 2 ^ 26 }
+        requires slot { first_byte self.old.content slot ≤ 2 ^ 63 }
+        requires at { at ≤ 2 ^ 62 }
+        requires count { count ≤ 2 ^ 62 }
+        ensures wrote { IfOk result (λ wrote. WritesSlot self.old self.new
+            (record { at = at; count = count }) (F.state shelf.old) (F.state shelf.new) name.now
+            (O.state output.old) (O.state output.new) slot wrote.0 wrote.1) }
+        ensures fails { IfErr result (SlotFails self.old self.new
+            (record { at = at; count = count }) (F.state shelf.old) (F.state shelf.new) name.now
+            (O.state output.old) (O.state output.new) slot) }
+        ensures reads { ReadsSlot self.old self.new (F.state shelf.old) (F.state shelf.new)
+            name.now }
+    {
+        let first = slot * frame_of(self.content);
+        let last = self.take_slot(shelf, name, slot)?;
+        let written = self.write_part(output, first, at, count)?;
+        Ok((written, last))
+    }
+
     /// Writes the range of the message's content: of each slot that holds some of it the part that
     /// lies in it, before the next slot is read. Answers how many bytes were written. No slot is
     /// read for an empty range, and none behind a last unit or one that isn't good.
@@ -338,16 +368,25 @@ impl Slots {
             return Ok(0);
         }
         let (first, behind) = slots_of(self.content, at, count);
-        let frame = frame_of(self.content);
         let mut written = 0;
         for slot in first..behind {
-            let last = self.take_slot(shelf, name, slot)?;
-            written += self.write_part(output, slot * frame, at, count)?;
+            let (part, last) = self.write_slot(shelf, name, output, slot, at, count)?;
+            written += part;
             if last {
                 return Ok(written);
             }
         }
         Ok(written)
+    }
+}
+
+/// Whether a unit of this kind is the last one.
+fn is_last(kind: UnitKind) -> bool
+    ensures { result ≡ is_last kind }
+{
+    match kind {
+        UnitKind::Regular => false,
+        UnitKind::Final | UnitKind::Single => true,
     }
 }
 

@@ -165,7 +165,21 @@ going_refused settings first now new taken piece reader grown (failures.Fault fa
   faults = came.faults ∙ going.faults;
 }
 going_refused settings first now new taken piece reader grown (failures.End end) going came feeds = absurd feeds
-going_refused settings first now new taken piece reader grown failures.Memory going came feeds = tt
+going_refused settings first now new taken piece reader grown failures.Memory going came feeds = record {
+  bytes = going.bytes ++ piece;
+  came = came_more first now new going.bytes piece going.came came.came;
+  last = record { before = going.bytes; piece = piece; all = refl; few = came.fits; was = going.waits.wanting };
+  faults = came.faults ∙ going.faults;
+}
+
+-- there is no buffer for a piece
+pub lacks_buffer : (settings : Settings) (first : SourceState) → NoneCame settings first first failures.Memory
+lacks_buffer settings first = record {
+  bytes = [];
+  came = came_none first;
+  last = record { before = []; piece = []; all = refl; few = omega arith; was = wanting_first settings };
+  faults = refl;
+}
 
 -- no piece came
 pub going_ended : (T : Type 0) (settings : Settings) (first now new : SourceState) (taken : ℕ) (v : PiecesValue) (reader : HeaderReader) (end : End) → Going settings first now taken reader

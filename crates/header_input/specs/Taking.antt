@@ -1,6 +1,6 @@
 -- What a source gave when a header was taken from it. Standard: AWS Encryption SDK Specification,
 -- "Message header" and "Header authentication".
-use Rattle.std.specs.Prelude.{◌≡◌, ◌+◌, ◌<◌, ℕ, List, length, ⊤}
+use Rattle.std.specs.Prelude.{◌≡◌, ◌+◌, ◌<◌, ℕ, List, length}
 use Rattle.esdk_fields.specs.Counts.{Rose}
 use Rattle.esdk_fields.specs.declared.faults.Fault.{Fault}
 use Rattle.esdk_fields.specs.Place.{start}
@@ -10,6 +10,7 @@ use Rattle.header_codec.specs.declared.session.HeaderReader.{HeaderReader}
 use Rattle.header_codec.specs.declared.settings.Settings.{Settings}
 use Rattle.header_codec.specs.Table.{header}
 use Rattle.whole_input.specs.declared.pieces.End.TheVariants as ends
+use Rattle.whole_input.specs.Pieces.{APieceBehind}
 use Rattle.whole_input.specs.Taken.{Came, EndSeen, MostTaken}
 use Rattle.header_input.specs.declared.errors.NoHeader.{NoHeader}
 use Rattle.header_input.specs.declared.errors.NoHeader.TheVariants as errors
@@ -58,10 +59,18 @@ pub record IsTooLong (settings : Settings) (old new : SourceState) : Type 0 wher
   pub most : MostTaken old new bytes
   pub wanting : header settings (start bytes) ≡ Wanting
 
--- why none came; want of memory is free
+-- Memory ran out at the last piece that came; what came before it is the beginning of a header, and
+-- no read failed.
+pub record LacksMemory (settings : Settings) (old new : SourceState) : Type 0 where
+  pub bytes : List ℕ
+  pub came : Came old new bytes
+  pub last : APieceBehind (λ before. header settings (start before) ≡ Wanting) bytes
+  pub faults : new.faults ≡ old.faults
+
+-- why none came
 abbrev pub NoneCame : Settings → SourceState → SourceState → NoHeader → Type 0
 NoneCame settings old new (errors.Fault fault) = FaultCame settings fault old new
 NoneCame settings old new (errors.End ends.Seen) = EndCame settings old new
 NoneCame settings old new (errors.End ends.Failed) = ReadFailed settings old new
 NoneCame settings old new (errors.End ends.TooLong) = IsTooLong settings old new
-NoneCame settings old new errors.Memory = ⊤
+NoneCame settings old new errors.Memory = LacksMemory settings old new

@@ -21,7 +21,8 @@ use whole_input::Pieces;
 /// - `Fault`: a field of the bytes that came has it, and fewer than 65,536 bytes came behind that.
 /// - `End`: the end was seen, a read failed, or 2^62 bytes came; those that came are the beginning
 ///   of a header.
-/// - `Memory`: memory ran out.
+/// - `Memory`: memory ran out, before the first read or at the last piece that came; the bytes
+///   before that piece are the beginning of a header.
 pub fn take_header<S: Source>(
     alloc: Global,
     input: &mut S,

@@ -99,4 +99,7 @@ adding_fails first old new name before after Shelf adding few fails = record {
   most = omega (arith, adding.most, few, fails.1);
 }
 adding_fails first old new name before after TooLong adding few adds = absurd adds
-adding_fails first old new name before after Memory adding few adds = tt
+adding_fails first old new name before after Memory adding few adds = record {
+  most = omega (arith, adding.most, few, adds.0);
+  faults = adds.1 ∙ adding.faults;
+}

@@ -1,5 +1,5 @@
 -- What is taken of a file.
-use Rattle.std.specs.Prelude.{◌≡◌, ℕ, ◌+◌, ◌-◌, ◌<◌, ◌≤◌, List, ◌++◌, ◌∷◌, length, [], drop, Bool, true, false, ⊤, Option, Result, Ok, Err, codes}
+use Rattle.std.specs.Prelude.{◌≡◌, ℕ, ◌+◌, ◌-◌, ◌<◌, ◌≤◌, List, ◌++◌, ◌∷◌, length, [], drop, Bool, true, false, Option, Result, Ok, Err, codes}
 use Rattle.esdk_fields.specs.Counts.{RoseBy, counted}
 use Rattle.esdk_base.specs.Shelf.{Files, Holds, is_missing}
 use Rattle.esdk_base.specs.Streams.{FailsToRead, ShelfState}
@@ -40,11 +40,16 @@ pub record IsUnread (old new : ShelfState) (name : List ℕ) : Type 0 where
   pub cause : FailsToRead old new name
   pub most : new.given ≤ old.given + most_file
 
+-- Memory ran out, at the latest with the piece that makes the file too long, and no read failed.
+pub record LacksMemory (old new : ShelfState) : Type 0 where
+  pub most : new.given ≤ old.given + most_file + most_piece
+  pub faults : new.faults ≡ old.faults
+
 -- why a file wasn't taken
 abbrev pub FileCause : ShelfState → ShelfState → List ℕ → FileError → Type 0
 FileCause old new name Shelf = IsUnread old new name
 FileCause old new name TooLong = IsLong old new name
-FileCause old new name Memory = ⊤
+FileCause old new name Memory = LacksMemory old new
 
 -- these bytes are the front of the file, where the shelf tells
 abbrev pub IsFront : Option Files → List ℕ → List ℕ → Type 0
@@ -72,7 +77,8 @@ abbrev pub Adds : ShelfState → ShelfState → List ℕ → List ℕ → List �
 Adds old new name before after (Ok more) = Piece old new name before after more
 Adds old new name before after (Err Shelf) = FailsToRead old new name × (new.given ≡ old.given)
 Adds old new name before after (Err TooLong) = ⊥
-Adds old new name before after (Err Memory) = ⊤
+Adds old new name before after (Err Memory) =
+    (new.given ≤ old.given + most_piece) × (new.faults ≡ old.faults)
 
 -- what is shown of why a file isn't taken
 unfoldable pub file_error_text : FileError → List ℕ

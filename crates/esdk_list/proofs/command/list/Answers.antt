@@ -1,4 +1,5 @@
-use Rattle.std.proofs.Common.{◌∙◌, subst, sym}
+use Rattle.std.proofs.Common.{◌∙◌, inr, subst, sym}
+use Rattle.std.proofs.lemmas.Result.{err_from_is_err_and}
 use Rattle.header_input.specs.Feeding.{session_of}
 use Rattle.esdk_list.specs.List.{IsListCause, limits_of}
 use Rattle.esdk_list.proofs.Causes.{list_cause}
@@ -42,3 +43,11 @@ returns-in-Err-clause-cause g c =
     subst (λ failure. IsListCause c.args.uncommitted failure first now put put)
     (sym c.failure_of.ensures)
     (list_cause c.args.uncommitted first now put put c.in-Err.error cause)
+
+pub returns-in_err-text-clause-cause : goal.returns-in_err-text-clause-cause
+returns-in_err-text-clause-cause g c =
+    let holds = rw c.limits_of.ensures at c.in-Ok.ensures.whole in
+    let limits = limits_of c.args.uncommitted in
+    let shows = c.in-Some.ensures (session_of limits holds.holds.taken) holds.holds.stands in
+    let p = err_from_is_err_and c.from_residual.result c.from_residual.ensures.1 in
+    rw (p.1, p.2) (inr (c.in-Some.header.now, shows_came c.args.uncommitted c.in-Ok.reader _ _ holds c.in-Some.header.now shows))

@@ -1,25 +1,59 @@
-use Rattle.std.proofs.Common.{◌≡◌, ℕ, Err, None, Some, refl, subst, sym}
-use Rattle.header_codec.specs.Header.{HeaderValue}
+use Rattle.std.proofs.Common.{◌≡◌, ◌∙◌, ℕ, IfOk, None, Some, refl, subst, sym}
+use Rattle.extract_core.specs.declared.errors.ExtractError.TheVariants as errors
 use Rattle.extract_core.specs.Extract.{ExtractEnds, range_of}
 use Rattle.esdk_decrypt.specs.Decrypt.{asked_from}
-use Rattle.extract_core.proofs.Extracting.{bears_locked, extract_ends, extract_given, extracts_all, header_given, passed_given, stays_locked, unless, without_header}
-use Rattle.extract_core.proofs.Writing.{passed_on}
+use Rattle.extract_core.proofs.Extracting.{bears_locked, extract_ends, extract_given, extracts_all, given_less, header_given, stays_locked, without_header, writes_none}
+use Rattle.whole_input.proofs.Agreeing.{grows_more}
+use Rattle.extract_core.proofs.Writing.{none_done, passed_on}
 use Rattle.extract_core.proofs.extraction.extract.Goals as goal
+
+-- no header came
+
+pub returns-in_err-header-clause-done : goal.returns-in_err-header-clause-done
+returns-in_err-header-clause-done g c = none_done _ c.from_residual.result _ c.from_residual.ensures.1
+
+pub returns-in_err-header-clause-files : goal.returns-in_err-header-clause-files
+returns-in_err-header-clause-files g c = c.header_in.ensures.files
+
+pub returns-in_err-header-clause-faults : goal.returns-in_err-header-clause-faults
+returns-in_err-header-clause-faults g c = none_done _ c.from_residual.result _ c.from_residual.ensures.1
+
+pub returns-in_err-header-clause-calls : goal.returns-in_err-header-clause-calls
+returns-in_err-header-clause-calls g c = c.header_in.ensures.calls
+
+pub returns-in_err-header-clause-went : goal.returns-in_err-header-clause-went
+returns-in_err-header-clause-went g c = c.wraps-wraps.ensures.stays
 
 pub returns-in_err-header-clause-ends : goal.returns-in_err-header-clause-ends
 returns-in_err-header-clause-ends g c =
     let m = g.M.Manager.state c.args.manager.now in
     passed_on _ c.from_residual.result c.in_err-header.field-0.0 c.from_residual.ensures.1
     (without_header (asked_from m m c.args.now c.args.settings c.args.given.now) (range_of c.args.at c.args.count) (g.F.Shelf.state c.args.shelf.now) (g.F.Shelf.state c.header_in.new.shelf) c.args.name.now
-    (g.O.Sink.state c.args.output.now) _ c.in_err-header.field-0.0 refl c.in_err-header.ensures.none c.in_err-header.ensures.given)
+    (g.O.Sink.state c.args.output.now) _ c.in_err-header.field-0.0 refl c.in_err-header.ensures.none c.header_in.ensures.given)
 
 pub returns-in_err-header-clause-given : goal.returns-in_err-header-clause-given
 returns-in_err-header-clause-given g c =
-    passed_given HeaderValue ℕ c.args.settings (range_of c.args.at c.args.count) (g.F.Shelf.state c.args.shelf.now) (g.F.Shelf.state c.header_in.new.shelf) c.args.name.now c.in_err-header.field-0.0 c.from_residual.result
-    c.from_residual.ensures.1 c.in_err-header.ensures.given
+    given_less c.args.settings (range_of c.args.at c.args.count) (g.F.Shelf.state c.args.shelf.now) (g.F.Shelf.state c.header_in.new.shelf) c.args.name.now c.header_in.ensures.given
 
 pub returns-in_err-header-clause-bears : goal.returns-in_err-header-clause-bears
 returns-in_err-header-clause-bears g c = (None, λ lines bore. bore)
+
+-- the header stays locked
+
+pub returns-in-Err-clause-done : goal.returns-in-Err-clause-done
+returns-in-Err-clause-done g c = tt
+
+pub returns-in-Err-clause-files : goal.returns-in-Err-clause-files
+returns-in-Err-clause-files g c = c.header_in.ensures.files
+
+pub returns-in-Err-clause-faults : goal.returns-in-Err-clause-faults
+returns-in-Err-clause-faults g c = tt
+
+pub returns-in-Err-clause-calls : goal.returns-in-Err-clause-calls
+returns-in-Err-clause-calls g c = c.header_in.ensures.calls
+
+pub returns-in-Err-clause-went : goal.returns-in-Err-clause-went
+returns-in-Err-clause-went g c = c.unlock.ensures.went
 
 pub returns-in-Err-clause-ends : goal.returns-in-Err-clause-ends
 returns-in-Err-clause-ends g c =
@@ -36,7 +70,38 @@ returns-in-Err-clause-bears g c =
 
 pub returns-in-Err-clause-given : goal.returns-in-Err-clause-given
 returns-in-Err-clause-given g c =
-    unless {T = ℕ} (Err c.locked_as.result) _ (header_given c.args.settings (range_of c.args.at c.args.count) (g.F.Shelf.state c.args.shelf.now) (g.F.Shelf.state c.header_in.new.shelf) c.args.name.now c.in_ok-header.header c.in_ok-header.ensures.header)
+    header_given c.args.settings (range_of c.args.at c.args.count) (g.F.Shelf.state c.args.shelf.now) (g.F.Shelf.state c.header_in.new.shelf) c.args.name.now c.in_ok-header.header c.in_ok-header.ensures.header
+
+-- there is no memory for the slots
+
+pub returns-in_err-slots-clause-done : goal.returns-in_err-slots-clause-done
+returns-in_err-slots-clause-done g c = none_done _ c.from_residual-in_err-slots.result errors.Memory c.from_residual-in_err-slots.ensures.1
+
+pub returns-in_err-slots-clause-ends : goal.returns-in_err-slots-clause-ends
+returns-in_err-slots-clause-ends g c =
+    let old = g.M.Manager.state c.args.manager.now in
+    let new = g.M.Manager.state c.unlock.new.manager in
+    passed_on _ c.from_residual-in_err-slots.result errors.Memory c.from_residual-in_err-slots.ensures.1 (
+      c.in_ok-header.ensures.header.faults,
+      writes_none (asked_from old new c.args.now c.args.settings c.args.given.now) (range_of c.args.at c.args.count) (g.F.Shelf.state c.args.shelf.now) (g.F.Shelf.state c.header_in.new.shelf) c.args.name.now
+          (g.O.Sink.state c.args.output.now) (g.O.Sink.state c.args.output.now) _ refl,
+    )
+
+pub returns-in_err-slots-clause-files : goal.returns-in_err-slots-clause-files
+returns-in_err-slots-clause-files g c = c.header_in.ensures.files
+
+pub returns-in_err-slots-clause-faults : goal.returns-in_err-slots-clause-faults
+returns-in_err-slots-clause-faults g c = none_done _ c.from_residual-in_err-slots.result errors.Memory c.from_residual-in_err-slots.ensures.1
+
+pub returns-in_err-slots-clause-given : goal.returns-in_err-slots-clause-given
+returns-in_err-slots-clause-given g c =
+    header_given c.args.settings (range_of c.args.at c.args.count) (g.F.Shelf.state c.args.shelf.now) (g.F.Shelf.state c.header_in.new.shelf) c.args.name.now c.in_ok-header.header c.in_ok-header.ensures.header
+
+pub returns-in_err-slots-clause-calls : goal.returns-in_err-slots-clause-calls
+returns-in_err-slots-clause-calls g c = c.header_in.ensures.calls
+
+pub returns-in_err-slots-clause-went : goal.returns-in_err-slots-clause-went
+returns-in_err-slots-clause-went g c = c.unlock.ensures.went
 
 pub returns-in_err-slots-clause-bears : goal.returns-in_err-slots-clause-bears
 returns-in_err-slots-clause-bears g c = (Some c.in-Ok.ensures.unlocked.materials.served, c.in-Ok.ensures.unlocked.answered.bears)
@@ -82,7 +147,7 @@ returns-clause-ends g c =
 pub returns-clause-given : goal.returns-clause-given
 returns-clause-given g c =
     extract_given (g.M.Manager.state c.args.manager.now) (g.M.Manager.state c.unlock.new.manager) c.args.now c.args.settings c.args.given.now (g.F.Shelf.state c.args.shelf.now) (g.F.Shelf.state c.header_in.new.shelf) (g.F.Shelf.state c.write_range.new.shelf)
-    c.args.name.now c.in_ok-slots.slots (range_of c.args.at c.args.count) c.write_range.result
+    c.args.name.now c.in_ok-slots.slots (range_of c.args.at c.args.count)
     (record {
       h = c.in_ok-header.header;
       opened = c.in-Ok.opened;
@@ -99,3 +164,16 @@ returns-clause-given g c =
 
 pub returns-clause-bears : goal.returns-clause-bears
 returns-clause-bears g c = (Some c.in-Ok.ensures.unlocked.materials.served, c.in-Ok.ensures.unlocked.answered.bears)
+
+pub returns-clause-files : goal.returns-clause-files
+returns-clause-files g c = c.write_range.ensures.files ∙ c.header_in.ensures.files
+
+pub returns-clause-faults : goal.returns-clause-faults
+returns-clause-faults g c =
+    subst (λ (n : ℕ). IfOk c.write_range.result (λ written. (g.F.Shelf.state c.write_range.new.shelf).faults ≡ n)) c.in_ok-header.ensures.header.faults c.write_range.ensures.faults
+
+pub returns-clause-calls : goal.returns-clause-calls
+returns-clause-calls g c = grows_more _ _ _ c.header_in.ensures.calls c.write_range.ensures.calls
+
+pub returns-clause-went : goal.returns-clause-went
+returns-clause-went g c = c.unlock.ensures.went

@@ -1,8 +1,7 @@
-use Rattle.std.proofs.Common.{◌∙◌, ◌+◌, ◌≤◌, Err, ap, subst, sym}
+use Rattle.std.proofs.Common.{◌∙◌, ◌+◌, ◌≤◌, ap, subst, sym}
 use Rattle.esdk_base.specs.Streams.{ShelfState}
-use Rattle.header_codec.specs.Header.{HeaderValue}
 use Rattle.whole_input.specs.FileReads.{Grows}
-use Rattle.extract_core.specs.Extract.{HasHeader, HasNoHeader, OnFile, UnlessMemory, most_header}
+use Rattle.extract_core.specs.Extract.{HasHeader, HasNoHeader, OnFile, most_header}
 use Rattle.extract_core.proofs.Front.{front_grows, front_made, given_came, header_came, none_came, none_given, shows_none}
 use Rattle.extract_core.proofs.extraction.header_in.Goals as goal
 
@@ -53,10 +52,9 @@ returns-in-Err-clause-given g c =
     let front = front_made (g.F.Shelf.state made.shelf.now) old read made.name.now c.args.name.now now.name.now made.at made.faults now.at now.faults made.came.bytes now.came.bytes made.ended now.ended (ap (λ r. g.F.Shelf.state r.now) c.new-file.ensures.shelf)
     (ap (λ r. r.now) c.new-file.ensures.name) c.new-file.ensures.at c.new-file.ensures.faults c.new-file.ensures.came c.new-file.ensures.ended (ap (λ r. r.now) lasts.1) lasts.2 lasts.3
     c.take_header.ensures.taken in
-    subst (λ s. UnlessMemory {T = HeaderValue} (Err c.unheaded_as.result) (OnFile old (g.F.Shelf.state s) c.args.name.now (λ bytes. (g.F.Shelf.state s).given ≤ old.given + most_header c.args.settings bytes)))
+    subst (λ s. OnFile old (g.F.Shelf.state s) c.args.name.now (λ bytes. (g.F.Shelf.state s).given ≤ old.given + most_header c.args.settings bytes))
     (sym (c.shelf-1.given.1 (sym (lasts.0 ∙ ap (λ r. r.ghost_name) c.new-file.ensures.shelf))))
-    (subst (λ e. UnlessMemory {T = HeaderValue} (Err e) (OnFile old read c.args.name.now (λ bytes. read.given ≤ old.given + most_header c.args.settings bytes))) (sym c.unheaded_as.ensures)
-    (none_given c.args.settings old read c.args.name.now _ _ now.at c.in-Err.error front c.in-Err.ensures.cause))
+    (none_given c.args.settings old read c.args.name.now _ _ now.at c.in-Err.error front c.in-Err.ensures.cause)
 
 pub returns-in-Some-clause-calls : goal.returns-in-Some-clause-calls
 returns-in-Some-clause-calls g c =

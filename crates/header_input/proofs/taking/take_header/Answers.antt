@@ -1,6 +1,6 @@
 use Rattle.std.proofs.Common.{true, false, Ok, Err}
 use Rattle.std.proofs.lemmas.Result.{err_from_is_err_and}
-use Rattle.header_input.proofs.Feeding.{fed_same, going_first, going_on, going_refused, going_whole}
+use Rattle.header_input.proofs.Feeding.{fed_same, going_first, going_on, going_refused, going_whole, lacks_buffer}
 use Rattle.header_input.proofs.taking.take_header.Goals as goal
 
 pub reading-init : goal.reading-init
@@ -51,3 +51,8 @@ returns-in_err-feed-clause-lasts g c =
 pub returns-in-Err-clause-lasts : goal.returns-in-Err-clause-lasts
 returns-in-Err-clause-lasts g c =
     g.met.S.Source.lasts_more _ _ _ c.reading.invariant.1 c.in-Err.ensures.lasts
+
+pub returns-in_err-pieces-clause-cause : goal.returns-in_err-pieces-clause-cause
+returns-in_err-pieces-clause-cause g c =
+    let p = err_from_is_err_and c.from_residual.result c.from_residual.ensures.1 in
+    rw (p.1, p.2) (lacks_buffer c.args.settings _)
