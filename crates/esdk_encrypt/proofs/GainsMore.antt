@@ -40,6 +40,7 @@ module _ (from to : Gaining) (asked : Asked) (input taken : SourceState) (entrop
         stops = record {
           text = writes.text;
           came = writes.came;
+          faults = writes.end.faults;
           at = inr (inr (record { end = writes.end; short = writes.short; stopped = not _ _ follows.0 follows.1 writes.gained }));
         };
       }
@@ -53,6 +54,7 @@ module _ (from to : Gaining) (took : (bytes : List ℕ) → from.took Front byte
     sink_as fails = record {
       text = fails.text;
       came = fails.came;
+      faults = fails.faults;
       at = elim fails.at [
         | inl header ↦ inl (record { none = header.none; stopped = stopped Front _ _ header.stopped })
         | inr (inl frame) ↦ inr (inl (record {
@@ -73,7 +75,7 @@ module _ (from to : Gaining) (took : (bytes : List ℕ) → from.took Front byte
     stops_as (errors.Outside outsides.InputTooLong) stops =
         record { text = stops.text; came = stops.came; most = stops.most; short = stops.short; gained = took _ stops.gained }
     stops_as (errors.Refusal refusals.TooManyFrames) stops =
-        record { text = stops.text; came = stops.came; many = stops.many; last = stops.last; gained = took _ stops.gained }
+        record { text = stops.text; came = stops.came; faults = stops.faults; many = stops.many; last = stops.last; gained = took _ stops.gained }
     stops_as error stops = absurd stops
 
   after_as : (asked : Asked) (entropy spent : EntropyState) (error : EncryptError) → EndsAfter asked input taken from entropy spent error → EndsAfter asked input taken to entropy spent error

@@ -18,7 +18,9 @@ use Rattle.stream_seal.specs.Start.{most_frames, most_text, start_of}
 use Rattle.stream_seal.proofs.Feeding.{is_feeding, refuses_piece}
 use Rattle.stream_seal.proofs.GivenFrames.{frames_of_most}
 use Rattle.whole_input.specs.Taken.{Came, EndSeen, Piece}
-use Rattle.whole_input.specs.Pieces.{most_piece}
+use Rattle.whole_input.specs.declared.pieces.End.{End}
+use Rattle.whole_input.specs.declared.pieces.End.TheVariants as ends
+use Rattle.whole_input.specs.Pieces.{NextPiece, PiecesValue, most_piece}
 use Rattle.whole_input.proofs.Coming.{came_more, came_none, came_still}
 use Rattle.esdk_encrypt.specs.declared.errors.EncryptError.{EncryptError}
 use Rattle.esdk_encrypt.specs.declared.errors.EncryptError.TheVariants as errors
@@ -49,6 +51,12 @@ pub record IsFedInput {R : Type 0} (takes : R → R → List ℕ → Type 0) (m 
   pub stands : Stands sealer (session_of m size id text)
   pub gained : takes output put (written_so_far m size id text)
 
+-- where no piece came, no more was given
+pub ended_most : (count : ℕ) (now next : SourceState) (v : PiecesValue) (end : End) → NextPiece {T = Unit {0}} count now next v (Err end) → next.given ≤ now.given
+ended_most count now next v ends.Seen came = omega (arith, came.0.most)
+ended_most count now next v ends.Failed came = omega (arith, came.0.most)
+ended_most count now next v ends.TooLong came = omega (arith, ap (λ (s : SourceState). s.given) came.0)
+
 module _ {R : Type 0} (takes : R → R → List ℕ → Type 0) (m : EncMaterialsValue) (size : ℕ) (id : List ℕ) (wide : 1 ≤ size) where
   -- the header was put
   pub feeding_none : (input : SourceState) (output put : R) (sealer : Sealer) (count : ℕ) (header : List ℕ) → header ≡ start_of m size id → Stands sealer (session_of m size id [])
@@ -67,7 +75,7 @@ module _ {R : Type 0} (takes : R → R → List ℕ → Type 0) (m : EncMaterial
       (feeding : FeedingInput takes m size id input now output mid old count) where
     -- ---- no piece came
 
-    pub input_ends : (next : SourceState) → Came now next [] → IsAtEnd next.left → next.ended ≡ true → next.faults ≡ now.faults → count < 2 ^ 62 → IsFedInput takes m size id input next output mid old
+    unfoldable pub input_ends : (next : SourceState) → Came now next [] → IsAtEnd next.left → next.ended ≡ true → next.faults ≡ now.faults → count < 2 ^ 62 → IsFedInput takes m size id input next output mid old
     input_ends next none end seen faults few = record {
       text = feeding.text;
       came = came_still input now next feeding.text feeding.came none;
@@ -149,6 +157,7 @@ module _ {R : Type 0} (takes : R → R → List ℕ → Type 0) (m : EncMaterial
             record {
               text = all;
               came = came_then;
+              faults = came.faults ∙ feeding.faults;
               many = many;
               last = record { before = feeding.text; piece = piece; all = refl; few = came.fits; was = feeding.short };
               gained = subst (λ (n : ℕ). takes output put (header_and_frames m size id (take most all) n)) frames
@@ -161,6 +170,7 @@ module _ {R : Type 0} (takes : R → R → List ℕ → Type 0) (m : EncMaterial
         put_fails failed fed = record {
           text = feeding.text ++ piece;
           came = came_then;
+          faults = came.faults ∙ feeding.faults;
           at = inr (inl (record {
             before = feeding.text;
             piece = piece;

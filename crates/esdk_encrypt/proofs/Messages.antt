@@ -1,5 +1,5 @@
 -- A message that is written: the header, the input's frames, and the final frame.
-use Rattle.std.proofs.Common.{◌≡◌, ◌∙◌, ℕ, ◌≤◌, List, [], ◌++◌, length, false, Result, Ok, Err, IfErr, OnOk, inl, inr, refl, sym, ap, subst, arith, append-nil, length-append}
+use Rattle.std.proofs.Common.{◌≡◌, ◌∙◌, ℕ, ◌≤◌, List, [], ◌++◌, length, false, Result, Ok, Err, inl, inr, refl, sym, ap, subst, arith, append-nil, length-append}
 use Rattle.esdk_fields.specs.declared.refusals.Outside.TheVariants as outsides
 use Rattle.esdk_base.specs.declared.receiver.FeedError.TheVariants as fed_errors
 use Rattle.esdk_base.specs.Streams.{SourceState}
@@ -13,16 +13,18 @@ use Rattle.stream_seal.specs.declared.errors.SealError.TheVariants as seals
 use Rattle.stream_seal.specs.declared.session.Sealer.{Sealer}
 use Rattle.stream_seal.specs.Receiving.{Finishes}
 use Rattle.stream_seal.specs.Session.{SealingValue, finished}
-use Rattle.stream_seal.specs.Stands.{Stands}
 use Rattle.stream_seal.specs.Start.{message_of, start_of}
 use Rattle.stream_seal.proofs.Feeding.{finishes}
+use Rattle.whole_input.specs.declared.pieces.End.{End}
+use Rattle.whole_input.specs.declared.pieces.End.TheVariants as ends
+use Rattle.whole_input.specs.Pieces.{NextPiece, PiecesValue}
 use Rattle.whole_input.proofs.Coming.{came_none}
 use Rattle.esdk_encrypt.specs.declared.errors.EncryptError.{EncryptError}
 use Rattle.esdk_encrypt.specs.declared.errors.EncryptError.TheVariants as errors
 use Rattle.esdk_encrypt.specs.Encrypt.{StopsSo, Writes, written_so_far}
 use Rattle.esdk_encrypt.specs.Gaining.{gaining}
-use Rattle.esdk_encrypt.specs.Writing.{FedInto, IsNamed, WritesAs, session_of}
-use Rattle.esdk_encrypt.proofs.Input.{IsFedInput}
+use Rattle.esdk_encrypt.specs.Writing.{Concludes, FailsLast, FedInto, IsNamed, PutsLast, WritesAs, WritesOrStops, session_of}
+use Rattle.esdk_encrypt.proofs.Input.{FeedingInput, IsFedInput, input_ends, input_fails, input_long}
 use Rattle.esdk_encrypt.proofs.Sessions.{given_is, is_fed}
 
 -- the header's tag alone is something
@@ -33,6 +35,23 @@ header_some m size id =
     let tag : List ℕ = header_tag Committing zero_iv raw (only_of m.required m.context) m.key id in
     omega (arith, length-append raw tag, length-header_tag Committing zero_iv raw (only_of m.required m.context) m.key id)
 
+module _ {R E : Type 0} (takes : R → R → List ℕ → Type 0) (fails : R → R → List ℕ → E → Type 0) (v : SealingValue) (mid put : R) where
+  -- a session that goes on is finished
+  pub finish_names : (r : FedInto E) → v.stopped ≡ false → Finishes takes fails v mid put r → IsNamed r
+  finish_names (Ok done) on ends = tt
+  finish_names (Err (fed_errors.Receiver failed)) on ends = tt
+  finish_names (Err (fed_errors.Machine seals.Stopped)) on ends = absurd (let both = sym on ∙ ends.0 in cc)
+  finish_names (Err (fed_errors.Machine (seals.Refusal refusal))) on ends = absurd ends
+  finish_names (Err (fed_errors.Machine seals.Memory)) on ends = absurd ends
+
+  -- the receiver took the final frame, or failed at it
+  pub puts_last : (r : FedInto E) (result : Result (Unit {0}) EncryptError) → WritesAs r result → Finishes takes fails v mid put r → PutsLast takes fails v mid put result
+  puts_last (Ok done) result writes ends = subst (λ (a : Result (Unit {0}) EncryptError). PutsLast takes fails v mid put a) (sym writes) ends.1
+  puts_last (Err (fed_errors.Receiver failed)) result writes ends =
+      subst (λ (a : Result (Unit {0}) EncryptError). PutsLast takes fails v mid put a) (sym writes) (record { error = failed; some = ends.1; failed = ends.2 })
+  puts_last (Err (fed_errors.Machine (seals.Refusal refusal))) result writes ends = absurd ends
+  puts_last (Err (fed_errors.Machine failed)) result writes ends = absurd writes
+
 module _ {R E : Type 0} (takes : R → R → List ℕ → Type 0) (fails : R → R → List ℕ → E → Type 0) (m : EncMaterialsValue) (size : ℕ) (id : List ℕ) where
   -- the receiver failed at the header
   pub header_fails : ((r : R) → takes r r []) → (input : SourceState) (output put : R) (header : List ℕ) (error : E) → header ≡ start_of m size id → fails output put header error
@@ -40,6 +59,7 @@ module _ {R E : Type 0} (takes : R → R → List ℕ → Type 0) (fails : R →
   header_fails takes_none input output put header error is failed = record {
     text = [];
     came = came_none input;
+    faults = refl;
     at = inl (record {
       none = refl;
       stopped = record {
@@ -57,28 +77,16 @@ module _ {R E : Type 0} (takes : R → R → List ℕ → Type 0) (fails : R →
 
   -- ---- the end
 
-  module _ (input taken : SourceState) (output mid put : R) (old : Sealer) (wide : 1 ≤ size)
+  module _ (takes_more : (r s t : R) (xs ys : List ℕ) → takes r s xs → takes s t ys → takes r t (xs ++ ys)) (input taken : SourceState) (output mid put : R) (old : Sealer) (wide : 1 ≤ size)
       (fed : IsFedInput takes m size id input taken output mid old) where
-    named : (v : SealingValue) (r : FedInto E) → v.stopped ≡ false → Finishes takes fails v mid put r → IsNamed r
-    named v (Ok done) on ends = tt
-    named v (Err (fed_errors.Receiver failed)) on ends = tt
-    named v (Err (fed_errors.Machine seals.Stopped)) on ends = absurd (let both = sym on ∙ ends.0 in cc)
-    named v (Err (fed_errors.Machine (seals.Refusal refusal))) on ends = absurd ends
-    named v (Err (fed_errors.Machine seals.Memory)) on ends = absurd ends
-
-    -- a session that goes on is finished
-    pub finish_names : (r : FedInto E) → ((v : SealingValue) → Stands old v → Finishes takes fails v mid put r) → IsNamed r
-    finish_names r ends = named (session_of m size id fed.text) r refl (ends (session_of m size id fed.text) fed.stands)
-
     -- the final frame behind what was written makes the message
     whole : written_so_far m size id fed.text ++ (finished (session_of m size id fed.text)).out ≡ message_of m size id fed.text
     whole =
         ap (λ (g : List ℕ). g ++ (finished (session_of m size id fed.text)).out) (sym (given_is m size id fed.text))
         ∙ finishes (session_of m size id fed.text) (is_fed m size id fed.text wide fed.short)
 
-    message_put : ((r s t : R) (xs ys : List ℕ) → takes r s xs → takes s t ys → takes r t (xs ++ ys)) → takes mid put (finished (session_of m size id fed.text)).out
-        → Writes m size id input taken (gaining takes fails output put)
-    message_put takes_more gained = record {
+    message_put : takes mid put (finished (session_of m size id fed.text)).out → Writes m size id input taken (gaining takes fails output put)
+    message_put gained = record {
       text = fed.text;
       came = fed.came;
       end = fed.end;
@@ -87,11 +95,11 @@ module _ {R E : Type 0} (takes : R → R → List ℕ → Type 0) (fails : R →
           (takes_more output mid put (written_so_far m size id fed.text) (finished (session_of m size id fed.text)).out fed.gained gained);
     }
 
-    message_fails : (error : E) → 1 ≤ length (finished (session_of m size id fed.text)).out → fails mid put (finished (session_of m size id fed.text)).out error
-        → StopsSo m size id input taken (gaining takes fails output put) (errors.Outside outsides.SinkFault)
-    message_fails error some failed = record {
+    message_fails : FailsLast fails (session_of m size id fed.text) mid put → StopsSo m size id input taken (gaining takes fails output put) (errors.Outside outsides.SinkFault)
+    message_fails last = record {
       text = fed.text;
       came = fed.came;
+      faults = fed.end.faults;
       at = inr (inr (record {
         end = fed.end;
         short = fed.short;
@@ -99,32 +107,31 @@ module _ {R E : Type 0} (takes : R → R → List ℕ → Type 0) (fails : R →
           between = mid;
           given = (finished (session_of m size id fed.text)).out;
           rest = [];
-          error = error;
-          some = some;
+          error = last.error;
+          some = last.some;
           is = sym whole ∙ ap (λ (g : List ℕ). written_so_far m size id fed.text ++ g) (sym (append-nil (finished (session_of m size id fed.text)).out));
           taken = fed.gained;
-          failed = failed;
+          failed = last.failed;
         };
       }));
     }
 
-    -- the receiver took the final frame
-    pub ends_written : ((r s t : R) (xs ys : List ℕ) → takes r s xs → takes s t ys → takes r t (xs ++ ys)) → (r : FedInto E) (result : Result (Unit {0}) EncryptError) → WritesAs r result
-        → ((v : SealingValue) → Stands old v → Finishes takes fails v mid put r) → OnOk result (Writes m size id input taken (gaining takes fails output put))
-    ends_written takes_more r (Err error) writes ends = tt
-    ends_written takes_more (Ok done) (Ok also) writes ends = message_put takes_more (ends (session_of m size id fed.text) fed.stands).1
-    ends_written takes_more (Err (fed_errors.Receiver failed)) (Ok also) writes ends = absurd cc
-    ends_written takes_more (Err (fed_errors.Machine (seals.Refusal refusal))) (Ok also) writes ends = absurd cc
-    ends_written takes_more (Err (fed_errors.Machine error)) (Ok also) writes ends = absurd writes
+    -- the end was seen
+    ends_seen : (result : Result (Unit {0}) EncryptError) → PutsLast takes fails (session_of m size id fed.text) mid put result → WritesOrStops m size id input taken (gaining takes fails output put) result
+    ends_seen (Ok done) last = message_put last
+    ends_seen (Err (errors.Outside outsides.SinkFault)) last = message_fails last
+    ends_seen (Err error) last = absurd last
 
-    -- or it failed at it
-    pub ends_unwritten : (r : FedInto E) (result : Result (Unit {0}) EncryptError) → WritesAs r result
-        → ((v : SealingValue) → Stands old v → Finishes takes fails v mid put r) → IfErr result (StopsSo m size id input taken (gaining takes fails output put))
-    ends_unwritten r (Ok done) writes ends = tt
-    ends_unwritten (Ok done) (Err error) writes ends = absurd cc
-    ends_unwritten (Err (fed_errors.Receiver failed)) (Err error) writes ends =
-        let ended = ends (session_of m size id fed.text) fed.stands in
-        let is : errors.Outside outsides.SinkFault ≡ error = cc in
-        subst (λ (e : EncryptError). StopsSo m size id input taken (gaining takes fails output put) e) is (message_fails failed ended.1 ended.2)
-    ends_unwritten (Err (fed_errors.Machine (seals.Refusal refusal))) (Err error) writes ends = absurd (ends (session_of m size id fed.text) fed.stands)
-    ends_unwritten (Err (fed_errors.Machine failed)) (Err error) writes ends = absurd writes
+  -- no more came behind what was fed
+  module _ (takes_more : (r s t : R) (xs ys : List ℕ) → takes r s xs → takes s t ys → takes r t (xs ++ ys)) (wide : 1 ≤ size) (input now next : SourceState) (output mid put : R) (old : Sealer)
+      (count : ℕ) (feeding : FeedingInput takes m size id input now output mid old count) (v : PiecesValue) where
+    pub concludes : (end : End) (result : Result (Unit {0}) EncryptError) → NextPiece {T = Unit {0}} count now next v (Err end)
+        → Concludes takes fails (session_of m size id feeding.text) end mid put result → WritesOrStops m size id input next (gaining takes fails output put) result
+    unfolding input_ends
+    concludes ends.Seen result came last =
+        ends_seen takes_more input next output mid put old wide
+        (input_ends takes m size id wide fails input now output mid old count feeding next came.0 came.1 came.5 came.2 came.3) result last
+    concludes ends.Failed result came last =
+        rw (last.0, last.1) (input_fails takes m size id wide fails input now output mid old count feeding next came.0 came.1)
+    concludes ends.TooLong result came last =
+        rw (last.0, last.1) (input_long takes m size id wide fails input now output mid old count feeding next came.0 came.1)

@@ -17,6 +17,7 @@ use Rattle.keyring_trait.specs.Requests.{EncRequestValue}
 use Rattle.keyring_trait.specs.Wrapping.{WrapKeyValue, active, ivs_of, made}
 use Rattle.esdk_encrypt.specs.declared.errors.EncryptError.{EncryptError}
 use Rattle.esdk_encrypt.specs.declared.errors.EncryptError.TheVariants as errors
+pub use Rattle.esdk_encrypt.specs.Asking.{CountsWraps}
 use Rattle.esdk_encrypt.specs.Encrypt.{Asked, Begins, Drew, Encrypts, EndsAfter, EncryptEnds, GivesNothing, HasNoMemory, RefusesStart, StopsSo, Writes, encryption_of, drawn_id, drawn_rest}
 use Rattle.esdk_encrypt.specs.Gaining.{Gaining}
 use Rattle.esdk_encrypt.specs.Told.{asked_told, materials_of, writer_of}
@@ -145,11 +146,6 @@ told_more keys old new request now size max_keys is = record {
   size = refl;
   max_keys = refl;
 }
-
--- What a manager's `wraps` says of it: as many of the keys that it tells wrap, and where it is plain it is fresh.
-pub record CountsWraps (n : ManagerNow) : Type 0 where
-  pub told : (keys : List WrapKeyValue) → n.tells keys → length (active keys) ≡ n.meaning.wraps
-  pub plain : n.meaning.plain ≡ true → n.meaning.fresh ≡ true
 
 pub is_told : (keys : List WrapKeyValue) (n : ManagerNow) → CountsWraps n → n.tells keys → n.exact → n.meaning.plain ≡ true → IsTold keys n
 is_told keys n counts told is_exact plain =

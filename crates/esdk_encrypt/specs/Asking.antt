@@ -1,9 +1,46 @@
--- What a manager bears, once a run is over, of what it served: one line more at the most.
-use Rattle.std.specs.Prelude.{ℕ, List, ◌∷◌, [], ◌++◌, ◌⊎◌, Option, Result, MatchResult}
+-- What comes of asking a manager for the materials of a message; and what it bears, once a run is
+-- over, of what it served: one line more at the most.
+use Rattle.std.specs.Prelude.{◌≡◌, ℕ, List, ◌∷◌, [], ◌++◌, length, true, ⊤, ◌⊎◌, Option, Result, MatchResult}
+use Rattle.esdk_fields.specs.declared.refusals.Outside.TheVariants as outsides
+use Rattle.esdk_base.specs.Streams.{EntropyState}
 use Rattle.keyring_trait.specs.declared.journal.JournalLine.{JournalLine}
 use Rattle.keyring_trait.specs.declared.journal.Kind.TheVariants.{Seal}
+use Rattle.keyring_trait.specs.declared.manager_errors.ManagerError.TheVariants as managers
 use Rattle.keyring_trait.specs.declared.served.Served.{Served}
 use Rattle.keyring_trait.specs.Manager.{ManagerNow}
+use Rattle.keyring_trait.specs.Materials.{EncMaterialsValue}
+use Rattle.keyring_trait.specs.Wrapping.{WrapKeyValue, active}
+use Rattle.esdk_encrypt.specs.declared.errors.EncryptError.{EncryptError}
+use Rattle.esdk_encrypt.specs.declared.errors.EncryptError.TheVariants as errors
+use Rattle.esdk_encrypt.specs.Encrypt.{Asked, Drew, EntropyFails, GivesNothing, HasNoMemory, drawn_rest}
+
+-- ---- the materials
+
+-- What a manager's `wraps` says of it: as many of the keys that it tells wrap, and where it is
+-- plain it is fresh.
+pub record CountsWraps (n : ManagerNow) : Type 0 where
+  pub told : (keys : List WrapKeyValue) → n.tells keys → length (active keys) ≡ n.meaning.wraps
+  pub plain : n.meaning.plain ≡ true → n.meaning.fresh ≡ true
+
+-- Bytes were drawn, and the manager gave materials for them.
+pub record IsGiven (asked : Asked) (entropy spent : EntropyState) (drawn : List ℕ)
+    (materials : EncMaterialsValue) : Type 0 where
+  pub drew : Drew asked.wraps entropy spent drawn
+  pub given : asked.gives (drawn_rest drawn) materials
+
+-- Why there are none: a fill failed, and the manager wasn't asked; or it gave nothing for the bytes
+-- drawn. `unasked` says that the manager is as before. Nothing is said here of input and output.
+abbrev pub IsNotGiven : Asked → EntropyState → EntropyState → Type 0 → EncryptError → Type 0
+IsNotGiven asked entropy spent unasked (errors.Outside outsides.EntropyFault) =
+    EntropyFails entropy spent ⊤ unasked
+IsNotGiven asked entropy spent unasked (errors.Outside outsides.KeyringFault) =
+    GivesNothing asked entropy spent managers.KeyringFault ⊤
+IsNotGiven asked entropy spent unasked (errors.Outside outside) = ⊥
+IsNotGiven asked entropy spent unasked (errors.Refusal refusal) =
+    GivesNothing asked entropy spent (managers.Refusal refusal) ⊤
+IsNotGiven asked entropy spent unasked errors.Memory = HasNoMemory asked entropy spent ⊤
+
+-- ---- what it bears
 
 -- the lines that it bore
 abbrev pub BearsAsMany : ManagerNow → ManagerNow → Type 0

@@ -80,11 +80,12 @@ pub record IsTooLong (m : EncMaterialsValue) (size : ℕ) (id : List ℕ) (input
   pub short : length text ≤ most_text size
   pub gained : gains.took Front (written_so_far m size id text)
 
--- The last piece has a byte beyond those that have room in a message. The output gained all regular
--- frames of the message of those that have, and no final frame.
+-- The last piece has a byte beyond those that have room in a message, and no read failed. The output
+-- gained all regular frames of the message of those that have, and no final frame.
 pub record HasTooMany (m : EncMaterialsValue) (size : ℕ) (id : List ℕ) (input taken : SourceState) (gains : Gaining) : Type 0 where
   pub text : List ℕ
   pub came : Came input taken text
+  pub faults : taken.faults ≡ input.faults
   pub many : most_text size < length text
   pub last : APieceBehind (λ before. length before ≤ most_text size) text
   pub gained : gains.took Front (header_and_frames m size id (take (most_text size) text) (most_frames - 1))
@@ -107,10 +108,12 @@ pub record FinalFails (m : EncMaterialsValue) (size : ℕ) (id : List ℕ) (inpu
   pub short : length text ≤ most_text size
   pub stopped : gains.stopped Whole (written_so_far m size id text) (message_of m size id text)
 
--- The output failed: at the header, or at a frame of the last piece, or at the final frame.
+-- The output failed: at the header, or at a frame of the last piece, or at the final frame. No read
+-- failed.
 pub record SinkFails (m : EncMaterialsValue) (size : ℕ) (id : List ℕ) (input taken : SourceState) (gains : Gaining) : Type 0 where
   pub text : List ℕ
   pub came : Came input taken text
+  pub faults : taken.faults ≡ input.faults
   pub at : HeaderFails m size id gains text ⊎ (APieceBehind (WritesFrames m size id gains text) text ⊎ FinalFails m size id input taken gains text)
 
 -- why no more was taken or written, and what was

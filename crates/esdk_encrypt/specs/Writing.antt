@@ -1,16 +1,23 @@
 -- A message that is written as its text comes.
-use Rattle.std.specs.Prelude.{◌≡◌, ℕ, List, [], length, false, None, Result, Ok, Err}
+use Rattle.std.specs.Prelude.{◌≡◌, ℕ, ◌≤◌, List, [], length, false, None, Result, Ok, Err, MatchResult}
 use Rattle.esdk_base.specs.declared.receiver.FeedError.{FeedError}
 use Rattle.esdk_base.specs.declared.receiver.FeedError.TheVariants as feeds
 use Rattle.esdk_base.specs.declared.source.Failed.{Failed}
+use Rattle.esdk_base.specs.Streams.{SourceState}
 use Rattle.esdk_fields.specs.declared.refusals.Outside.TheVariants as outsides
 use Rattle.keyring_trait.specs.Materials.{EncMaterialsValue}
 use Rattle.stream_seal.specs.declared.errors.SealError.{SealError}
 use Rattle.stream_seal.specs.declared.errors.SealError.TheVariants as seals
 use Rattle.stream_seal.specs.Feeding.{frames_given}
-use Rattle.stream_seal.specs.Session.{SealingValue}
+use Rattle.stream_seal.specs.declared.session.Sealer.{Sealer}
+use Rattle.stream_seal.specs.Session.{SealingValue, finished}
+use Rattle.stream_seal.specs.Stands.{Stands}
+use Rattle.whole_input.specs.declared.pieces.End.{End}
+use Rattle.whole_input.specs.declared.pieces.End.TheVariants as ends
 use Rattle.esdk_encrypt.specs.declared.errors.EncryptError.{EncryptError}
 use Rattle.esdk_encrypt.specs.declared.errors.EncryptError.TheVariants as errors
+use Rattle.esdk_encrypt.specs.Encrypt.{StopsSo, Writes}
+use Rattle.esdk_encrypt.specs.Gaining.{Gaining}
 
 -- the session that was fed this text, of a message with these materials, in frames of this length,
 -- under this id
@@ -48,3 +55,53 @@ WritesAs (Err (feeds.Receiver failed)) result = result ≡ Err (errors.Outside o
 WritesAs (Err (feeds.Machine (seals.Refusal refusal))) result =
     result ≡ Err (errors.Refusal refusal)
 WritesAs (Err (feeds.Machine error)) result = ⊥
+
+-- ---- the input
+
+-- The sealer stands for a message of which no text was taken.
+pub record IsUnfed (sealer : Sealer) : Type 0 where
+  pub materials : EncMaterialsValue
+  pub size : ℕ
+  pub id : List ℕ
+  pub wide : 1 ≤ size
+  pub stands : Stands sealer (session_of materials size id [])
+
+-- what writing the message of an input comes to
+abbrev pub WritesOrStops : EncMaterialsValue → ℕ → List ℕ → SourceState → SourceState → Gaining
+    → Result (Unit {0}) EncryptError → Type 0
+WritesOrStops m size id input taken gains result =
+    MatchResult result (λ _. Writes m size id input taken gains)
+    (StopsSo m size id input taken gains)
+
+-- ---- the end
+
+-- The sealer stands for a session that goes on.
+pub record IsGoing (sealer : Sealer) : Type 0 where
+  pub session : SealingValue
+  pub stands : Stands sealer session
+  pub goes : session.stopped ≡ false
+
+-- The receiver failed at the final frame.
+pub record FailsLast {R E : Type 0} (fails : R → R → List ℕ → E → Type 0) (v : SealingValue)
+    (old new : R) : Type 0 where
+  pub error : E
+  pub some : 1 ≤ length (finished v).out
+  pub failed : fails old new (finished v).out error
+
+-- what putting the final frame comes to
+abbrev pub PutsLast : {R E : Type 0} → (R → R → List ℕ → Type 0) → (R → R → List ℕ → E → Type 0)
+    → SealingValue → R → R → Result (Unit {0}) EncryptError → Type 0
+PutsLast takes fails v old new (Ok done) = takes old new (finished v).out
+PutsLast takes fails v old new (Err (errors.Outside outsides.SinkFault)) =
+    FailsLast fails v old new
+PutsLast takes fails v old new (Err error) = ⊥
+
+-- What ending the message comes to, by why no more came: the final frame is put only once the end
+-- was seen.
+abbrev pub Concludes : {R E : Type 0} → (R → R → List ℕ → Type 0) → (R → R → List ℕ → E → Type 0)
+    → SealingValue → End → R → R → Result (Unit {0}) EncryptError → Type 0
+Concludes takes fails v ends.Seen old new result = PutsLast takes fails v old new result
+Concludes takes fails v ends.Failed old new result =
+    (new ≡ old) × (result ≡ Err (errors.Outside outsides.SourceFault))
+Concludes takes fails v ends.TooLong old new result =
+    (new ≡ old) × (result ≡ Err (errors.Outside outsides.InputTooLong))

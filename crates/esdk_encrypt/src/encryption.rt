@@ -5,21 +5,18 @@ ghost use Rattle.keyring_trait.specs.Manager.{Went};
 ghost use Rattle.keyring_trait.specs.Saying.{said_last};
 ghost use Rattle.keyring_trait.specs.Wrapping.{WrapKeyValue};
 ghost use Rattle.esdk_encrypt.specs.Asking.{BearsAtMostOne};
-ghost use Rattle.esdk_encrypt.specs.Encrypt.{encryption_of, Encrypts, EncryptEnds, GivesNot, IsNoFault};
+ghost use Rattle.esdk_encrypt.specs.Encrypt.{encryption_of, Encrypts, EncryptEnds};
 ghost use Rattle.esdk_encrypt.specs.Gaining.{gaining};
 ghost use Rattle.esdk_encrypt.specs.Told.{asked_told};
-ghost use Rattle.esdk_encrypt.specs.Writing.{IsNamed, WritesAs};
 
 use crate::beginning::begin;
-use crate::draws::draw;
 use crate::errors::EncryptError;
+use crate::materials::ask;
 use crate::options::EncryptOptions;
-use esdk_base::{Entropy, FeedError, Receiver, Source};
-use esdk_fields::Outside;
-use keyring_trait::{EncRequest, Manager, ManagerError};
+use crate::writing::write;
+use esdk_base::{Entropy, Receiver, Source};
+use keyring_trait::{EncRequest, Manager};
 use std::alloc::Global;
-use stream_seal::SealError;
-use whole_input::{End, Pieces};
 
 /// Encrypts the whole input with materials of the manager, as the request asks for them, and writes
 /// the message to a receiver: a sink is one, and so is what makes another text of the bytes.
@@ -103,55 +100,8 @@ pub fn encrypt<M: Manager, S: Source, O: Receiver, W: Entropy>(
         request.now.declared result }
     ensures taken { (S.state input.new).given ≤ (S.state input.old).given + 2 ^ 62 }
 {
-    let wraps = manager.wraps();
-    let draws = match draw(entropy, wraps) {
-        Ok(draws) => draws,
-        Err(_) => return Err(EncryptError::Outside(Outside::EntropyFault)),
-    };
-    let materials = match manager.for_encryption(alloc, request, options.now, draws.rest()) {
-        Ok(materials) => materials,
-        Err(error) => return Err(ungiven(error)),
-    };
-    let id = draws.message_id();
-    let mut sealer = begin(alloc, &materials, options, &id)?;
-    let mut pieces = Pieces::new(alloc)?;
-    let Ok(()) = output.take(sealer.header()) else {
-        return Err(EncryptError::Outside(Outside::SinkFault));
-    };
-    'reads: loop {
-        match pieces.next(input) {
-            Ok(()) => written(sealer.feed(pieces.piece(), output))?,
-            Err(End::Seen) => return written(sealer.finish_into(output)),
-            Err(End::Failed) => return Err(EncryptError::Outside(Outside::SourceFault)),
-            Err(End::TooLong) => return Err(EncryptError::Outside(Outside::InputTooLong)),
-        }
-    }
-}
-
-/// Why a run ends whose manager gives no materials.
-fn ungiven(error: ManagerError) -> EncryptError
-    requires { IsNoFault error }
-    ensures { GivesNot error result }
-{
-    match error {
-        ManagerError::Refusal(refusal) => EncryptError::Refusal(refusal),
-        ManagerError::KeyringFault => EncryptError::Outside(Outside::KeyringFault),
-        ManagerError::Memory => EncryptError::Memory,
-        // There is no header yet that could have a fault.
-        ManagerError::Fault(_) => unreachable!(),
-    }
-}
-
-/// What a run answers where the sealer was fed or finished so.
-fn written<E: Drop>(fed: Result<(), FeedError<SealError, E>>) -> Result<(), EncryptError>
-    requires { IsNamed fed }
-    ensures { WritesAs fed result }
-{
-    match fed {
-        Ok(()) => Ok(()),
-        Err(FeedError::Receiver(_)) => Err(EncryptError::Outside(Outside::SinkFault)),
-        Err(FeedError::Machine(SealError::Refusal(refusal))) => Err(EncryptError::Refusal(refusal)),
-        // The session goes on, and never answers `Memory`.
-        Err(FeedError::Machine(_)) => unreachable!(),
-    }
+    let given = ask(alloc, manager, request, options, entropy)?;
+    let id = given.draws.message_id();
+    let (sealer, pieces) = begin(alloc, &given.materials, options, &id)?;
+    write(sealer, pieces, input, output)
 }

@@ -11,8 +11,8 @@
 //! `specs/Laws.antt` says what follows: an input that fits is encrypted unless memory runs out or
 //! something outside fails, over bytes that are told the output has gained their message, and where
 //! a run ends early, a front of it. `specs/Gaining.antt` says what an output gains, a receiver or a
-//! sink; `specs/Writing.antt` how the text comes to a sealer, and `specs/Asking.antt` that the
-//! manager serves one message once.
+//! sink; `specs/Writing.antt` how the text comes to a sealer, and `specs/Asking.antt` what asking
+//! the manager comes to, which serves one message once.
 #![tactic(auto)]
 
 mod beginning;
@@ -20,7 +20,9 @@ mod draws;
 mod encryption;
 mod errors;
 mod laws;
+mod materials;
 mod options;
+mod writing;
 
 pub use draws::{Draws, MOST_DRAWN, draw};
 pub use encryption::encrypt;

@@ -4,7 +4,7 @@ use Rattle.keyring_trait.specs.Materials.{EncMaterialsValue}
 use Rattle.stream_seal.specs.Stands.{Stands}
 use Rattle.esdk_encrypt.specs.Writing.{session_of}
 use Rattle.esdk_encrypt.proofs.Input.{FeedingInput}
-use Rattle.esdk_encrypt.proofs.encryption.encrypt.Given as goal
+use Rattle.esdk_encrypt.proofs.writing.write.Given as goal
 
 abbrev pub invariant-reads : goal.invariant-reads
 invariant-reads g l = record {
