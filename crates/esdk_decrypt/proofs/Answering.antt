@@ -184,14 +184,15 @@ beyond_more output put first all added writes = record {
 
 -- what was written beyond what some bytes release, while others behind them were judged, when more follow
 front_read : (asked : Asked) (input taken : SourceState) (output put : SinkState) (first piece b more : List ℕ) (answer : Unlocking) (parts : Head) (p : Place) → header asked.settings (start b) ≡ Read parts p
-    → AnswersTo asked.manager asked.settings asked.given b answer → Came input taken (b ++ more) → b ++ more ≡ first ++ piece → length piece ≤ most_piece
+    → AnswersTo asked.manager asked.settings asked.given b answer → Came input taken (b ++ more) → taken.faults ≡ input.faults → b ++ more ≡ first ++ piece → length piece ≤ most_piece
     → ReleasesBeyond asked.settings answer output put b first → ReleasesFront asked input taken output put
-front_read asked input taken output put first piece b more answer parts p e answered came all few beyond =
+front_read asked input taken output put first piece b more answer parts p e answered came faults all few beyond =
     let on = content_on asked.settings b more answer in
     record {
       bytes = b ++ more;
       answer = answer;
       came = came;
+      faults = faults;
       answered = answers_on asked.manager asked.settings asked.given b more answer parts p e answered;
       last = record {
         before = first;
@@ -213,17 +214,17 @@ none_beyond settings answer output put b first beyond none =
     omega (arith, beyond.written.some, ap length (sym none ∙ beyond.written.is), length-append first_content beyond.written.more)
 
 front_by : (asked : Asked) (input taken : SourceState) (output put : SinkState) (first piece b more : List ℕ) (answer : Unlocking) (r : Reading Head) → header asked.settings (start b) ≡ r
-    → AnswersTo asked.manager asked.settings asked.given b answer → Came input taken (b ++ more) → b ++ more ≡ first ++ piece → length piece ≤ most_piece
+    → AnswersTo asked.manager asked.settings asked.given b answer → Came input taken (b ++ more) → taken.faults ≡ input.faults → b ++ more ≡ first ++ piece → length piece ≤ most_piece
     → ReleasesBeyond asked.settings answer output put b first → ReleasesFront asked input taken output put
-front_by asked input taken output put first piece b more answer (Read parts p) e answered came all few beyond =
-    front_read asked input taken output put first piece b more answer parts p e answered came all few beyond
-front_by asked input taken output put first piece b more answer (Refused fault at) e answered came all few beyond =
+front_by asked input taken output put first piece b more answer (Read parts p) e answered came faults all few beyond =
+    front_read asked input taken output put first piece b more answer parts p e answered came faults all few beyond
+front_by asked input taken output put first piece b more answer (Refused fault at) e answered came faults all few beyond =
     absurd (none_beyond asked.settings answer output put b first beyond (nothing_by asked.settings b answer (Refused fault at) e refl))
-front_by asked input taken output put first piece b more answer Wanting e answered came all few beyond =
+front_by asked input taken output put first piece b more answer Wanting e answered came faults all few beyond =
     absurd (none_beyond asked.settings answer output put b first beyond (nothing_by asked.settings b answer Wanting e refl))
 
 pub front_released : (asked : Asked) (input taken : SourceState) (output put : SinkState) (first piece b more : List ℕ) (answer : Unlocking)
-    → AnswersTo asked.manager asked.settings asked.given b answer → Came input taken (b ++ more) → b ++ more ≡ first ++ piece → length piece ≤ most_piece
+    → AnswersTo asked.manager asked.settings asked.given b answer → Came input taken (b ++ more) → taken.faults ≡ input.faults → b ++ more ≡ first ++ piece → length piece ≤ most_piece
     → ReleasesBeyond asked.settings answer output put b first → ReleasesFront asked input taken output put
-front_released asked input taken output put first piece b more answer answered came all few beyond =
-    front_by asked input taken output put first piece b more answer (header asked.settings (start b)) refl answered came all few beyond
+front_released asked input taken output put first piece b more answer answered came faults all few beyond =
+    front_by asked input taken output put first piece b more answer (header asked.settings (start b)) refl answered came faults all few beyond

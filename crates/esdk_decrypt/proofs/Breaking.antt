@@ -63,7 +63,8 @@ some_none : {A : Type 0} (a : A) → Some a ≡ None → ⊥
 some_none a e = cc
 
 module _ {M O : Type 0} (state : M → ManagerNow) (sink : O → SinkState) (now : ℕ) (settings : Settings) (given : List KeyValue) (bytes piece : List ℕ) (first mid new : M) (begun during after : O) (opener next : Opener)
-    (input taken : SourceState) (whole : FedWhole state (PutsAll sink) now (new_session settings given) bytes first mid begun during opener) (came : Came input taken (bytes ++ piece)) (few : length piece ≤ most_piece) where
+    (input taken : SourceState) (whole : FedWhole state (PutsAll sink) now (new_session settings given) bytes first mid begun during opener) (came : Came input taken (bytes ++ piece)) (faults : taken.faults ≡ input.faults)
+    (few : length piece ≤ most_piece) where
   abbrev asked : Asked
   asked = asked_from (state first) (state new) now settings given
 
@@ -138,6 +139,7 @@ module _ {M O : Type 0} (state : M → ManagerNow) (sink : O → SinkState) (now
           gained = gained_all short.given (content (judged all settings a.answer)) short.taken.gained
               (ap content (a.same ∙ sym same) ∙ short.why.released ∙ ap (λ (c : List ℕ). c ++ short.given) content_w);
         };
+        faults = faults;
         cause = inl (ap (λ (x : Judged). fault_of x.verdict) (a.same ∙ sym same) ∙ ap fault_of short.why.verdict);
         last = record {
           before = bytes;
@@ -163,6 +165,7 @@ module _ {M O : Type 0} (state : M → ManagerNow) (sink : O → SinkState) (now
         record {
           bytes = bytes ++ piece;
           came = came;
+          faults = faults;
           failed = fails_whole (answering_of (state first) (state new) now) settings given (bytes ++ piece) g about.parts about.whole about.is failed;
           last = record {
             before = bytes;
@@ -281,7 +284,7 @@ module _ {M O : Type 0} (state : M → ManagerNow) (sink : O → SinkState) (now
       (subst (λ (c : List ℕ). WritesBeyond (sink begun) (sink after) c (content (judged_now w) ++ until.given)) (sym (ap content before))
       (beyond_after (sink begun) (sink during) (sink after) (content (judged_now w)) until.given until.some gained until.failed.front)) in (
         front_released asked input taken (sink begun) (sink after) bytes piece b (drop until.count piece) a.answer a.answered
-            (subst (λ (l : List ℕ). Came input taken l) (sym all) came) all few
+            (subst (λ (l : List ℕ). Came input taken l) (sym all) came) faults all few
             (record { sound = sound_first a.answer z.answer until.fed.feeds.kept a.keeps; written = beyond }),
         omega (arith, until.failed.rose, whole.taken.faults),
       )

@@ -55,6 +55,13 @@ memory_first manager now settings given input =
       };
     }
 
+pub lacks_first : {T : Type 0} (manager : ManagerNow) (now : ℕ) (settings : Settings) (given : List KeyValue) (input : SourceState) (output : SinkState) (unwritten : Type 0) → unwritten
+    → (r : Result T DecryptError) → IsErrAnd r (λ other. other ≡ errors.Memory) → IfErr r (DecryptEnds (asked_from manager manager now settings given) input input output output unwritten)
+lacks_first manager now settings given input output unwritten same (Ok done) is = tt
+lacks_first manager now settings given input output unwritten same (Err error) is =
+    subst (λ (e : DecryptError). DecryptEnds (asked_from manager manager now settings given) input input output output unwritten e) (sym is)
+    (memory_first (said_last manager manager) now settings given input, same)
+
 -- ---- the whole context
 
 -- what is whole was unlocked
@@ -197,6 +204,7 @@ module _ {M O : Type 0} (state : M → ManagerNow) (sink : O → SinkState) (now
         bytes = w.bytes;
         answer = a.answer;
         releases = releases_by asked input taken (sink output) (sink put) w.bytes (judged_now w.fed.fed.session) w.fed.fed.session.answer a w.came (gained_in w.bytes w.fed);
+        faults = w.ends.faults;
         cause = inr (w.ends, ap (λ (j : Judged). fault_at_end j.verdict) a.same ∙ is);
         last = record {
           before = w.bytes;

@@ -125,6 +125,7 @@ front_allowed {from} {to} {settings} {given} allows r = record {
   bytes = r.bytes;
   answer = r.answer;
   came = r.came;
+  faults = r.faults;
   answered = answered_allowed from to settings given r.bytes r.answer allows r.answered;
   last = r.last;
 }
@@ -143,7 +144,7 @@ decrypts_allowed allows done = record {
 pub ends_allowed : (from to : Answering) (settings : Settings) (given : List KeyValue) (input taken : SourceState) (output put : SinkState) (unwritten : Type 0) (error : DecryptError) → Allows from to
     → DecryptEnds (asked_of from settings given) input taken output put unwritten error → DecryptEnds (asked_of to settings given) input taken output put unwritten error
 ends_allowed from to settings given input taken output put unwritten (errors.Fault fault) allows has =
-    record { bytes = has.bytes; answer = has.answer; releases = releases_allowed allows has.releases; cause = has.cause; last = has.last }
+    record { bytes = has.bytes; answer = has.answer; releases = releases_allowed allows has.releases; faults = has.faults; cause = has.cause; last = has.last }
 ends_allowed from to settings given input taken output put unwritten (errors.Outside outsides.SourceFault) allows fails =
     record { bytes = fails.bytes; answer = fails.answer; releases = releases_allowed allows fails.releases; sound = fails.sound; rose = fails.rose }
 ends_allowed from to settings given input taken output put unwritten (errors.Outside outsides.SinkFault) allows fails = (front_allowed allows fails.0, fails.1)
@@ -151,6 +152,7 @@ ends_allowed from to settings given input taken output put unwritten (errors.Out
   record {
     bytes = fails.0.bytes;
     came = fails.0.came;
+    faults = fails.0.faults;
     failed = failing_allowed from to given fails.0.bytes (header settings (start fails.0.bytes)) allows fails.0.failed;
     last = fails.0.last;
   },

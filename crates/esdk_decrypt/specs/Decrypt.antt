@@ -115,11 +115,12 @@ pub record Decrypts (asked : Asked) (input taken : SourceState) (output put : Si
   pub end : EndSeen input taken bytes
   pub whole : (judged bytes asked.settings (Unlocks context only key)).verdict ≡ verdicts.Whole
 
--- The bytes taken have this fault, or the whole input was taken and has it; those before the last piece have none. The output gained what was released before.
+-- The bytes taken have this fault, or the whole input was taken and has it; those before the last piece have none. The output gained what was released before. No read failed.
 pub record HasFault (asked : Asked) (input taken : SourceState) (output put : SinkState) (fault : Fault) : Type 0 where
   pub bytes : List ℕ
   pub answer : Unlocking
   pub releases : Releases asked input taken output put bytes answer
+  pub faults : taken.faults ≡ input.faults
   pub cause : (fault_of (judged bytes asked.settings answer).verdict ≡ Some fault)
       ⊎ (EndSeen input taken bytes × (fault_at_end (judged bytes asked.settings answer).verdict ≡ Some fault))
   pub last : APieceBehind (λ before. fault_of (judged before asked.settings answer).verdict ≡ None) bytes
@@ -145,18 +146,20 @@ pub record ReleasesBeyond (settings : Settings) (answer : Unlocking) (output put
   pub sound : fault_of (judged first settings answer).verdict ≡ None
   pub written : WritesBeyond output put (content (judged first settings answer)) (content (judged bytes settings answer))
 
--- These bytes were taken, the manager answered so, and what those before the last piece release was written, but not all that the piece releases beyond it.
+-- These bytes were taken, the manager answered so, and what those before the last piece release was written, but not all that the piece releases beyond it. No read failed.
 pub record ReleasesFront (asked : Asked) (input taken : SourceState) (output put : SinkState) : Type 0 where
   pub bytes : List ℕ
   pub answer : Unlocking
   pub came : Came input taken bytes
+  pub faults : taken.faults ≡ input.faults
   pub answered : AnswersTo asked.manager asked.settings asked.given bytes answer
   pub last : APieceBehind (ReleasesBeyond asked.settings answer output put bytes) bytes
 
--- These bytes were taken, and the manager failed when it was asked about their header, which the last piece made whole.
+-- These bytes were taken, and the manager failed when it was asked about their header, which the last piece made whole. No read failed.
 pub record ManagerFails (asked : Asked) (input taken : SourceState) : Type 0 where
   pub bytes : List ℕ
   pub came : Came input taken bytes
+  pub faults : taken.faults ≡ input.faults
   pub failed : FailsTo asked.manager asked.settings asked.given bytes
   pub last : APieceBehind (λ before. header asked.settings (start before) ≡ Wanting) bytes
 

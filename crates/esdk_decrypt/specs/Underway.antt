@@ -5,9 +5,11 @@ use Rattle.esdk_fields.specs.Counts.{Rose}
 use Rattle.esdk_fields.specs.declared.refusals.Outside.TheVariants as outsides
 use Rattle.esdk_base.specs.declared.receiver.FeedError.{FeedError}
 use Rattle.esdk_base.specs.declared.receiver.FeedError.TheVariants as feeds
+use Rattle.esdk_base.specs.declared.source.Failed.{Failed}
 use Rattle.esdk_base.specs.Receiver.{SinkFails, SinkTakes}
 use Rattle.esdk_base.specs.Streams.{SinkState, SourceState}
 use Rattle.context_codec.specs.Context.{KeyValue}
+use Rattle.header_codec.specs.declared.settings.Settings.{Settings}
 use Rattle.keyring_trait.specs.declared.served.Served.{Served}
 use Rattle.keyring_trait.specs.Manager.{ManagerNow}
 use Rattle.body_format.specs.declared.verdicts.Verdict.TheVariants as verdicts
@@ -16,8 +18,8 @@ use Rattle.stream_open.specs.declared.errors.OpenError.TheVariants as opens
 use Rattle.stream_open.specs.declared.session.Opener.{Opener}
 use Rattle.stream_open.specs.Asking.{BearsHeard}
 use Rattle.stream_open.specs.Feeding.{GoesOn}
-use Rattle.stream_open.specs.Receiving.{FedWhole}
-use Rattle.stream_open.specs.Session.{OpeningValue, answer_kept, judged_now}
+use Rattle.stream_open.specs.Receiving.{FedWhole, FeedsPiece}
+use Rattle.stream_open.specs.Session.{OpeningValue, answer_kept, judged_now, new_session}
 use Rattle.stream_open.specs.Stands.{Stands}
 use Rattle.whole_input.specs.declared.pieces.End.{End}
 use Rattle.whole_input.specs.declared.pieces.End.TheVariants as ends
@@ -33,6 +35,12 @@ abbrev pub BearsOnce : ManagerNow → ManagerNow → ℕ → Type 0
 BearsOnce old new now = (served : Option Served) × BearsHeard old new now served
 
 -- ---- the opener
+
+-- The opener has taken nothing. It keeps these limits, and is given these pairs.
+pub record IsNew (opener : Opener) : Type 0 where
+  pub settings : Settings
+  pub given : List KeyValue
+  pub stands : Stands opener (new_session settings given)
 
 -- The opener stands for a session that goes on.
 pub record IsGoing (opener : Opener) : Type 0 where
@@ -60,6 +68,17 @@ PutsFront state old new bytes error = SinkFails (state old) (state new) bytes
 abbrev pub IsFeedCalled : {E : Type 0} → FeedError OpenError E → DecryptError → Type 0
 IsFeedCalled (feeds.Machine error) named = IsCalled error named
 IsFeedCalled (feeds.Receiver error) named = named ≡ errors.Outside outsides.SinkFault
+
+-- what feeding a piece to a session comes to, whose error is called so
+abbrev pub FeedsAs : {M O : Type 0} → (M → ManagerNow) → (O → SinkState) → ℕ → OpeningValue
+    → List ℕ → M → M → O → O → Opener → Result (Unit {0}) DecryptError → Type 0
+FeedsAs state sink now v piece old new output put opener (Ok done) =
+    FedWhole state (PutsAll sink) now v piece old new output put opener
+FeedsAs state sink now v piece old new output put opener (Err named) =
+    (error : FeedError OpenError Failed)
+    × FeedsPiece {T = Unit {0}} state (PutsAll sink) (PutsFront sink) now v piece old new output put
+    opener (Err error)
+    × IsFeedCalled error named
 
 -- ---- the end
 

@@ -8,11 +8,12 @@ ghost use Rattle.keyring_trait.specs.Wrapping.{WrapKeyValue};
 ghost use Rattle.esdk_base.specs.declared.receiver.FeedError.TheVariants.{Machine};
 ghost use Rattle.stream_open.specs.declared.errors.OpenError.TheVariants.{Stopped};
 ghost use Rattle.stream_open.specs.Feeding.{GoesOn};
-ghost use Rattle.stream_open.specs.Session.{OpeningValue};
+ghost use Rattle.stream_open.specs.Session.{OpeningValue, new_session};
 ghost use Rattle.stream_open.specs.Stands.{Stands};
 ghost use Rattle.esdk_decrypt.specs.Decrypt.{Decrypts, DecryptEnds, asked_from};
 ghost use Rattle.esdk_decrypt.specs.Told.{asked_by};
-ghost use Rattle.esdk_decrypt.specs.Underway.{BearsOnce, Concludes, ConcludesWhole, IsCalled, IsFeedCalled, IsGoing};
+ghost use Rattle.esdk_decrypt.specs.Underway.{BearsOnce, Concludes, ConcludesWhole, FeedsAs};
+ghost use Rattle.esdk_decrypt.specs.Underway.{IsCalled, IsFedWhole, IsFeedCalled, IsGoing, IsNew};
 
 use crate::errors::DecryptError;
 use context_codec::Context;
@@ -96,15 +97,63 @@ pub fn decrypt<M: Manager, S: Source, O: Sink>(
     // Where the manager isn't asked, it stays as it is: `wraps` says what that keeps.
     let _wraps = manager.wraps();
     let mut opener = Opener::new(alloc, settings, given.copy(alloc)?);
+    let end = feed_input(alloc, manager, now, input, &mut opener, output)?;
+    conclude(opener, end)
+}
+
+/// Feeds all pieces of the input to an opener that has taken nothing, and says why no more came.
+/// The buffer is taken before the first read.
+fn feed_input<M: Manager, S: Source, O: Sink>(
+    alloc: Global,
+    manager: &mut M,
+    now: u64,
+    input: &mut S,
+    opener: &mut Opener,
+    output: &mut O,
+) -> Result<End, DecryptError>
+    requires manager { Went (M.state manager.old) (M.state manager.old) }
+    requires new { IsNew opener.old }
+    ensures fed { (new : IsNew opener.old) → IfOk result (λ end. IsFedWhole M.state O.state now
+        (new_session new.settings new.given) (S.state input.old) (S.state input.new)
+        manager.old manager.new output.old output.new end opener.new) }
+    ensures ends { (new : IsNew opener.old) → IfErr result (DecryptEnds
+        (asked_from (M.state manager.old) (M.state manager.new) now new.settings new.given)
+        (S.state input.old) (S.state input.new) (O.state output.old) (O.state output.new)
+        (output.new ≡ output.old)) }
+    ensures going { IfOk result (λ _. IsGoing opener.new) }
+    ensures went { Went (M.state manager.old) (M.state manager.new) }
+    ensures bears { BearsOnce (M.state manager.old) (M.state manager.new) now }
+    ensures taken { (S.state input.new).given ≤ (S.state input.old).given + 2 ^ 62 }
+    ensures lasts { S.lasts input.old input.new }
+{
     let mut pieces = Pieces::new(alloc)?;
     'reads: loop {
-        match pieces.next(input) {
-            Ok(()) => match opener.feed(alloc, manager, now, pieces.piece(), output) {
-                Ok(()) => {}
-                Err(error) => return Err(failure_of(error)),
-            },
-            Err(end) => return conclude(opener, end),
+        if let Err(end) = pieces.next(input) {
+            return Ok(end);
         }
+        if let Err(error) = feed_piece(alloc, manager, now, pieces.piece(), opener, output) {
+            return Err(error);
+        }
+    }
+}
+
+/// Feeds a piece to an opener that goes on, to its end.
+fn feed_piece<M: Manager, O: Sink>(
+    alloc: Global,
+    manager: &mut M,
+    now: u64,
+    piece: &[u8],
+    opener: &mut Opener,
+    output: &mut O,
+) -> Result<(), DecryptError>
+    requires { IsGoing opener.old }
+    ensures fed { (v : OpeningValue) → Stands opener.old v → FeedsAs M.state O.state now v piece.now
+        manager.old manager.new output.old output.new opener.new result }
+    ensures went { Went (M.state manager.old) (M.state manager.new) }
+{
+    match opener.feed(alloc, manager, now, piece, output) {
+        Ok(()) => Ok(()),
+        Err(error) => Err(failure_of(error)),
     }
 }
 

@@ -1,0 +1,109 @@
+use Rattle.std.proofs.Common.{◌≡◌, ◌++◌, List, ℕ, [], None, sym, ap, refl, subst}
+use Rattle.esdk_base.specs.ReceiverLaws.{takes_more, takes_none}
+use Rattle.keyring_trait.proofs.Going.{went_on}
+use Rattle.stream_open.specs.Asking.{served_in}
+use Rattle.stream_open.specs.Receiving.{FedWhole}
+use Rattle.stream_open.specs.Session.{new_session}
+use Rattle.stream_open.proofs.Feeding.{opened_goes}
+use Rattle.stream_open.proofs.PieceEnds.{whole_as_one, whole_none}
+use Rattle.whole_input.specs.Pieces.{PiecesValue}
+use Rattle.whole_input.specs.Taken.{Came}
+use Rattle.esdk_decrypt.specs.Underway.{PutsAll}
+use Rattle.esdk_decrypt.proofs.Breaking.{feed_bears, feed_ends}
+use Rattle.esdk_decrypt.proofs.Concluding.{lacks_first}
+use Rattle.esdk_decrypt.proofs.Pieces.{well_ends, well_more, well_none}
+use Rattle.esdk_decrypt.proofs.decryption.feed_input.Goals as goal
+
+-- ---- there is no buffer for a piece
+
+pub returns-in_err-pieces-clause-ends : goal.returns-in_err-pieces-clause-ends
+returns-in_err-pieces-clause-ends g c = λ new.
+    lacks_first (g.M.Manager.state c.args.manager.now) c.args.now new.settings new.given (g.S.Source.state c.args.input.now) (g.O.Sink.state c.args.output.now) (c.args.output.now ≡ c.args.output.now) refl
+    c.from_residual.result c.from_residual.ensures.1
+
+pub returns-in_err-pieces-clause-bears : goal.returns-in_err-pieces-clause-bears
+returns-in_err-pieces-clause-bears g c = (None, λ lines bore. bore)
+
+-- ---- the pieces are fed
+
+pub reads-init : goal.reads-init
+reads-init g c =
+    let first = c.requires.new in
+    record {
+      going = record { session = new_session first.settings first.given; stands = first.stands; goes = opened_goes first.settings first.given };
+      went = c.requires.manager;
+      lasts = g.met.S.Source.lasts_none _;
+      bytes = [];
+      well = well_none (g.S.Source.state c.args.input.now) c.in_ok-pieces.pieces.taken (ap (λ (p : PiecesValue). p.taken) c.in_ok-pieces.ensures);
+      fed = λ new. whole_none g.M.Manager.state (PutsAll g.O.Sink.state) c.args.now (new_session new.settings new.given) c.args.manager.now c.args.output.now c.args.opener.now (opened_goes new.settings new.given)
+          new.stands (λ r. takes_none (g.O.Sink.state r));
+    }
+
+pub reads-preserved : goal.reads-preserved
+reads-preserved g c =
+    let before = c.reads.invariant in
+    let bytes : List ℕ = before.bytes in
+    let next = rw c.in_default.is at c.next.ensures.next in
+    let w = before.fed c.requires.new in
+    let f = c.in_default-feed_piece.ensures.fed w.fed.session w.fed.stands in
+    record {
+      going = record { session = f.fed.session; stands = f.fed.stands; goes = f.fed.feeds.goes };
+      went = went_on _ _ _ before.went c.feed_piece.ensures.went;
+      lasts = g.met.S.Source.lasts_more _ _ _ before.lasts c.next.ensures.lasts;
+      bytes = bytes ++ c.next.new.self.piece;
+      well = well_more (g.S.Source.state c.args.input.now) (g.S.Source.state c.reads.input) (g.S.Source.state c.next.new.input) c.reads.pieces.taken bytes c.next.new.self before.well next;
+      fed = λ new.
+          (let w = before.fed new in
+          subst (λ (p : List ℕ). FedWhole g.M.Manager.state (PutsAll g.O.Sink.state) c.args.now (new_session new.settings new.given) (bytes ++ p) c.args.manager.now c.feed_piece.new.manager
+          c.args.output.now c.feed_piece.new.output c.feed_piece.new.opener) c.piece.ensures
+          (whole_as_one g.M.Manager.state (PutsAll g.O.Sink.state) c.args.now (new_session new.settings new.given) bytes _ c.args.manager.now c.reads.manager c.feed_piece.new.manager c.args.output.now
+          c.reads.output c.feed_piece.new.output c.reads.opener c.feed_piece.new.opener w (c.in_default-feed_piece.ensures.fed w.fed.session w.fed.stands)
+          (λ r s t xs ys. takes_more (g.O.Sink.state r) (g.O.Sink.state s) (g.O.Sink.state t) xs ys)));
+    }
+
+-- ---- a piece isn't fed whole
+
+pub returns-in-Err-feed_piece-clause-ends : goal.returns-in-Err-feed_piece-clause-ends
+returns-in-Err-feed_piece-clause-ends g c = λ new.
+    let before = c.reads.invariant in
+    let bytes : List ℕ = before.bytes in
+    let next = rw c.in_default.is at c.next.ensures.next in
+    let well = well_more (g.S.Source.state c.args.input.now) (g.S.Source.state c.reads.input) (g.S.Source.state c.next.new.input) c.reads.pieces.taken bytes c.next.new.self before.well next in
+    let w = before.fed new in
+    let (error, feeds, called) = c.in-Err-feed_piece.ensures.fed w.fed.session w.fed.stands in
+    feed_ends g.M.Manager.state g.O.Sink.state c.args.now new.settings new.given bytes c.piece.result.now c.args.manager.now c.reads.manager c.feed_piece.new.manager c.args.output.now c.reads.output
+    c.feed_piece.new.output c.reads.opener c.feed_piece.new.opener (g.S.Source.state c.args.input.now) (g.S.Source.state c.next.new.input) w
+    (subst (λ (p : List ℕ). Came (g.S.Source.state c.args.input.now) (g.S.Source.state c.next.new.input) (bytes ++ p)) (sym c.piece.ensures) well.came) well.faults (rw c.piece.ensures next.0.fits) error
+    c.in-Err-feed_piece.error feeds called
+
+pub returns-in-Err-feed_piece-clause-bears : goal.returns-in-Err-feed_piece-clause-bears
+returns-in-Err-feed_piece-clause-bears g c =
+    let first = c.requires.new in
+    let before = c.reads.invariant in
+    let bytes : List ℕ = before.bytes in
+    let next = rw c.in_default.is at c.next.ensures.next in
+    let well = well_more (g.S.Source.state c.args.input.now) (g.S.Source.state c.reads.input) (g.S.Source.state c.next.new.input) c.reads.pieces.taken bytes c.next.new.self before.well next in
+    let w = before.fed first in
+    let (error, feeds, called) = c.in-Err-feed_piece.ensures.fed w.fed.session w.fed.stands in
+    feed_bears g.M.Manager.state g.O.Sink.state c.args.now first.settings first.given bytes c.piece.result.now c.args.manager.now c.reads.manager c.feed_piece.new.manager c.args.output.now c.reads.output
+    c.feed_piece.new.output c.reads.opener c.feed_piece.new.opener (g.S.Source.state c.args.input.now) (g.S.Source.state c.next.new.input) w
+    (subst (λ (p : List ℕ). Came (g.S.Source.state c.args.input.now) (g.S.Source.state c.next.new.input) (bytes ++ p)) (sym c.piece.ensures) well.came) well.faults (rw c.piece.ensures next.0.fits) error feeds
+
+pub returns-in-Err-feed_piece-clause-lasts : goal.returns-in-Err-feed_piece-clause-lasts
+returns-in-Err-feed_piece-clause-lasts g c = g.met.S.Source.lasts_more _ _ _ c.reads.invariant.lasts c.next.ensures.lasts
+
+-- ---- no more pieces came
+
+pub returns-in-Err-clause-fed : goal.returns-in-Err-clause-fed
+returns-in-Err-clause-fed g c = λ new.
+    let before = c.reads.invariant in
+    let ends = well_ends (g.S.Source.state c.args.input.now) (g.S.Source.state c.reads.input) (g.S.Source.state c.next.new.input) c.reads.pieces.taken before.bytes c.next.new.self c.in-Err.end before.well (rw c.in-Err.is at c.next.ensures.next) in
+    record { bytes = before.bytes; came = ends.0; ends = ends.1; fed = before.fed new }
+
+pub returns-in-Err-clause-bears : goal.returns-in-Err-clause-bears
+returns-in-Err-clause-bears g c =
+    let w = c.reads.invariant.fed c.requires.new in
+    (served_in w.fed.heard, w.fed.bears)
+
+pub returns-in-Err-clause-lasts : goal.returns-in-Err-clause-lasts
+returns-in-Err-clause-lasts g c = g.met.S.Source.lasts_more _ _ _ c.reads.invariant.lasts c.next.ensures.lasts
