@@ -125,7 +125,7 @@ module _ {A B : Type 0} (opened : A → ManagerNow) (sealed : B → ManagerNow) 
       (λ stop. unstopped opened sealed now settings given size random bytes old new before after output put resealer r rest last end now_put next unwritten some stays
       (subst (λ (e : ResealError). Steps (opened new) (opened last) (said_last (sealed after) (sealed end)) now v rest put now_put (end ≡ after) unwritten (Err e) next) stop s))
       (λ named called. step_ends opened sealed now settings given size random bytes old new before after output put resealer r rest last end now_put next unwritten some stays kept (told ((bytes ++ rest) ++ more)) (left (bytes ++ rest) more)
-      (came_so (bytes ++ rest) more) few error named s called))
+      (came_so (bytes ++ rest) more) refl few error named s called))
 
   -- the random bytes are those that it began with
   pub random_enough : (wraps : ℕ) → length random ≡ 64 + 12 * wraps → (other : ResealingValue) → Stands resealer other → length other.random ≡ 64 + 12 * wraps

@@ -131,6 +131,7 @@ module _ {A B : Type 0} (opened : A → ManagerNow) (sealed : B → ManagerNow) 
         bytes = fed.bytes;
         answer = is;
         passes = passes_now;
+        faults = (let seen_end = rw seen at fed.ends in seen_end.faults);
         cause = inr (rw seen at fed.ends, ap (λ (j : Judged). fault_at_end j.verdict) same_now ∙ at);
         last = record { before = fed.bytes; piece = []; all = sym (append-nil fed.bytes); few = omega arith; was = sound_now };
       }

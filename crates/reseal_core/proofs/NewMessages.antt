@@ -1,5 +1,5 @@
 -- The new message: how it begins, goes on and ends.
-use Rattle.std.proofs.Common.{◌≡◌, ◌∙◌, ℕ, ◌≤◌, List, [], ◌++◌, length, take, false, true, Option, Some, None, Ok, Err, sym, ap, subst, arith, length-append, length-take}
+use Rattle.std.proofs.Common.{◌≡◌, ◌∙◌, ◌⊎◌, ℕ, ◌≤◌, List, [], ◌++◌, length, take, false, true, Option, Some, None, Ok, Err, inl, inr, refl, sym, ap, subst, arith, length-append, length-take}
 use Rattle.std.specs.Io.KnownBytes.{Appends}
 use Rattle.esdk_base.specs.ReceiverLaws.{front_longer}
 use Rattle.esdk_base.specs.Sink.{AppendsFront}
@@ -27,9 +27,11 @@ use Rattle.esdk_encrypt.specs.Encrypt.{drawn_id, drawn_rest, written_so_far}
 use Rattle.esdk_encrypt.specs.Writing.{Fed, session_of}
 use Rattle.esdk_encrypt.proofs.Input.{sink_fails, sink_takes}
 use Rattle.esdk_encrypt.proofs.Sessions.{given_is, is_fed, names_frames, room_then, session_then, written_none, written_then}
+use Rattle.reseal_core.specs.declared.errors.ResealError.{ResealError}
+use Rattle.reseal_core.specs.declared.errors.ResealError.TheVariants as errors
 use Rattle.reseal_core.specs.declared.new_message.NewMessage.{NewMessage}
 use Rattle.reseal_core.specs.Front.{AreSound, front_of, request_for}
-use Rattle.reseal_core.specs.NewMessage.{AreGiven, Begins, FinishesAs, GoesOnAs, HeaderFails, IsFedText, IsWritten, put_as}
+use Rattle.reseal_core.specs.NewMessage.{AreGiven, Begins, FinishesAs, GivesNot, GoesOnAs, HeaderFails, IsFedText, IsNotBegun, IsRefused, IsWritten, put_as}
 
 -- ---- the beginning
 
@@ -41,16 +43,31 @@ start_some m size id =
     let tag : List ℕ = header_tag Committing zero_iv raw (only_of m.required m.context) m.key id in
     omega (arith, length-append raw tag, length-header_tag Committing zero_iv raw (only_of m.required m.context) m.key id)
 
-pub are_given : (saying : Saying) (now : ℕ) (request : EncRequestValue) (rest id random : List ℕ) (whole only : List KeyValue) (m : EncMaterialsValue) → request ≡ request_for whole only → rest ≡ drawn_rest random
-    → id ≡ drawn_id random → saying.gives request now rest m → AreSound m → start_refusal m None id ≡ None → AreGiven saying now random whole only m
-are_given saying now request rest id random whole only m asked rest_is id_is gives sound begins = record {
-  given = subst (λ (r : List ℕ). saying.gives (request_for whole only) now r m) rest_is (subst (λ (r : EncRequestValue). saying.gives r now rest m) asked gives);
-  sound = sound;
-  begins = ap (λ (i : List ℕ). start_refusal m None i) (sym id_is) ∙ begins;
-}
+-- what a manager gave for a request and bytes that are those of the message
+pub gives_so : (saying : Saying) (now : ℕ) (request : EncRequestValue) (rest random : List ℕ) (whole only : List KeyValue) (m : EncMaterialsValue) → request ≡ request_for whole only → rest ≡ drawn_rest random
+    → saying.gives request now rest m → saying.gives (request_for whole only) now (drawn_rest random) m
+gives_so saying now request rest random whole only m asked rest_is gives =
+    subst (λ (r : List ℕ). saying.gives (request_for whole only) now r m) rest_is (subst (λ (r : EncRequestValue). saying.gives r now rest m) asked gives)
+
+-- none were given
+pub not_given : (saying : Saying) (now : ℕ) (random : List ℕ) (whole only : List KeyValue) (error : ResealError) → GivesNot saying whole only error ⊎ (error ≡ errors.Memory)
+    → IsNotBegun saying now random whole only error
+not_given saying now random whole only error (inl gives) = inl gives
+not_given saying now random whole only error (inr memory) = inr (inr memory)
+
+-- or no message can begin with them
+pub not_started : (saying : Saying) (now : ℕ) (random : List ℕ) (whole only : List KeyValue) (m : EncMaterialsValue) (error : ResealError) → saying.gives (request_for whole only) now (drawn_rest random) m → AreSound m
+    → IsRefused (start_refusal m None (drawn_id random)) error → IsNotBegun saying now random whole only error
+not_started saying now random whole only m (errors.Refusal refusal) gives sound is =
+    inr (inl (record { materials = m; refusal = refusal; given = gives; sound = sound; refused = is; named = refl }))
+not_started saying now random whole only m errors.Memory gives sound free = inr (inr refl)
+not_started saying now random whole only m (errors.Fault fault) gives sound none = absurd none
+not_started saying now random whole only m errors.KeyringFault gives sound none = absurd none
+not_started saying now random whole only m errors.SinkFault gives sound none = absurd none
+not_started saying now random whole only m errors.Stopped gives sound none = absurd none
 
 module _ (saying : Saying) (now : ℕ) (whole only : List KeyValue) (message : NewMessage) (size : ℕ) (random text : List ℕ) (m : EncMaterialsValue) (written : IsWritten message size random None text) (given : AreGiven saying now message.random whole only m)
-    (id header : List ℕ) (id_is : id ≡ drawn_id message.random) (header_is : header ≡ start_of m message.frame_length id) where
+    (header : List ℕ) (header_is : header ≡ start_of m message.frame_length (drawn_id message.random)) where
   given_so : AreGiven saying now random whole only m
   given_so = subst (λ (r : List ℕ). AreGiven saying now r whole only m) written.random_is given
 
@@ -58,7 +75,7 @@ module _ (saying : Saying) (now : ℕ) (whole only : List KeyValue) (message : N
   first : front_of (Some m) size random [] ≡ [] ++ header
   first =
       written_none m size (drawn_id random)
-      ∙ sym (header_is ∙ ap (start_of m message.frame_length) (id_is ∙ ap drawn_id written.random_is) ∙ ap (λ (n : ℕ). start_of m n (drawn_id random)) written.length_is)
+      ∙ sym (header_is ∙ ap (start_of m message.frame_length) (ap drawn_id written.random_is) ∙ ap (λ (n : ℕ). start_of m n (drawn_id random)) written.length_is)
 
   pub header_fails : (old new : SinkState) → AppendsFront old.written new.written header → Rose old.faults new.faults → HeaderFails saying now whole only size random old new
   header_fails old new front rose = record {
@@ -66,13 +83,13 @@ module _ (saying : Saying) (now : ℕ) (whole only : List KeyValue) (message : N
     given = given_so;
     failed = record {
       given = header;
-      some = omega (arith, ap length header_is, start_some m message.frame_length id);
+      some = omega (arith, ap length header_is, start_some m message.frame_length (drawn_id message.random));
       between = first;
       failed = record { front = front; rose = rose };
     };
   }
 
-  pub begins : (old new : SinkState) (sealer : Sealer) → Stands sealer (session_of m message.frame_length id []) → Appends old.written new.written header → new.faults ≡ old.faults
+  pub begins : (old new : SinkState) (sealer : Sealer) → Stands sealer (session_of m message.frame_length (drawn_id message.random) []) → Appends old.written new.written header → new.faults ≡ old.faults
       → Begins saying now whole only size random old new (record message { sealer = Some sealer })
   begins old new sealer stands gained kept = record {
     materials = m;
@@ -83,7 +100,7 @@ module _ (saying : Saying) (now : ℕ) (whole only : List KeyValue) (message : N
       wide = written.wide;
       fed = (
         subst (λ (n : ℕ). Stands sealer (session_of m n (drawn_id random) [])) written.length_is
-            (subst (λ (i : List ℕ). Stands sealer (session_of m message.frame_length i [])) (id_is ∙ ap drawn_id written.random_is) stands),
+            (subst (λ (i : List ℕ). Stands sealer (session_of m message.frame_length i [])) (ap drawn_id written.random_is) stands),
         omega arith,
       );
     };

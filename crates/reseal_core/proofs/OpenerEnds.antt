@@ -91,7 +91,7 @@ module _ {A B : Type 0} (opened : A → ManagerNow) (sealed : B → ManagerNow) 
   pub never_stopped : StepsOpener (opened new) (opened last) now w rest (Err opens.Stopped) next → ⊥
   never_stopped s = (exactly opens.Stopped s stopped_not).unstopped s.answers
 
-  module _ (unasked : end ≡ after) (input taken : SourceState) (came : Came input taken (bytes ++ rest)) (few : length rest ≤ most_piece) where
+  module _ (unasked : end ≡ after) (input taken : SourceState) (came : Came input taken (bytes ++ rest)) (faults : taken.faults ≡ input.faults) (few : length rest ≤ most_piece) where
     -- nothing was put while there are no materials
     nothing_put : r.materials ≡ None → SinkTakes output put []
     nothing_put none = gains_all output put [] (subst (λ (x : Option EncMaterialsValue). Gains output put [] (front_of x size random (content (judged_now w)))) none r.gained)
@@ -116,7 +116,7 @@ module _ {A B : Type 0} (opened : A → ManagerNow) (sealed : B → ManagerNow) 
         let locked = wants_header w goes (asks_about w rest h goes asks).unheard in
         let short = ends_at {E = Unit {0}} opened (PutsAll (λ (x : SinkState). x)) (PutsFront (λ (x : SinkState). x)) now w rest 0 new new last untold untold untold resealer.opener next rest (omega arith) refl none_fed opens.KeyringFault s stays in
         let ended = short_ends opened (λ (x : SinkState). x) now settings given bytes rest old new last untold untold untold resealer.opener next input taken
-        (into_untold opened now v bytes r.text old new resealer.opener r.fed) came few opens.KeyringFault (decrypts.Outside outsides.KeyringFault) short refl in
+        (into_untold opened now v bytes r.text old new resealer.opener r.fed) came faults few opens.KeyringFault (decrypts.Outside outsides.KeyringFault) short refl in
         inl (ended.0, nothing_put (none_locked locked))
 
     -- memory ran out
@@ -128,7 +128,7 @@ module _ {A B : Type 0} (opened : A → ManagerNow) (sealed : B → ManagerNow) 
     memory_ends s =
         let short = ends_at {E = Unit {0}} opened (PutsAll (λ (x : SinkState). x)) (PutsFront (λ (x : SinkState). x)) now w rest 0 new new last untold untold untold resealer.opener next rest (omega arith) refl none_fed opens.Memory s stays in
         let ended = short_ends opened (λ (x : SinkState). x) now settings given bytes rest old new last untold untold untold resealer.opener next input taken
-        (into_untold opened now v bytes r.text old new resealer.opener r.fed) came few opens.Memory decrypts.Memory short refl in
+        (into_untold opened now v bytes r.text old new resealer.opener r.fed) came faults few opens.Memory decrypts.Memory short refl in
         record { lacks = ended.0; written = memory_by r.materials refl }
 
     -- ---- a fault
@@ -216,6 +216,7 @@ module _ {A B : Type 0} (opened : A → ManagerNow) (sealed : B → ManagerNow) 
           answered = a.answered;
           written = subst (λ (x : Judged). WritesBy asked random a.answer (content x) x.unlocked output put) (sym same) (written_fault r.materials refl);
         };
+        faults = faults;
         cause = inl (ap (λ (x : Judged). fault_of x.verdict) same ∙ ap fault_of finds.verdict);
         last = record { before = bytes; piece = rest; all = refl; few = few; was = sound_before w (judged bytes settings a.answer) goes before_is };
       }

@@ -332,7 +332,7 @@ module _ {A B : Type 0} (opened : A → ManagerNow) (sealed : B → ManagerNow) 
 
       -- ---- why the step failed
 
-      module _ (input taken : SourceState) (came : Came input taken (bytes ++ rest)) (few : length rest ≤ most_piece) where
+      module _ (input taken : SourceState) (came : Came input taken (bytes ++ rest)) (faults : taken.faults ≡ input.faults) (few : length rest ≤ most_piece) where
         abbrev a : Resealing
         a = asked old last before end
 
@@ -361,6 +361,7 @@ module _ {A B : Type 0} (opened : A → ManagerNow) (sealed : B → ManagerNow) 
                 only = made.only;
                 key = made.key;
                 opens = opens_first made.whole made.only made.key made.answer_is open_z input taken came few;
+                faults = faults;
                 materials = m;
                 has = record { given = made.given.given; sound = made.given.sound; begins = made.given.begins };
                 many = subst (λ (t : List ℕ). most_text size < length t) text many.many;
@@ -382,6 +383,7 @@ module _ {A B : Type 0} (opened : A → ManagerNow) (sealed : B → ManagerNow) 
                 only = made.only;
                 key = made.key;
                 opens = opens_first made.whole made.only made.key made.answer_is open_z input taken came few;
+                faults = faults;
                 materials = m;
                 has = record { given = made.given.given; sound = made.given.sound; begins = made.given.begins };
                 last = last_piece _ few (beyond_here m made.whole made.only made.key made.answer_is
@@ -430,6 +432,7 @@ module _ {A B : Type 0} (opened : A → ManagerNow) (sealed : B → ManagerNow) 
                   only = only;
                   key = open_is.key;
                   opens = opens_z;
+                  faults = faults;
                   materials = m;
                   has = record { given = given_then.given; sound = given_then.sound; begins = given_then.begins };
                   last = last_piece _ few (beyond_here m whole only open_is.key open_is.answer
@@ -450,9 +453,9 @@ module _ {A B : Type 0} (opened : A → ManagerNow) (sealed : B → ManagerNow) 
             refused_ends : (why : ManagerError) (named : InputError) → (said_last (sealed before) (sealed end)).gives_none (request_for whole only) why → IsCalled (given_as why) named
                 → EndsSo a random input taken output now_put named
             refused_ends (managers.Refusal refusal) named gives called = subst (λ (e : InputError). EndsSo a random input taken output now_put e) (sym called)
-                (inl (record { first = bytes ++ take used rest; whole = whole; only = only; key = open_is.key; opens = opens_z; why = inl gives; nothing = nothing_now; last = last_piece _ few wants }))
+                (inl (record { first = bytes ++ take used rest; whole = whole; only = only; key = open_is.key; opens = opens_z; faults = faults; why = inl gives; nothing = nothing_now; last = last_piece _ few wants }))
             refused_ends managers.KeyringFault named gives called = subst (λ (e : InputError). EndsSo a random input taken output now_put e) (sym called)
-                (inr (record { first = bytes ++ take used rest; whole = whole; only = only; key = open_is.key; opens = opens_z; none = gives; nothing = nothing_now; last = last_piece _ few wants }))
+                (inr (record { first = bytes ++ take used rest; whole = whole; only = only; key = open_is.key; opens = opens_z; faults = faults; none = gives; nothing = nothing_now; last = last_piece _ few wants }))
             refused_ends managers.Memory named gives called = subst (λ (e : InputError). EndsSo a random input taken output now_put e) (sym called)
                 (record { lacks = lacks; written = inl nothing_now })
             refused_ends (managers.Fault fault) named gives called = absurd gives
@@ -470,6 +473,7 @@ module _ {A B : Type 0} (opened : A → ManagerNow) (sealed : B → ManagerNow) 
                   only = only;
                   key = open_is.key;
                   opens = opens_z;
+                  faults = faults;
                   why = inr (record {
                     materials = starts.materials;
                     given = subst (λ (b : B). (said_last (sealed b) (sealed end)).gives (request_for whole only) now (drawn_rest random) starts.materials) first_asked starts.given;

@@ -73,18 +73,19 @@ module _ {A B : Type 0} (opened : A → ManagerNow) (sealed : B → ManagerNow) 
 
   -- ---- it failed
 
-  module _ (kept : unwritten → now_put ≡ put) (input taken : SourceState) (came : Came input taken (bytes ++ rest)) (few : length rest ≤ most_piece) where
+  module _ (kept : unwritten → now_put ≡ put) (input taken : SourceState) (came : Came input taken (bytes ++ rest)) (faults : taken.faults ≡ input.faults)
+      (few : length rest ≤ most_piece) where
     ends_by : (error : ResealError) (named : InputError) (answer : Result ℕ OpenError) (s : StepsOpener (opened new) (opened last) now r.fed.session rest answer next.opener)
         → SealsAfter (said_last (sealed after) (sealed end)) now v (stepped r.fed.session rest s.heard answer) answer put now_put (end ≡ after) unwritten (Err error) next
         → IsCalled error named → EndsSo asked random input taken output now_put named
     ends_by error named (Err why) s not called =
         subst (λ (x : SinkState). EndsSo asked random input taken output x named) (sym (kept not.output))
-        (opener_ends opened sealed now settings given size random bytes old new before after output put resealer r rest last end next.opener stays not.manager input taken came few why named s
+        (opener_ends opened sealed now settings given size random bytes old new before after output put resealer r rest last end next.opener stays not.manager input taken came faults few why named s
         (subst (λ (e : ResealError). IsCalled e named) (same_error error (opened_as why) not.named) called))
     ends_by error named (Ok used) s (stopped, inl b) called =
-        begins_ends opened sealed now settings given size random bytes old new before after output put resealer r rest last end now_put used some next s stays input taken came few error named unwritten kept b called
+        begins_ends opened sealed now settings given size random bytes old new before after output put resealer r rest last end now_put used some next s stays input taken came faults few error named unwritten kept b called
     ends_by error named (Ok used) s (stopped, inr p) called =
-        passes_ends opened sealed now settings given size random bytes old new before after output put resealer r rest last end now_put used some next s stays input taken came few error named p called
+        passes_ends opened sealed now settings given size random bytes old new before after output put resealer r rest last end now_put used some next s stays input taken came faults few error named p called
 
     pub step_ends : (error : ResealError) (named : InputError) → Steps (opened new) (opened last) (said_last (sealed after) (sealed end)) now v rest put now_put (end ≡ after) unwritten (Err error) next → IsCalled error named
         → EndsSo asked random input taken output now_put named

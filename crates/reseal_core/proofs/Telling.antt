@@ -96,7 +96,7 @@ module _ (from to : Answering) (settings : Settings) (given : List KeyValue) (fi
   }
 
   fails_more : (input taken : SourceState) → ManagerFails a.opening input taken → ManagerFails b.opening input taken
-  fails_more input taken f = record { bytes = f.bytes; came = f.came; failed = failing_allowed from to given f.bytes (header settings (start f.bytes)) allows f.failed; last = f.last }
+  fails_more input taken f = record { bytes = f.bytes; came = f.came; faults = f.faults; failed = failing_allowed from to given f.bytes (header settings (start f.bytes)) allows f.failed; last = f.last }
 
   lacks_more : (input taken : SourceState) → HasNoMemory a.opening input taken → HasNoMemory b.opening input taken
   lacks_more input taken l = record {
@@ -117,7 +117,7 @@ module _ (from to : Answering) (settings : Settings) (given : List KeyValue) (fi
 
   pub ends_more : (drawn : List ℕ) (input taken : SourceState) (output put : SinkState) (error : InputError) → EndsSo a drawn input taken output put error → EndsSo b drawn input taken output put error
   ends_more drawn input taken output put (errors.Fault fault) e =
-      record { bytes = e.bytes; answer = e.answer; passes = passes_more drawn input taken output put e.bytes e.answer e.passes; cause = e.cause; last = e.last }
+      record { bytes = e.bytes; answer = e.answer; passes = passes_more drawn input taken output put e.bytes e.answer e.passes; faults = e.faults; cause = e.cause; last = e.last }
   ends_more drawn input taken output put (errors.Refusal refusal) (inl e) = inl (refuses_more e.why)
     where
       refuses_more : (a.gives_none (request_for e.whole e.only) (managers.Refusal refusal) ⊎ RefusesHeader a drawn e.whole e.only refusal) → RefusesMessage b drawn input taken output put refusal
@@ -127,6 +127,7 @@ module _ (from to : Answering) (settings : Settings) (given : List KeyValue) (fi
         only = e.only;
         key = e.key;
         opens = opens_more input taken e.first e.whole e.only e.key e.opens;
+        faults = e.faults;
         why = inl (more.gives_none (request_for e.whole e.only) (managers.Refusal refusal) none);
         nothing = e.nothing;
         last = e.last;
@@ -137,6 +138,7 @@ module _ (from to : Answering) (settings : Settings) (given : List KeyValue) (fi
         only = e.only;
         key = e.key;
         opens = opens_more input taken e.first e.whole e.only e.key e.opens;
+        faults = e.faults;
         why = inr (starts_more drawn e.whole e.only refusal starts);
         nothing = e.nothing;
         last = e.last;
@@ -149,6 +151,7 @@ module _ (from to : Answering) (settings : Settings) (given : List KeyValue) (fi
       only = e.only;
       key = e.key;
       opens = opens_more input taken e.first e.whole e.only e.key e.opens;
+      faults = e.faults;
       materials = e.materials;
       has = has_more drawn e.whole e.only e.materials e.has;
       many = e.many;
@@ -166,6 +169,7 @@ module _ (from to : Answering) (settings : Settings) (given : List KeyValue) (fi
       only = e.only;
       key = e.key;
       opens = opens_more input taken e.first e.whole e.only e.key e.opens;
+      faults = e.faults;
       materials = e.materials;
       has = has_more drawn e.whole e.only e.materials e.has;
       last = e.last;
@@ -194,6 +198,7 @@ module _ (from to : Answering) (settings : Settings) (given : List KeyValue) (fi
     only = e.only;
     key = e.key;
     opens = opens_more input taken e.first e.whole e.only e.key e.opens;
+    faults = e.faults;
     none = more.gives_none (request_for e.whole e.only) managers.KeyringFault e.none;
     nothing = e.nothing;
     last = e.last;

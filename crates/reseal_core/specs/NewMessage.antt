@@ -75,6 +75,14 @@ IsNotBegun saying now random whole only error =
     GivesNot saying whole only error
     ⊎ (HeaderRefused saying now random whole only error ⊎ (error ≡ errors.Memory))
 
+-- what asking for the materials of a message comes to; memory may be wanting
+abbrev pub GivesAs : Saying → ℕ → List KeyValue → List KeyValue → List ℕ
+    → Result EncMaterialsValue ResealError → Type 0
+GivesAs saying now whole only random (Ok m) =
+    saying.gives (request_for whole only) now (drawn_rest random) m
+GivesAs saying now whole only random (Err error) =
+    GivesNot saying whole only error ⊎ (error ≡ errors.Memory)
+
 -- a sealer isn't begun for that reason; want of memory is free
 abbrev pub IsRefused : Option Refusal → ResealError → Type 0
 IsRefused refusal (errors.Refusal r) = refusal ≡ Some r

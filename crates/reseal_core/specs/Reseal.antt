@@ -135,12 +135,14 @@ pub record Reseals (asked : Resealing) (drawn : List ℕ) (input taken : SourceS
 -- ---- why an input isn't resealed
 
 -- The bytes taken have this fault, or the whole input was taken and has it; those before the last
--- piece have none. What they release before it was passed on, and the new message isn't whole.
+-- piece have none. What they release before it was passed on, and the new message isn't whole. No
+-- read failed.
 pub record HasFault (asked : Resealing) (drawn : List ℕ) (input taken : SourceState)
     (output put : SinkState) (fault : Fault) : Type 0 where
   pub bytes : List ℕ
   pub answer : Unlocking
   pub passes : Passes asked drawn input taken output put bytes answer
+  pub faults : taken.faults ≡ input.faults
   pub cause : (fault_of (judged bytes asked.opening.settings answer).verdict ≡ Some fault)
       ⊎ (EndSeen input taken bytes
       × (fault_at_end (judged bytes asked.opening.settings answer).verdict ≡ Some fault))
@@ -186,7 +188,7 @@ pub record RefusesHeader (asked : Resealing) (drawn : List ℕ) (whole only : Li
   pub refused : start_refusal materials None (drawn_id drawn) ≡ Some refusal
 
 -- The old message was unlocked, and the new one is refused, by the manager or for its header:
--- nothing was written. The old header was made whole by the last piece.
+-- nothing was written. The old header was made whole by the last piece. No read failed.
 pub record RefusesMessage (asked : Resealing) (drawn : List ℕ) (input taken : SourceState)
     (output put : SinkState) (refusal : Refusal) : Type 0 where
   pub first : List ℕ
@@ -194,6 +196,7 @@ pub record RefusesMessage (asked : Resealing) (drawn : List ℕ) (input taken : 
   pub only : List KeyValue
   pub key : List ℕ
   pub opens : OpensFirst asked input taken first whole only key
+  pub faults : taken.faults ≡ input.faults
   pub why : asked.gives_none (request_for whole only) (managers.Refusal refusal)
       ⊎ RefusesHeader asked drawn whole only refusal
   pub nothing : SinkTakes output put []
@@ -201,7 +204,7 @@ pub record RefusesMessage (asked : Resealing) (drawn : List ℕ) (input taken : 
       (first ++ opens.behind)
 
 -- The text released has a byte beyond those that have room in a message, and it came with the last
--- piece. What is written of those that have was written, all frames but the last.
+-- piece. What is written of those that have was written, all frames but the last. No read failed.
 pub record HasTooMany (asked : Resealing) (drawn : List ℕ) (input taken : SourceState)
     (output put : SinkState) : Type 0 where
   pub first : List ℕ
@@ -209,6 +212,7 @@ pub record HasTooMany (asked : Resealing) (drawn : List ℕ) (input taken : Sour
   pub only : List KeyValue
   pub key : List ℕ
   pub opens : OpensFirst asked input taken first whole only key
+  pub faults : taken.faults ≡ input.faults
   pub materials : EncMaterialsValue
   pub has : HasMaterials asked drawn whole only materials
   pub many : most_text asked.size < length
@@ -222,7 +226,7 @@ pub record HasTooMany (asked : Resealing) (drawn : List ℕ) (input taken : Sour
       ≤ most_text asked.size) (first ++ opens.behind)
 
 -- The old message was unlocked, and a keyring of the new one's manager failed: nothing was written.
--- The old header was made whole by the last piece.
+-- The old header was made whole by the last piece. No read failed.
 pub record SealingFails (asked : Resealing) (input taken : SourceState) (output put : SinkState)
     : Type 0 where
   pub first : List ℕ
@@ -230,6 +234,7 @@ pub record SealingFails (asked : Resealing) (input taken : SourceState) (output 
   pub only : List KeyValue
   pub key : List ℕ
   pub opens : OpensFirst asked input taken first whole only key
+  pub faults : taken.faults ≡ input.faults
   pub none : asked.gives_none (request_for whole only) managers.KeyringFault
   pub nothing : SinkTakes output put []
   pub last : APieceBehind (λ before. header asked.opening.settings (start before) ≡ Wanting)
@@ -237,7 +242,7 @@ pub record SealingFails (asked : Resealing) (input taken : SourceState) (output 
 
 -- A write failed while the old message went on: all that is written of what the bytes before the
 -- last piece release was written, and of what is written of the bytes that have room a front beyond
--- that.
+-- that. No read failed.
 pub record FrontFails (asked : Resealing) (drawn : List ℕ) (input taken : SourceState)
     (output put : SinkState) : Type 0 where
   pub first : List ℕ
@@ -245,6 +250,7 @@ pub record FrontFails (asked : Resealing) (drawn : List ℕ) (input taken : Sour
   pub only : List KeyValue
   pub key : List ℕ
   pub opens : OpensFirst asked input taken first whole only key
+  pub faults : taken.faults ≡ input.faults
   pub materials : EncMaterialsValue
   pub has : HasMaterials asked drawn whole only materials
   pub last : APieceBehind (λ before. WritesBeyond output put

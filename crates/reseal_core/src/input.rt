@@ -10,6 +10,7 @@ ghost use Rattle.keyring_trait.specs.Saying.{said_last};
 ghost use Rattle.keyring_trait.specs.Wrapping.{WrapKeyValue};
 ghost use Rattle.esdk_encrypt.specs.Asking.{BearsAtMostOne};
 ghost use Rattle.esdk_decrypt.specs.Underway.{BearsOnce};
+ghost use Rattle.reseal_core.specs.declared.errors.InputError.TheVariants.{Memory};
 ghost use Rattle.reseal_core.specs.declared.errors.ResealError.TheVariants.{Stopped};
 ghost use Rattle.reseal_core.specs.Reseal.{EndsSo, ResealEnds, ResealsInput, resealing_from};
 ghost use Rattle.reseal_core.specs.Session.{ResealingValue, new_session};
@@ -142,9 +143,7 @@ pub fn reseal<A: Manager, B: Manager, S: Source, O: Sink, W: Entropy>(
     let Ok(draws) = draw(entropy, wraps) else {
         return Err(InputError::Outside(Outside::EntropyFault));
     };
-    let given = given.copy(alloc)?;
-    let length = options.frame_length;
-    let mut resealer = Resealer::new(alloc, options.settings, given, length, draws.bytes())?;
+    let mut resealer = resealer_for(alloc, options, given, draws.bytes())?;
     let end = feed_input(
         alloc,
         opening,
@@ -155,6 +154,25 @@ pub fn reseal<A: Manager, B: Manager, S: Source, O: Sink, W: Entropy>(
         output,
     )?;
     conclude(resealer, end, output)
+}
+
+/// A resealer that has taken nothing, as the options say. Its opener's manager is told these pairs,
+/// and its new message is made with these random bytes. Fails only where memory runs out.
+fn resealer_for(
+    alloc: Global,
+    options: ResealOptions,
+    given: &Context,
+    random: &[u8],
+) -> Result<Resealer, InputError>
+    requires wide { 1 ≤ options.frame_length }
+    ensures stands { IfOk result (λ resealer. Stands resealer
+        (new_session options.settings given.now options.frame_length random.now)) }
+    ensures cause { IfErr result (λ error. error ≡ Memory) }
+{
+    let given = given.copy(alloc)?;
+    let length = options.frame_length;
+    let resealer = Resealer::new(alloc, options.settings, given, length, random)?;
+    Ok(resealer)
 }
 
 /// Steps a resealer that has taken nothing through all pieces of the input, and says why no more

@@ -1,7 +1,7 @@
 //! The new message of a resealer.
 
 ghost use Rattle.std.specs.Prelude.{◌≡◌, ◌≢◌, ◌+◌, ◌*◌, ◌≤◌, ℕ, [], ◌++◌, length, is_some};
-ghost use Rattle.std.specs.Prelude.{None, Some, List, Option, IfErr, IfOk, OnOk, false};
+ghost use Rattle.std.specs.Prelude.{None, Some, List, Option, IfErr, IfOk, OnOk, false, true};
 ghost use Rattle.context_codec.specs.Parts.{keys_of};
 ghost use Rattle.keyring_trait.specs.Manager.{Went};
 ghost use Rattle.keyring_trait.specs.Materials.{EncMaterialsValue};
@@ -9,10 +9,11 @@ ghost use Rattle.keyring_trait.specs.Requests.{AllHeld};
 ghost use Rattle.keyring_trait.specs.Saying.{said_last};
 ghost use Rattle.stream_seal.specs.Stands.{Stands};
 ghost use Rattle.stream_seal.specs.Start.{start_refusal};
+ghost use Rattle.esdk_encrypt.specs.Encrypt.{drawn_id};
 ghost use Rattle.esdk_encrypt.specs.Writing.{session_of};
 ghost use Rattle.reseal_core.specs.declared.errors.ResealError.TheVariants.{Memory};
 ghost use Rattle.reseal_core.specs.Front.{AreSound, request_for};
-ghost use Rattle.reseal_core.specs.NewMessage.{BeginsAs, FinishesAs, GoesOnAs};
+ghost use Rattle.reseal_core.specs.NewMessage.{BeginsAs, FinishesAs, GivesAs, GoesOnAs};
 ghost use Rattle.reseal_core.specs.NewMessage.{IsRefused, IsWritten, put_as};
 ghost use Rattle.reseal_core.specs.Stands.{BearsAfter};
 
@@ -88,19 +89,30 @@ impl NewMessage {
         ensures bears { BearsAfter (B.state sealing.old) (B.state sealing.new) now false
             (is_some self.new.sealer) result }
     {
-        let request = request_for(alloc, whole, only)?;
-        let (id, rest) = self.random.bytes().split_at(32);
-        let id: [u8; 32] = array_of(id);
-        let materials = match sealing.for_encryption(alloc, &request, now, rest) {
-            Ok(materials) => materials,
-            Err(error) => return Err(given_as(error)),
-        };
-        let sealer = started(alloc, &materials, self.frame_length, &id)?;
+        let materials = materials_for(alloc, sealing, now, whole, only, self.random.bytes())?;
+        let sealer = self.sealer_for(alloc, &materials)?;
         let Ok(()) = output.put(sealer.header()) else {
             return Err(ResealError::SinkFault);
         };
         self.sealer = Some(sealer);
         Ok(())
+    }
+
+    /// The sealer of the message with these materials, under the id that was drawn for it.
+    fn sealer_for(&self, alloc: Global, materials: &EncMaterials) -> Result<Sealer, ResealError>
+        requires wide { 1 ≤ self.now.frame_length }
+        requires long { 32 ≤ length self.now.random }
+        ensures stands { IfOk result (λ sealer. Stands sealer
+            (session_of materials.now self.now.frame_length (drawn_id self.now.random) [])) }
+        ensures taken { OnOk result
+            (start_refusal materials.now None (drawn_id self.now.random) ≡ None) }
+        ensures cause { IfErr result
+            (IsRefused (start_refusal materials.now None (drawn_id self.now.random))) }
+        ensures sound { AreSound materials.now }
+    {
+        let (id, _rest) = self.random.bytes().split_at(32);
+        let id: [u8; 32] = array_of(id);
+        started(alloc, materials, self.frame_length, &id)
     }
 
     /// Takes more of the text, if the message is begun, and puts each frame that is full once more
@@ -135,6 +147,32 @@ impl NewMessage {
             None => Ok(()),
             Some(sealer) => put_as(sealer.finish_into(output)),
         }
+    }
+}
+
+/// Asks the manager, once, for materials over this whole context, of which these pairs are only
+/// authenticated, with the random bytes behind those of the message id.
+fn materials_for<B: Manager>(
+    alloc: Global,
+    sealing: &mut B,
+    now: u64,
+    whole: &Context,
+    only: &Context,
+    random: &[u8],
+) -> Result<EncMaterials, ResealError>
+    requires held { AllHeld whole.now (keys_of only.now) }
+    requires random { length random.now ≡ 64 + 12 * (B.state sealing.old).meaning.wraps }
+    requires manager { Went (B.state sealing.old) (B.state sealing.old) }
+    ensures gives { GivesAs (said_last (B.state sealing.old) (B.state sealing.new)) now whole.now
+        only.now random.now result }
+    ensures went { Went (B.state sealing.old) (B.state sealing.new) }
+    ensures bears { BearsAfter (B.state sealing.old) (B.state sealing.new) now false true result }
+{
+    let request = request_for(alloc, whole, only)?;
+    let (_id, rest) = random.split_at(32);
+    match sealing.for_encryption(alloc, &request, now, rest) {
+        Ok(materials) => Ok(materials),
+        Err(error) => Err(given_as(error)),
     }
 }
 

@@ -115,7 +115,7 @@ returns-in-Err-step-clause-ends g c = λ settings given size random stands.
     step_ends g.A.Manager.state g.B.Manager.state c.args.now settings given size random i.bytes c.args.opening.now c.steps.opening c.args.sealing.now c.steps.sealing (g.O.Sink.state c.args.output.now)
     (g.O.Sink.state c.steps.output) c.steps.resealer r (drop c.in-Ok.from c.unfed.new.pieces.piece) c.step.new.opening c.step.new.sealing (g.O.Sink.state c.step.new.output) c.step.new.self (c.step.new.output ≡ c.steps.output)
     (omega (arith, u.some, length-drop c.in-Ok.from c.unfed.new.pieces.piece)) (rw left at c.step.ensures.unasked (gone_on (new_session settings given size random) r.fed.session r.materials) r.stands)
-    (ap g.O.Sink.state) (g.S.Source.state c.args.input.now) (g.S.Source.state c.unfed.new.input) u.well.came (omega (arith, u.few, length-drop c.in-Ok.from c.unfed.new.pieces.piece)) c.in-Err-step.error c.named.result
+    (ap g.O.Sink.state) (g.S.Source.state c.args.input.now) (g.S.Source.state c.unfed.new.input) u.well.came u.well.faults (omega (arith, u.few, length-drop c.in-Ok.from c.unfed.new.pieces.piece)) c.in-Err-step.error c.named.result
     (rw left at c.in-Err-step.ensures.steps (gone_on (new_session settings given size random) r.fed.session r.materials) r.stands refl) c.named.ensures
 
 -- ---- what the managers bear, and the input

@@ -8,29 +8,21 @@ use Rattle.reseal_core.proofs.Concluding.{done_as, ended_as, ends_drawn, memory_
 use Rattle.reseal_core.proofs.Telling.{reads_told, stops_told}
 use Rattle.reseal_core.proofs.input.reseal.Goals as goal
 
-pub returns-in_err-given-clause-ends : goal.returns-in_err-given-clause-ends
-returns-in_err-given-clause-ends g c =
-    let asked : Resealing = resealing_from (g.A.Manager.state c.args.opening.now) (g.A.Manager.state c.args.opening.now) (g.B.Manager.state c.args.sealing.now) (g.B.Manager.state c.args.sealing.now) c.args.options.now c.args.options.settings c.args.given.now
-    c.args.options.frame_length in
-    passed_on _ c.from_residual.result Memory c.from_residual.ensures.1
-    (ends_drawn asked _ _ _ _ _ _ ((c.args.input.now ≡ c.args.input.now) × (c.args.output.now ≡ c.args.output.now)) ((c.args.opening.now ≡ c.args.opening.now) × (c.args.sealing.now ≡ c.args.sealing.now)) c.in-Ok.draws
-    (rw c.wraps-wraps.ensures.value at c.in-Ok.ensures.drew) Memory (memory_first (g.A.Manager.state c.args.opening.now) (g.A.Manager.state c.args.opening.now) (g.B.Manager.state c.args.sealing.now) (g.B.Manager.state c.args.sealing.now) c.args.options.now c.args.options.settings
-    c.args.given.now c.args.options.frame_length c.in-Ok.draws (g.S.Source.state c.args.input.now) (g.O.Sink.state c.args.output.now)))
-
 pub returns-in_err-resealer-clause-ends : goal.returns-in_err-resealer-clause-ends
 returns-in_err-resealer-clause-ends g c =
     let asked : Resealing = resealing_from (g.A.Manager.state c.args.opening.now) (g.A.Manager.state c.args.opening.now) (g.B.Manager.state c.args.sealing.now) (g.B.Manager.state c.args.sealing.now) c.args.options.now c.args.options.settings c.args.given.now
     c.args.options.frame_length in
-    passed_on _ c.from_residual-in_err-resealer.result Memory c.from_residual-in_err-resealer.ensures.1
-    (ends_drawn asked _ _ _ _ _ _ ((c.args.input.now ≡ c.args.input.now) × (c.args.output.now ≡ c.args.output.now)) ((c.args.opening.now ≡ c.args.opening.now) × (c.args.sealing.now ≡ c.args.sealing.now)) c.in-Ok.draws
-    (rw c.wraps-wraps.ensures.value at c.in-Ok.ensures.drew) Memory (memory_first (g.A.Manager.state c.args.opening.now) (g.A.Manager.state c.args.opening.now) (g.B.Manager.state c.args.sealing.now) (g.B.Manager.state c.args.sealing.now) c.args.options.now c.args.options.settings
-    c.args.given.now c.args.options.frame_length c.in-Ok.draws (g.S.Source.state c.args.input.now) (g.O.Sink.state c.args.output.now)))
+    passed_on _ c.from_residual.result c.in_err-resealer.field-0.0 c.from_residual.ensures.1
+    (rw c.in_err-resealer.ensures.cause (ends_drawn asked _ _ _ _ _ _ ((c.args.input.now ≡ c.args.input.now) × (c.args.output.now ≡ c.args.output.now)) ((c.args.opening.now ≡ c.args.opening.now) × (c.args.sealing.now ≡ c.args.sealing.now))
+    c.in-Ok.draws (rw c.wraps-wraps.ensures.value at c.in-Ok.ensures.drew) Memory
+    (memory_first (g.A.Manager.state c.args.opening.now) (g.A.Manager.state c.args.opening.now) (g.B.Manager.state c.args.sealing.now) (g.B.Manager.state c.args.sealing.now) c.args.options.now c.args.options.settings
+    c.args.given.now c.args.options.frame_length c.in-Ok.draws (g.S.Source.state c.args.input.now) (g.O.Sink.state c.args.output.now))))
 
 pub returns-in_err-end-clause-ends : goal.returns-in_err-end-clause-ends
 returns-in_err-end-clause-ends g c =
     let asked : Resealing = resealing_from (g.A.Manager.state c.args.opening.now) (g.A.Manager.state c.feed_input.new.opening) (g.B.Manager.state c.args.sealing.now) (g.B.Manager.state c.feed_input.new.sealing) c.args.options.now c.args.options.settings
     c.args.given.now c.args.options.frame_length in
-    let stands = rw (c.in_ok-given.ensures, c.bytes.ensures.bytes) at c.in_ok-resealer.ensures in
+    let stands = rw c.bytes.ensures.bytes at c.in_ok-resealer.ensures.stands in
     passed_on _ c.from_residual-in_err-end.result c.in_err-end.field-0.0 c.from_residual-in_err-end.ensures.1
     (ends_drawn asked _ _ _ _ _ _ ((c.feed_input.new.input ≡ c.args.input.now) × (c.feed_input.new.output ≡ c.args.output.now)) ((c.feed_input.new.opening ≡ c.args.opening.now) × (c.feed_input.new.sealing ≡ c.args.sealing.now)) c.in-Ok.draws
     (rw c.wraps-wraps.ensures.value at c.in-Ok.ensures.drew) c.in_err-end.field-0.0
@@ -38,7 +30,7 @@ returns-in_err-end-clause-ends g c =
 
 pub returns-clause-done : goal.returns-clause-done
 returns-clause-done g c =
-    let stands = rw (c.in_ok-given.ensures, c.bytes.ensures.bytes) at c.in_ok-resealer.ensures in
+    let stands = rw c.bytes.ensures.bytes at c.in_ok-resealer.ensures.stands in
     let fed = c.in_ok-end.ensures.fed c.args.options.settings c.args.given.now c.args.options.frame_length c.in-Ok.draws stands in
     done_as g.A.Manager.state g.B.Manager.state c.args.options.now c.args.options.settings c.args.given.now c.args.options.frame_length c.in-Ok.draws (g.S.Source.state c.args.input.now) (g.S.Source.state c.feed_input.new.input)
     c.args.opening.now c.feed_input.new.opening c.args.sealing.now c.feed_input.new.sealing (g.O.Sink.state c.args.output.now) (g.O.Sink.state c.feed_input.new.output) (g.W.Entropy.state c.args.entropy.now) (g.W.Entropy.state c.draw.new.entropy)
@@ -47,7 +39,7 @@ returns-clause-done g c =
 
 pub returns-clause-ends : goal.returns-clause-ends
 returns-clause-ends g c =
-    let stands = rw (c.in_ok-given.ensures, c.bytes.ensures.bytes) at c.in_ok-resealer.ensures in
+    let stands = rw c.bytes.ensures.bytes at c.in_ok-resealer.ensures.stands in
     let fed = c.in_ok-end.ensures.fed c.args.options.settings c.args.given.now c.args.options.frame_length c.in-Ok.draws stands in
     ended_as g.A.Manager.state g.B.Manager.state c.args.options.now c.args.options.settings c.args.given.now c.args.options.frame_length c.in-Ok.draws (g.S.Source.state c.args.input.now) (g.S.Source.state c.feed_input.new.input)
     c.args.opening.now c.feed_input.new.opening c.args.sealing.now c.feed_input.new.sealing (g.O.Sink.state c.args.output.now) (g.O.Sink.state c.feed_input.new.output) (g.W.Entropy.state c.args.entropy.now) (g.W.Entropy.state c.draw.new.entropy)
@@ -55,17 +47,11 @@ returns-clause-ends g c =
     ((c.feed_input.new.input ≡ c.args.input.now) × (c.conclude.new.output ≡ c.args.output.now)) ((c.feed_input.new.opening ≡ c.args.opening.now) × (c.feed_input.new.sealing ≡ c.args.sealing.now)) c.conclude.result
     (c.conclude.ensures _ fed.reached.stands refl)
 
-pub returns-in_err-given-clause-stops : goal.returns-in_err-given-clause-stops
-returns-in_err-given-clause-stops g c =
-    stops_told (g.A.Manager.state c.args.opening.now) (g.A.Manager.state c.args.opening.now) (g.B.Manager.state c.args.sealing.now) (g.B.Manager.state c.args.sealing.now) c.args.options.now c.args.options.settings c.args.given.now
-    c.args.options.frame_length (record { told = c.wraps-wraps.ensures.told; plain = c.wraps-wraps.ensures.plain }) (g.S.Source.state c.args.input.now) (g.S.Source.state c.args.input.now) (g.O.Sink.state c.args.output.now) (g.O.Sink.state c.args.output.now)
-    (g.W.Entropy.state c.args.entropy.now) (g.W.Entropy.state c.draw.new.entropy) ((c.args.input.now ≡ c.args.input.now) × (c.args.output.now ≡ c.args.output.now)) ((c.args.opening.now ≡ c.args.opening.now) × (c.args.sealing.now ≡ c.args.sealing.now)) c.from_residual.result (returns-in_err-given-clause-ends g c)
-
 pub returns-in_err-resealer-clause-stops : goal.returns-in_err-resealer-clause-stops
 returns-in_err-resealer-clause-stops g c =
     stops_told (g.A.Manager.state c.args.opening.now) (g.A.Manager.state c.args.opening.now) (g.B.Manager.state c.args.sealing.now) (g.B.Manager.state c.args.sealing.now) c.args.options.now c.args.options.settings c.args.given.now
     c.args.options.frame_length (record { told = c.wraps-wraps.ensures.told; plain = c.wraps-wraps.ensures.plain }) (g.S.Source.state c.args.input.now) (g.S.Source.state c.args.input.now) (g.O.Sink.state c.args.output.now) (g.O.Sink.state c.args.output.now)
-    (g.W.Entropy.state c.args.entropy.now) (g.W.Entropy.state c.draw.new.entropy) ((c.args.input.now ≡ c.args.input.now) × (c.args.output.now ≡ c.args.output.now)) ((c.args.opening.now ≡ c.args.opening.now) × (c.args.sealing.now ≡ c.args.sealing.now)) c.from_residual-in_err-resealer.result (returns-in_err-resealer-clause-ends g c)
+    (g.W.Entropy.state c.args.entropy.now) (g.W.Entropy.state c.draw.new.entropy) ((c.args.input.now ≡ c.args.input.now) × (c.args.output.now ≡ c.args.output.now)) ((c.args.opening.now ≡ c.args.opening.now) × (c.args.sealing.now ≡ c.args.sealing.now)) c.from_residual.result (returns-in_err-resealer-clause-ends g c)
 
 pub returns-in_err-end-clause-stops : goal.returns-in_err-end-clause-stops
 returns-in_err-end-clause-stops g c =
@@ -90,22 +76,15 @@ returns-clause-reads g c =
 pub returns-in_default-clause-unseals : goal.returns-in_default-clause-unseals
 returns-in_default-clause-unseals g c = (None, λ lines bore. bore)
 
-pub returns-in_err-given-clause-unseals : goal.returns-in_err-given-clause-unseals
-returns-in_err-given-clause-unseals g c = (None, λ lines bore. bore)
-
 pub returns-in_err-resealer-clause-unseals : goal.returns-in_err-resealer-clause-unseals
 returns-in_err-resealer-clause-unseals g c = (None, λ lines bore. bore)
 
 pub returns-in_default-clause-seals : goal.returns-in_default-clause-seals
 returns-in_default-clause-seals g c = inl (λ lines bore. bore)
 
-pub returns-in_err-given-clause-seals : goal.returns-in_err-given-clause-seals
-returns-in_err-given-clause-seals g c =
-    let p = err_from_is_err_and c.from_residual.result c.from_residual.ensures.1 in rw p.1 (bears_same (g.B.Manager.state c.args.sealing.now) c.args.options.now false)
-
 pub returns-in_err-resealer-clause-seals : goal.returns-in_err-resealer-clause-seals
 returns-in_err-resealer-clause-seals g c =
-    let p = err_from_is_err_and c.from_residual-in_err-resealer.result c.from_residual-in_err-resealer.ensures.1 in rw p.1 (bears_same (g.B.Manager.state c.args.sealing.now) c.args.options.now false)
+    let p = err_from_is_err_and c.from_residual.result c.from_residual.ensures.1 in rw p.1 (bears_same (g.B.Manager.state c.args.sealing.now) c.args.options.now false)
 
 pub returns-in_err-end-clause-seals : goal.returns-in_err-end-clause-seals
 returns-in_err-end-clause-seals g c =
@@ -113,16 +92,13 @@ returns-in_err-end-clause-seals g c =
 
 pub returns-clause-seals : goal.returns-clause-seals
 returns-clause-seals g c =
-    let stands = rw (c.in_ok-given.ensures, c.bytes.ensures.bytes) at c.in_ok-resealer.ensures in
+    let stands = rw c.bytes.ensures.bytes at c.in_ok-resealer.ensures.stands in
     let fed = c.in_ok-end.ensures.fed c.args.options.settings c.args.given.now c.args.options.frame_length c.in-Ok.draws stands in
     concludes_bears (g.B.Manager.state c.args.sealing.now) (g.B.Manager.state c.feed_input.new.sealing) c.args.options.now c.feed_input.new.resealer _ fed.reached.stands refl c.in_ok-end.ensures.seals
     (g.O.Sink.state c.feed_input.new.output) (g.O.Sink.state c.conclude.new.output) c.in_ok-end.end c.conclude.result (c.conclude.ensures _ fed.reached.stands refl)
 
 pub returns-in_default-clause-lasts : goal.returns-in_default-clause-lasts
 returns-in_default-clause-lasts g c = g.met.S.Source.lasts_none _
-
-pub returns-in_err-given-clause-lasts : goal.returns-in_err-given-clause-lasts
-returns-in_err-given-clause-lasts g c = g.met.S.Source.lasts_none _
 
 pub returns-in_err-resealer-clause-lasts : goal.returns-in_err-resealer-clause-lasts
 returns-in_err-resealer-clause-lasts g c = g.met.S.Source.lasts_none _
