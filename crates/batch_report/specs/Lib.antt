@@ -1,1 +1,2 @@
 pub mod BatchReport
+pub mod Laws
