@@ -3,8 +3,6 @@ use Rattle.std.proofs.Common.{◌≡◌, ◌≤◌, ◌+◌, ℕ, zero, suc, Lis
 use Rattle.std.specs.Prelude.{All, Option, Some, zip, filter_map}
 use Rattle.std.specs.List.{concat}
 use Rattle.std.specs.List.Sorted.{IsPermutation}
-use Rattle.std.specs.Io.KnownBytes.{Consumes}
-use Rattle.std.proofs.KnownBytes.{Consumes-nil}
 use Rattle.std.proofs.lemmas.List.{get_or-replicate, length-replicate}
 use Rattle.std.proofs.lemmas.List.Elements.{All-head, All-nil, All-tail}
 use Rattle.std.proofs.lemmas.List.Sorted.{IsPermutation-refl}
@@ -19,10 +17,12 @@ use Rattle.job_file.specs.declared.job.Job.{Job}
 use Rattle.esdk_batch.specs.declared.progress.Progress.{Progress}
 use Rattle.esdk_batch.specs.declared.progress.Progress.TheVariants as stages
 use Rattle.keyring_trait.specs.Saying.{Saying}
+use Rattle.esdk_batch.specs.Batch.{Draws}
 use Rattle.esdk_batch.specs.Underway.{HasSession, IsAt}
 use Rattle.esdk_batch.specs.Turns.{HasKind, Knows, answered_so_far, waits}
 use Rattle.esdk_batch.specs.Rounds.{AreAt, Beginning, HasOwn, HaveSessions, Stand, all_waits}
 use Rattle.esdk_batch.proofs.Beside.{rest_waits}
+use Rattle.esdk_batch.proofs.Places.{drew_none}
 
 -- ---- lists of jobs that wait
 
@@ -78,13 +78,13 @@ stand_begins manager jobs width files entropy v progress wait = record {
   draws = replicate (length progress) [];
   drawn = record {
     count = length-replicate (length progress) [];
-    taken = subst (Consumes entropy.to_come entropy.to_come) (sym (none_drawn (length progress))) (Consumes-nil entropy.to_come);
+    taken = subst (Draws entropy entropy) (sym (none_drawn (length progress))) (drew_none entropy);
     none = λ k drawn one below waits. get_or-replicate (length progress) k [] drawn below;
   };
   gained = [];
   journal = sym (append-nil v.journal);
   served = subst (λ l. IsPermutation l []) (sym (none_answered jobs progress wait)) (IsPermutation-refl []);
-  others = λ name none. refl;
+  others = λ left is name none. refl;
   at = λ was left is now. all_at manager jobs progress files v.live wait was left is now;
   later = omega arith;
   sealed = λ stayed. record {

@@ -1,9 +1,9 @@
 -- A batch all of whose jobs ended.
 use Rattle.std.proofs.Common.{◌≡◌, ◌<◌, ℕ, zero, suc, List, [], ◌∷◌, ◌++◌, length, map, get_or, refl, sym, ap, subst, ◌∙◌, arith}
-use Rattle.std.specs.Prelude.{Option, zip, filter_map, option_map, Result, Ok, Err, OnOk}
+use Rattle.std.specs.Prelude.{Option, Some, zip, filter_map, option_map, Result, Ok, Err, OnOk}
 use Rattle.std.specs.List.{cons_option}
 use Rattle.std.specs.List.Sorted.{IsPermutation}
-use Rattle.std.proofs.lemmas.List.{length-map}
+use Rattle.std.proofs.lemmas.List.{drop_all, length-map}
 use Rattle.esdk_base.specs.Shelf.{Files}
 use Rattle.esdk_base.specs.Streams.{EntropyState, ShelfState}
 use Rattle.keyring_trait.specs.declared.journal.JournalLine.{JournalLine}
@@ -20,6 +20,7 @@ use Rattle.keyring_trait.specs.Saying.{Saying}
 use Rattle.esdk_batch.specs.Underway.{IsAt}
 use Rattle.esdk_batch.specs.Turns.{HasKind, answered_so_far}
 use Rattle.esdk_batch.specs.Rounds.{Beginning, Stand}
+use Rattle.esdk_batch.specs.Watching.{Watch, as_shown, behind_calls, files_by, shown_files}
 
 -- ---- each job
 
@@ -39,7 +40,7 @@ all_come manager before after (job ∷ jobs) (drawn ∷ draws) (line ∷ lines) 
   all_come manager before after jobs draws lines (omega (arith, count)) (omega (arith, each)) (λ k j d l below. come (suc k) j d l (omega (arith, below))),
 )
 
-ended_at : (lines : List JobLine) (k : ℕ) (line : JobLine) → get_or (map stages.Ended lines) k (stages.Ended line) ≡ stages.Ended (get_or lines k line)
+pub ended_at : (lines : List JobLine) (k : ℕ) (line : JobLine) → get_or (map stages.Ended lines) k (stages.Ended line) ≡ stages.Ended (get_or lines k line)
 ended_at [] k line = refl
 ended_at (l ∷ lines) zero line = refl
 ended_at (l ∷ lines) (suc k) line = ended_at lines k line
@@ -71,18 +72,18 @@ same_answers (job ∷ jobs) (line ∷ lines) kinds =
 
 -- ---- the batch
 
-pub batch_ends : (manager : Saying) (file : JobFile) (v w : DeskValue) (before after : ShelfState) (entropy spent : EntropyState) (lines_before lines_after : List JournalLine) (lines : List JobLine)
+pub batch_ends : (manager : Saying) (file : JobFile) (v w : DeskValue) (before after : Option Files) (entropy spent : EntropyState) (lines_before lines_after : List JournalLine) (lines : List JobLine)
     → length lines ≡ length file.jobs → lines_before ≡ v.journal → lines_after ≡ w.journal
-    → Stand manager file.jobs file.width (record { live = v.live; files = before.files; entropy = entropy; journal = v.journal; last = v.last }) after.files spent w (map stages.Ended lines)
+    → Stand manager file.jobs file.width (record { live = v.live; files = before; entropy = entropy; journal = v.journal; last = v.last }) after spent w (map stages.Ended lines)
     → RunsBatch manager file v.last before after entropy spent lines_before lines_after lines
 batch_ends manager file v w before after entropy spent lines_before lines_after lines each was is s =
-    let began : Beginning = record { live = v.live; files = before.files; entropy = entropy; journal = v.journal; last = v.last } in
-    let come = comes_at manager file.jobs file.width began after.files spent w lines s in
+    let began : Beginning = record { live = v.live; files = before; entropy = entropy; journal = v.journal; last = v.last } in
+    let come = comes_at manager file.jobs file.width began after spent w lines s in
     record {
       draws = s.draws;
       gained = s.gained;
       journal = is ∙ s.journal ∙ ap (λ l. l ++ s.gained) (sym was);
-      jobs = all_come manager before.files after.files file.jobs s.draws lines (s.drawn.count ∙ length-map lines stages.Ended) each come;
+      jobs = all_come manager before after file.jobs s.draws lines (s.drawn.count ∙ length-map lines stages.Ended) each come;
       others = s.others;
       drawn = s.drawn.taken;
       served = subst (λ l. IsPermutation l (map in_line s.gained)) (same_answers file.jobs lines (λ k job line below under. (come k job [] line below).kind)) s.served;
@@ -90,26 +91,34 @@ batch_ends manager file v w before after entropy spent lines_before lines_after 
     }
 
 -- the same of the jobs and the progress that a call was handed
-pub batch_ends_at : (manager : Saying) (file : JobFile) (v w : DeskValue) (before after : ShelfState) (entropy spent : EntropyState) (lines_before lines_after : List JournalLine) (lines : List JobLine)
+pub batch_ends_at : (manager : Saying) (file : JobFile) (v w : DeskValue) (before after : Option Files) (entropy spent : EntropyState) (lines_before lines_after : List JournalLine) (lines : List JobLine)
     (jobs : List Job) (width : ℕ) (progress : List Progress) → jobs ≡ file.jobs → width ≡ file.width → progress ≡ map stages.Ended lines → length progress ≡ length jobs
     → lines_before ≡ v.journal → lines_after ≡ w.journal
-    → Stand manager jobs width (record { live = v.live; files = before.files; entropy = entropy; journal = v.journal; last = v.last }) after.files spent w progress
+    → Stand manager jobs width (record { live = v.live; files = before; entropy = entropy; journal = v.journal; last = v.last }) after spent w progress
     → RunsBatch manager file v.last before after entropy spent lines_before lines_after lines
 batch_ends_at manager file v w before after entropy spent lines_before lines_after lines jobs width progress same wide ended each was is s =
-    let began : Beginning = record { live = v.live; files = before.files; entropy = entropy; journal = v.journal; last = v.last } in
+    let began : Beginning = record { live = v.live; files = before; entropy = entropy; journal = v.journal; last = v.last } in
     batch_ends manager file v w before after entropy spent lines_before lines_after lines
     (omega (arith, each, ap length ended, ap length same, length-map lines stages.Ended)) was is
-    (subst (λ jobs. Stand manager jobs file.width began after.files spent w (map stages.Ended lines)) same
-    (subst (λ width. Stand manager jobs width began after.files spent w (map stages.Ended lines)) wide
-    (subst (λ progress. Stand manager jobs width began after.files spent w progress) ended s)))
+    (subst (λ jobs. Stand manager jobs file.width began after spent w (map stages.Ended lines)) same
+    (subst (λ width. Stand manager jobs width began after spent w (map stages.Ended lines)) wide
+    (subst (λ progress. Stand manager jobs width began after spent w progress) ended s)))
 
 -- ---- as the code says it
 
 -- the shelf was only told what is read
-pub begun_as : (manager : Saying) (file : JobFile) (last : ℕ) (before mid after : ShelfState) (entropy spent : EntropyState) (lines_before lines_after : List JournalLine) (lines : List JobLine) → mid ≡ before
-    → RunsBatch manager file last mid after entropy spent lines_before lines_after lines → RunsBatch manager file last before after entropy spent lines_before lines_after lines
-begun_as manager file last before mid after entropy spent lines_before lines_after lines same runs =
-    subst (λ (s : ShelfState). RunsBatch manager file last s after entropy spent lines_before lines_after lines) same runs
+pub begun_as : (manager : Saying) (file : JobFile) (last : ℕ) (by : Watch) (before mid : ShelfState) (after : Option Files) (entropy spent : EntropyState) (lines_before lines_after : List JournalLine) (lines : List JobLine)
+    → mid ≡ before → RunsBatch manager file last (files_by by mid) after entropy spent lines_before lines_after lines → RunsBatch manager file last (files_by by before) after entropy spent lines_before lines_after lines
+begun_as manager file last by before mid after entropy spent lines_before lines_after lines same runs =
+    subst (λ (s : ShelfState). RunsBatch manager file last (files_by by s) after entropy spent lines_before lines_after lines) same runs
+
+-- the calls that show them are those since then
+pub shown_batch : (manager : Saying) (file : JobFile) (last : ℕ) (before : Files) (old new : ShelfState) (entropy spent : EntropyState) (lines_before lines_after : List JournalLine) (lines : List JobLine)
+    → RunsBatch manager file last (files_by (as_shown (length old.calls) before) old) (files_by (as_shown (length old.calls) before) new) entropy spent lines_before lines_after lines
+    → RunsBatch manager file last (Some before) (shown_files before old new) entropy spent lines_before lines_after lines
+shown_batch manager file last before old new entropy spent lines_before lines_after lines runs =
+    subst (λ (files : Option Files). RunsBatch manager file last files (shown_files before old new) entropy spent lines_before lines_after lines)
+    (ap (behind_calls (Some before)) (drop_all (length old.calls) old.calls (omega arith))) runs
 
 pub counted_as : (jobs : List Job) (entropy keyring : ℕ) (before mid : ShelfState) (now : Tally) (lines : List JobLine) → mid ≡ before → CountsFailures jobs (tally_of mid entropy keyring) now lines
     → CountsFailures jobs (tally_of before entropy keyring) now lines

@@ -28,9 +28,10 @@ use Rattle.desk_core.specs.Session.{SessionValue, Sealing, Opening, finish_answe
 use Rattle.batch_report.specs.declared.job_lines.JobEnd.{JobEnd}
 use Rattle.batch_report.specs.declared.job_lines.JobEnd.TheVariants as ends
 use Rattle.esdk_batch.specs.Ending.{EndsBy, EndsFor, EndsSession, FinishesSo}
-use Rattle.esdk_batch.specs.FileEndLaws.{gained_nothing}
-use Rattle.esdk_batch.specs.Files.{Gains}
-use Rattle.esdk_batch.proofs.Writing.{Put, Writes, put_same}
+use Rattle.esdk_batch.specs.FileEndLaws.{calls_none, gained_nothing}
+use Rattle.esdk_batch.specs.Files.{Gains, KeepsOthers}
+use Rattle.esdk_batch.specs.ShelfCalls.{HasCalls, IsWrite}
+use Rattle.esdk_batch.proofs.Writing.{Put, Writes, put_calls, put_keeps, put_same}
 
 -- ---- what is left of the desk
 
@@ -89,20 +90,21 @@ named_ok named end e = cc
 
 -- ---- what was put behind the file
 
-module _ {R E : Type 0} (takes : R → R → List ℕ → Type 0) (fails : R → R → List ℕ → E → Type 0) (before after : R) (to : List ℕ) (lent still : ℕ) (old new : ShelfState) (writes : Writes takes fails before after to lent still old new) where
-  nothing_put : after ≡ before → (bytes : List ℕ) × Gains old.files new.files to bytes × (old.faults ≤ new.faults) × (still ≡ lent)
+module _ {R E : Type 0} (takes : R → R → List ℕ → Type 0) (fails : R → R → List ℕ → E → Type 0) (before after : R) (to : List ℕ) (lent still : ℕ) (missing : Bool) (old new : ShelfState) (writes : Writes takes fails before after to lent still missing old new) where
+  nothing_put : after ≡ before → (bytes : List ℕ) × Gains old.files new.files to bytes × (old.faults ≤ new.faults) × (still ≡ lent) × HasCalls (IsWrite to) old new
   nothing_put same =
       let kept = writes.same same in (
         [],
         subst (λ (shelf : ShelfState). Gains old.files shelf.files to []) (sym kept.0) (gained_nothing old.files to),
         omega (arith, ap (λ (shelf : ShelfState). shelf.faults) kept.0),
         kept.1,
+        subst (HasCalls (IsWrite to) old) (sym kept.0) (calls_none (IsWrite to) old),
       )
 
-  pub put_ended : (s : SessionValue) (result : Result (Unit {0}) (FeedError DeskError E)) → FinishesSession takes fails (Some s) before after result → Put lent still old new to result
-  put_ended (Sealing s) (Ok done) ends_so = let took = writes.took (seal.finished s).out ends_so in ((seal.finished s).out, took.0, took.1, took.2)
+  pub put_ended : (s : SessionValue) (result : Result (Unit {0}) (FeedError DeskError E)) → FinishesSession takes fails (Some s) before after result → Put lent still missing old new to result
+  put_ended (Sealing s) (Ok done) ends_so = let took = writes.took (seal.finished s).out ends_so in ((seal.finished s).out, took.0, took.1, took.2, took.3)
   put_ended (Sealing s) (Err (failures.Receiver error)) ends_so =
-      let front = writes.failed (seal.finished s).out error ends_so.1 in (take front.0 (seal.finished s).out, front.1, front.2, front.3, front.4)
+      let front = writes.failed (seal.finished s).out error ends_so.1 in (take front.0 (seal.finished s).out, front.1, front.2, front.3, front.4, front.5)
   put_ended (Sealing s) (Err (failures.Machine error)) ends_so = absurd ends_so
   put_ended (Opening s) (Ok done) ends_so = nothing_put ends_so.1
   put_ended (Opening s) (Err (failures.Receiver error)) ends_so = absurd ends_so
@@ -133,12 +135,20 @@ module _ {R E : Type 0} (takes : R → R → List ℕ → Type 0) (fails : R →
   ended_as v session s result live ends_so = subst (λ (o : Option SessionValue). FinishesSession takes fails o before after result) live ends_so
 
   pub session_put : (v : DeskValue) (session : ℕ) (s : SessionValue) (result : Result (Unit {0}) (FeedError DeskError E)) → v.live session ≡ Some s → FinishesSession takes fails (v.live session) before after result
-      → Put lent still old new to result
+      → Put lent still missing old new to result
   session_put v session s result live ends_so = put_ended s result (ended_as v session s result live ends_so)
 
   pub session_same : (v : DeskValue) (session : ℕ) (s : SessionValue) (result : Result (Unit {0}) (FeedError DeskError E)) → v.live session ≡ Some s → FinishesSession takes fails (v.live session) before after result
       → still ≡ lent
-  session_same v session s result live ends_so = put_same lent still old new to result (session_put v session s result live ends_so)
+  session_same v session s result live ends_so = put_same lent still missing old new to result (session_put v session s result live ends_so)
+
+  pub session_calls : (v : DeskValue) (session : ℕ) (s : SessionValue) (result : Result (Unit {0}) (FeedError DeskError E)) → v.live session ≡ Some s → FinishesSession takes fails (v.live session) before after result
+      → HasCalls (IsWrite to) old new
+  session_calls v session s result live ends_so = put_calls lent still missing old new to result (session_put v session s result live ends_so)
+
+  pub session_keeps : (v : DeskValue) (session : ℕ) (s : SessionValue) (result : Result (Unit {0}) (FeedError DeskError E)) → v.live session ≡ Some s → FinishesSession takes fails (v.live session) before after result
+      → KeepsOthers old.files new.files to
+  session_keeps v session s result live ends_so = put_keeps lent still missing old new to result (session_put v session s result live ends_so)
 
   pub session_whole : {M : Type 0} (next : Desk M) (v : DeskValue) (session : ℕ) (s : SessionValue) → v.live session ≡ Some s → FinishesSession {T = Unit {0}} takes fails (v.live session) before after (Ok tt)
       → Stands next (handed_over v session [] None) → (w : DeskValue) × Stands next w × EndsSession session s v w to old.files new.files ends.Done

@@ -36,11 +36,12 @@ use Rattle.desk_core.specs.declared.live_sessions.Desk.{Desk}
 use Rattle.batch_report.specs.declared.job_lines.JobEnd.{JobEnd}
 use Rattle.batch_report.specs.declared.job_lines.JobEnd.TheVariants as ends
 use Rattle.esdk_batch.specs.Ending.{EndsBy, EndsFor}
-use Rattle.esdk_batch.specs.Failures.{PieceCounts, entropy_fails, keyring_fails, shelf_fails}
+use Rattle.esdk_batch.specs.Failures.{PieceCounts, entropy_fails, fails_in, keyring_fails, shelf_fails}
 use Rattle.esdk_batch.specs.FileEndLaws.{gained_there}
+use Rattle.esdk_batch.specs.Files.{Gains}
 use Rattle.esdk_batch.proofs.Counting.{rose_none, rose_zero}
-use Rattle.esdk_batch.proofs.Ends.{error_so, named_ok}
-use Rattle.esdk_batch.proofs.Writing.{Put}
+use Rattle.esdk_batch.proofs.Ends.{error_so, named_ok, session_put}
+use Rattle.esdk_batch.proofs.Writing.{Put, Writes}
 
 pub not_memory : (end : JobEnd) → (let r : Result JobEnd AllocError = Ok end in r ≡ Err alloc_error) → ⊥
 not_memory end e = cc
@@ -104,8 +105,25 @@ feed_rose state takes fails v session now s piece old new before after error liv
 
 -- ---- what was counted
 
+-- of a call that did all
+pub done_counted : (end : Option JobEnd) (to bytes : List ℕ) (old new : ShelfState) (asked failed : ℕ) → fails_in entropy_fails end ≡ 0 → fails_in keyring_fails end ≡ 0 → fails_in shelf_fails end ≡ 0
+    → Gains old.files new.files to bytes → old.faults ≤ new.faults → is_missing old.files to ≡ false → asked ≤ failed → PieceCounts to end old new asked failed
+done_counted end to bytes old new asked failed drew asked_none wrote gains later there went = record {
+  there = gained_there old.files new.files to bytes gains there;
+  entropy = drew;
+  keyring = rose_zero (fails_in keyring_fails end) asked failed asked_none went;
+  shelf = rose_zero (fails_in shelf_fails end) old.faults new.faults wrote later;
+}
+
+pub session_counted : {R E : Type 0} (takes : R → R → List ℕ → Type 0) (fails : R → R → List ℕ → E → Type 0) (before after : R) (to : List ℕ) (lent still : ℕ) (missing : Bool) (old new : ShelfState)
+    (writes : Writes takes fails before after to lent still missing old new) (v : DeskValue) (session : ℕ) (s : SessionValue) (keyring : ℕ) → v.live session ≡ Some s
+    → FinishesSession {T = Unit {0}} takes fails (v.live session) before after (Ok tt) → is_missing old.files to ≡ false → PieceCounts to (Some ends.Done) old new keyring keyring
+session_counted takes fails before after to lent still missing old new writes v session s keyring live finishes there =
+    let put = session_put takes fails before after to lent still missing old new writes v session s (Ok tt) live finishes in
+    done_counted (Some ends.Done) to put.0 old new keyring keyring refl refl refl put.1 put.2 there (omega arith)
+
 -- of an error with which the job ended
-pub error_counted : {E : Type 0} (error : FeedError DeskError E) (end : JobEnd) (to : List ℕ) (lent still : ℕ) (old new : ShelfState) (asked failed : ℕ) → EndsBy error (Ok end) → Put {T = Unit {0}} lent still old new to (Err error)
+pub error_counted : {E : Type 0} (error : FeedError DeskError E) (end : JobEnd) (to : List ℕ) (lent still : ℕ) (old new : ShelfState) (asked failed : ℕ) → EndsBy error (Ok end) → Put {T = Unit {0}} lent still (is_missing old.files to) old new to (Err error)
     → is_missing old.files to ≡ false → asked ≤ failed → (error ≡ failures.Machine errors.KeyringFault → Rose asked failed) → PieceCounts to (Some end) old new asked failed
 error_counted (failures.Machine error) end to lent still old new asked failed is put there later rose = record {
   there = gained_there old.files new.files to put.0 put.1 there;
@@ -123,7 +141,7 @@ error_counted (failures.Receiver error) end to lent still old new asked failed i
     })
 
 pub errors_counted : {E : Type 0} (error : FeedError DeskError E) (result : Result JobEnd AllocError) (to : List ℕ) (lent still : ℕ) (old new : ShelfState) (keyring : ℕ) → EndsBy error result
-    → Put {T = Unit {0}} lent still old new to (Err error) → is_missing old.files to ≡ false → (error ≡ failures.Machine errors.KeyringFault → ⊥) → IfOk result (λ end. PieceCounts to (Some end) old new keyring keyring)
+    → Put {T = Unit {0}} lent still (is_missing old.files to) old new to (Err error) → is_missing old.files to ≡ false → (error ≡ failures.Machine errors.KeyringFault → ⊥) → IfOk result (λ end. PieceCounts to (Some end) old new keyring keyring)
 errors_counted error (Ok end) to lent still old new keyring is put there sound = error_counted error end to lent still old new keyring keyring is put there (omega arith) (λ same. absurd (sound same))
 errors_counted error (Err failed) to lent still old new keyring is put there sound = tt
 

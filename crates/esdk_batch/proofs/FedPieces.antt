@@ -1,5 +1,5 @@
 -- A piece that is fed to a job's session, into the end of the job's file, and how the job ends if it does.
-use Rattle.std.proofs.Common.{◌≡◌, ◌∙◌, ℕ, true, List, ◌++◌, length, take, Option, Some, None, Result, Ok, Err, refl, sym, ap, subst, arith}
+use Rattle.std.proofs.Common.{◌≡◌, ◌≤◌, ◌∙◌, ℕ, Bool, true, false, List, ◌++◌, length, take, Option, Some, None, Result, Ok, Err, refl, sym, ap, subst, arith}
 use Rattle.std.specs.Prelude.{is_some, option_map}
 use Rattle.std.proofs.lemmas.List.{take_all}
 use Rattle.std.proofs.lemmas.Map.{update_apart, update_here}
@@ -8,6 +8,7 @@ use Rattle.esdk_fields.specs.Reading.{Reading, Read, Refused, Wanting, value_of}
 use Rattle.esdk_fields.specs.Place.{start}
 use Rattle.esdk_fields.specs.declared.faults.Fault.{Fault}
 use Rattle.esdk_fields.specs.declared.refusals.Outside.TheVariants as outsides
+use Rattle.esdk_base.specs.Shelf.{is_missing}
 use Rattle.esdk_base.specs.Streams.{ShelfState}
 use Rattle.esdk_base.specs.declared.receiver.FeedError.{FeedError}
 use Rattle.esdk_base.specs.declared.receiver.FeedError.TheVariants as failures
@@ -41,14 +42,16 @@ use Rattle.batch_report.specs.declared.job_lines.JobEnd.TheVariants as ends
 use Rattle.esdk_decrypt.specs.Decrypt.{answers_at, fault_of}
 use Rattle.esdk_batch.specs.Answering.{HasFailed}
 use Rattle.esdk_batch.specs.Ending.{EndsBy, EndsFor, FeedsPiece, FeedsSo, GoesOnAs, ServesSo}
+use Rattle.esdk_batch.specs.Failures.{PieceCounts}
 use Rattle.esdk_batch.specs.Files.{Gains, KeepsOthers}
+use Rattle.esdk_batch.specs.ShelfCalls.{HasCalls, IsWrite}
 use Rattle.esdk_batch.proofs.Ends.{named_ok}
-use Rattle.esdk_batch.proofs.Faulting.{not_memory}
+use Rattle.esdk_batch.proofs.Faulting.{done_counted, not_memory}
 use Rattle.esdk_batch.proofs.Judging.{Releases, answer_for, fails_for, hears_as, judges_so, same_judged}
 use Rattle.esdk_batch.proofs.KeptAnswers.{fed_judges, fed_keeps, kept_then}
 use Rattle.esdk_batch.proofs.Serving.{failed_unserved, heard_once}
 use Rattle.esdk_batch.proofs.Took.{front_on}
-use Rattle.esdk_batch.proofs.Writing.{Put, Writes, put_keeps, put_same}
+use Rattle.esdk_batch.proofs.Writing.{Put, Writes, put_calls, put_keeps, put_same}
 
 -- ---- what a piece comes to
 
@@ -82,26 +85,26 @@ unread_by b fault (Refused other at) e = refl
 unread_by b fault Wanting e = refl
 
 module _ {M R E : Type 0} (state : M → ManagerNow) (takes : R → R → List ℕ → Type 0) (fails : R → R → List ℕ → E → Type 0) (manager : Saying) (session now : ℕ) (piece to : List ℕ) (m n : M) (before after : R)
-    (lent still : ℕ) (old new : ShelfState) (writes : Writes takes fails before after to lent still old new) where
+    (lent still : ℕ) (missing : Bool) (old new : ShelfState) (writes : Writes takes fails before after to lent still missing old new) where
   -- ---- the file
 
-  put_sealing : (left : Option SessionValue) (result : Result (Unit {0}) (FeedError DeskError E)) → SealsOn takes fails before after left result → Put lent still old new to result
-  put_sealing left (Ok done) on = let took = writes.took on.0 on.1 in (on.0, took.0, took.1, took.2)
-  put_sealing left (Err (failures.Receiver error)) on = let front = writes.failed on.0 error on.1 in (take front.0 on.0, front.1, front.2, front.3, front.4)
-  put_sealing left (Err (failures.Machine (errors.Refusal refusal))) on = let took = writes.took on.0 on.1 in (on.0, took.0, took.1, took.2)
+  put_sealing : (left : Option SessionValue) (result : Result (Unit {0}) (FeedError DeskError E)) → SealsOn takes fails before after left result → Put lent still missing old new to result
+  put_sealing left (Ok done) on = let took = writes.took on.0 on.1 in (on.0, took.0, took.1, took.2, took.3)
+  put_sealing left (Err (failures.Receiver error)) on = let front = writes.failed on.0 error on.1 in (take front.0 on.0, front.1, front.2, front.3, front.4, front.5)
+  put_sealing left (Err (failures.Machine (errors.Refusal refusal))) on = let took = writes.took on.0 on.1 in (on.0, took.0, took.1, took.2, took.3)
   put_sealing left (Err (failures.Machine (errors.Fault fault))) on = absurd on
   put_sealing left (Err (failures.Machine errors.KeyringFault)) on = absurd on
   put_sealing left (Err (failures.Machine errors.NotLive)) on = absurd on
   put_sealing left (Err (failures.Machine errors.Memory)) on = absurd on
 
   put_opening : (s : OpeningValue) (heard : Heard) (left : Option SessionValue) (result : Result (Unit {0}) (FeedError DeskError E))
-      → FeedsOpening state takes fails now s piece m n before after heard left result → Put lent still old new to result
-  put_opening s heard left (Ok done) fed = let took = writes.took fed.1.given fed.1.taken in (fed.1.given, took.0, took.1, took.2)
-  put_opening s heard left (Err (failures.Receiver error)) fed = let front = writes.failed fed.1.given error fed.1.failed in (take front.0 fed.1.given, front.1, front.2, front.3, front.4)
-  put_opening s heard left (Err (failures.Machine error)) fed = let took = writes.took fed.2.given fed.2.taken in (fed.2.given, took.0, took.1, took.2)
+      → FeedsOpening state takes fails now s piece m n before after heard left result → Put lent still missing old new to result
+  put_opening s heard left (Ok done) fed = let took = writes.took fed.1.given fed.1.taken in (fed.1.given, took.0, took.1, took.2, took.3)
+  put_opening s heard left (Err (failures.Receiver error)) fed = let front = writes.failed fed.1.given error fed.1.failed in (take front.0 fed.1.given, front.1, front.2, front.3, front.4, front.5)
+  put_opening s heard left (Err (failures.Machine error)) fed = let took = writes.took fed.2.given fed.2.taken in (fed.2.given, took.0, took.1, took.2, took.3)
 
   pub put_so : (s : SessionValue) (heard : Heard) (left : Option SessionValue) (result : Result (Unit {0}) (FeedError DeskError E))
-      → FeedsSession state takes fails now (Some s) piece m n before after heard left result → Put lent still old new to result
+      → FeedsSession state takes fails now (Some s) piece m n before after heard left result → Put lent still missing old new to result
   put_so (Sealing s) heard left result fed = put_sealing left result fed.2
   put_so (Opening s) heard left result fed = put_opening s heard left result fed
 
@@ -297,35 +300,44 @@ is_live desk v session s stands live =
     lives_at (machine_at desk.sessions session) s (subst (λ (o : Option SessionValue). StandsAt (machine_at desk.sessions session) o) live (stands.sessions session))
 
 module _ {M R E : Type 0} (state : M → ManagerNow) (takes : R → R → List ℕ → Type 0) (fails : R → R → List ℕ → E → Type 0) (manager : Saying) (session now : ℕ) (s : SessionValue) (piece to : List ℕ) (v : DeskValue)
-    (desk next : Desk M) (before after : R) (lent still : ℕ) (old new : ShelfState) (writes : Writes takes fails before after to lent still old new) (stands : Stands desk v) (live : v.live session ≡ Some s) where
+    (desk next : Desk M) (before after : R) (lent still : ℕ) (missing : Bool) (old new : ShelfState) (writes : Writes takes fails before after to lent still missing old new) (stands : Stands desk v) (live : v.live session ≡ Some s) where
   fed_as : (result : Result (Unit {0}) (FeedError DeskError E)) → (f : FeedsInto state takes fails v session now piece desk next before after result)
       → FeedsSession state takes fails now (Some s) piece (manager_of desk) (manager_of next) before after f.heard f.left result
   fed_as result f =
       subst (λ (o : Option SessionValue). FeedsSession state takes fails now o piece (manager_of desk) (manager_of next) before after f.heard f.left result) live f.feeds
 
   -- what was put behind the file
-  pub piece_put : (result : Result (Unit {0}) (FeedError DeskError E)) → FeedsInto state takes fails v session now piece desk next before after result → Put lent still old new to result
-  piece_put result f = put_so state takes fails manager session now piece to (manager_of desk) (manager_of next) before after lent still old new writes s f.heard f.left result (fed_as result f)
+  pub piece_put : (result : Result (Unit {0}) (FeedError DeskError E)) → FeedsInto state takes fails v session now piece desk next before after result → Put lent still missing old new to result
+  piece_put result f = put_so state takes fails manager session now piece to (manager_of desk) (manager_of next) before after lent still missing old new writes s f.heard f.left result (fed_as result f)
 
   pub piece_same : (result : Result (Unit {0}) (FeedError DeskError E)) → FeedsInto state takes fails v session now piece desk next before after result → still ≡ lent
-  piece_same result f = put_same lent still old new to result (piece_put result f)
+  piece_same result f = put_same lent still missing old new to result (piece_put result f)
+
+  pub piece_calls : (result : Result (Unit {0}) (FeedError DeskError E)) → FeedsInto state takes fails v session now piece desk next before after result → HasCalls (IsWrite to) old new
+  piece_calls result f = put_calls lent still missing old new to result (piece_put result f)
+
+  pub piece_keeps : (result : Result (Unit {0}) (FeedError DeskError E)) → FeedsInto state takes fails v session now piece desk next before after result → KeepsOthers old.files new.files to
+  piece_keeps result f = put_keeps lent still missing old new to result (piece_put result f)
+
+  pub piece_counted : (asked failed : ℕ) → FeedsInto {T = Unit {0}} state takes fails v session now piece desk next before after (Ok tt) → is_missing old.files to ≡ false → asked ≤ failed → PieceCounts to None old new asked failed
+  piece_counted asked failed f there later = let put = piece_put (Ok tt) f in done_counted None to put.0 old new asked failed refl refl refl put.1 put.2 there later
 
   comes_whole : (o : SessionValue) (heard : Heard) (left : Option SessionValue) → IsLive o → Admits manager (said_last (state (manager_of desk)) (state (manager_of next)))
       → FeedsSession {T = Unit {0}} state takes fails now (Some o) piece (manager_of desk) (manager_of next) before after heard left (Ok tt)
       → Comes manager session now o piece to old new heard left None
   comes_whole (Sealing o) heard left goes answers fed =
-      seals_whole state takes fails manager session now piece to (manager_of desk) (manager_of next) before after lent still old new writes o heard left fed
+      seals_whole state takes fails manager session now piece to (manager_of desk) (manager_of next) before after lent still missing old new writes o heard left fed
   comes_whole (Opening o) heard left goes answers fed =
-      opens_whole state takes fails manager session now piece to (manager_of desk) (manager_of next) before after lent still old new writes answers o goes heard left fed
+      opens_whole state takes fails manager session now piece to (manager_of desk) (manager_of next) before after lent still missing old new writes answers o goes heard left fed
 
   comes_ended : (o : SessionValue) (heard : Heard) (left : Option SessionValue) (error : FeedError DeskError E) (end : JobEnd) → EndsBy error (Ok end) → IsLive o
       → Admits manager (said_last (state (manager_of desk)) (state (manager_of next)))
       → FeedsSession {T = Unit {0}} state takes fails now (Some o) piece (manager_of desk) (manager_of next) before after heard left (Err error)
       → Comes manager session now o piece to old new heard left (Some end)
   comes_ended (Sealing o) heard left error end is goes answers fed =
-      seals_ended state takes fails manager session now piece to (manager_of desk) (manager_of next) before after lent still old new writes o heard left error end is fed
+      seals_ended state takes fails manager session now piece to (manager_of desk) (manager_of next) before after lent still missing old new writes o heard left error end is fed
   comes_ended (Opening o) heard left error end is goes answers fed =
-      opens_ended state takes fails manager session now piece to (manager_of desk) (manager_of next) before after lent still old new writes answers o goes heard left error end is fed
+      opens_ended state takes fails manager session now piece to (manager_of desk) (manager_of next) before after lent still missing old new writes answers o goes heard left error end is fed
 
   fed_desk : (heard : Heard) (left : Option SessionValue) (end : Option JobEnd) → KeepsOthers old.files new.files to → Comes manager session now s piece to old new heard left end
       → FeedsPiece manager session s piece v (handed_over v session (open_lines session now heard) left) to old.files new.files end
@@ -351,7 +363,7 @@ module _ {M R E : Type 0} (state : M → ManagerNow) (takes : R → R → List �
       let put = piece_put (Ok tt) f in (
         handed_over v session (open_lines session now f.heard) f.left,
         f.stands,
-        fed_desk f.heard f.left None (put_keeps {T = Unit {0}} {E = E} lent still old new to (Ok tt) put) (comes_whole s f.heard f.left (is_live desk v session s stands live) answers (fed_as (Ok tt) f)),
+        fed_desk f.heard f.left None (put_keeps {T = Unit {0}} {E = E} lent still missing old new to (Ok tt) put) (comes_whole s f.heard f.left (is_live desk v session s stands live) answers (fed_as (Ok tt) f)),
       )
 
   -- or the job ended so
@@ -360,5 +372,5 @@ module _ {M R E : Type 0} (state : M → ManagerNow) (takes : R → R → List �
   piece_ended error end is answers f = (
     handed_over v session (open_lines session now f.heard) f.left,
     f.stands,
-    fed_desk f.heard f.left (Some end) (put_keeps {T = Unit {0}} lent still old new to (Err error) (piece_put (Err error) f)) (comes_ended s f.heard f.left error end is (is_live desk v session s stands live) answers (fed_as (Err error) f)),
+    fed_desk f.heard f.left (Some end) (put_keeps {T = Unit {0}} lent still missing old new to (Err error) (piece_put (Err error) f)) (comes_ended s f.heard f.left error end is (is_live desk v session s stands live) answers (fed_as (Err error) f)),
   )

@@ -103,7 +103,7 @@ fed_turn manager job live next s v w files after buffer count lives reads fed sa
   last = fed.desk.last;
   gained = fed.gained;
   journal = fed.desk.journal;
-  others = fed.others;
+  others = λ left is. fed.others;
   has =
       let on = still_live s (w.live live.session) (fed.lives refl) in
       (on.0, ap w.live same ∙ on.1, subst (λ (n : ℕ). n ≤ most_input) (sym further) reads.most);
@@ -151,7 +151,7 @@ broken_turn manager job live served s v w files after buffer count end lives rea
   last = fed.desk.last;
   gained = fed.gained;
   journal = fed.desk.journal;
-  others = fed.others;
+  others = λ left is. fed.others;
   has = tt;
   stands = λ before now left drawn is later from at.
       let at_s = subst (λ (o : Option SessionValue). IsLive manager job.work (file_of (Some before) job.from) (file_of (Some now) job.to) drawn live o) lives at in (

@@ -2,7 +2,6 @@
 use Rattle.std.proofs.Common.{◌≡◌, ◌≢◌, ◌≤◌, ◌+◌, ℕ, List, [], ◌∷◌, ◌++◌, length, take, false, refl, sym, ap, subst, ◌∙◌, inl, inr, arith, append-nil}
 use Rattle.std.specs.Prelude.{◌⊎◌, Option, Some, None, is_some, nat_eq, option_map, slice_get}
 use Rattle.std.specs.Map.{update}
-use Rattle.std.specs.Io.KnownBytes.{Consumes}
 use Rattle.std.proofs.lemmas.Map.{update_apart, update_here}
 use Rattle.esdk_fields.specs.declared.refusals.Outside.TheVariants as outsides
 use Rattle.esdk_base.specs.Shelf.{Files, file_of}
@@ -17,6 +16,7 @@ use Rattle.batch_report.specs.declared.job_lines.JobEnd.TheVariants as ends
 use Rattle.esdk_batch.specs.declared.progress.Live.{Live}
 use Rattle.esdk_batch.specs.declared.progress.Progress.{Progress}
 use Rattle.esdk_batch.specs.declared.progress.Progress.TheVariants as stages
+use Rattle.esdk_batch.specs.Batch.{Draws}
 use Rattle.esdk_batch.specs.Ending.{KeepsDesk}
 use Rattle.esdk_batch.specs.Files.{Holding, KeepsOthers}
 use Rattle.keyring_trait.specs.Saying.{Saying}
@@ -139,20 +139,20 @@ served_behind id kind now size served before after count counted grown =
 
 -- A job that waited drew nothing before, and its file was as before the batch.
 pub takes_first : (manager : Saying) (job : Job) (next : Progress) (v w : DeskValue) (lines : List JournalLine) (files left : Option Files) (entropy spent : EntropyState) (more : List ℕ)
-    → DrawsAtMost v w lines → ((session : ℕ) → beside next w.live session ≡ v.live session) → Consumes entropy.to_come spent.to_come more → KeepsOthers files left job.to
+    → DrawsAtMost v w lines → ((session : ℕ) → beside next w.live session ≡ v.live session) → Draws entropy spent more → KeepsOthers files left job.to
     → HasSession w.live next
     → ((before now then_held : Files) → files ≡ Some now → left ≡ Some then_held → file_of (Some now) job.to ≡ file_of (Some before) job.to → IsAt manager job before then_held more w.live next)
     → TakesTurn manager job stages.Waiting next v w files left entropy spent
-takes_first manager job next v w lines files left entropy spent more draws rest consumes others has stands = record {
+takes_first manager job next v w lines files left entropy spent more draws rest drew others has stands = record {
   more = more;
-  drawn = consumes;
+  drawn = drew;
   sessions = λ session lacks low. draws.sessions session (λ same. omega (arith, same, low));
   rest = rest;
   last = draws.last;
   next = draws.next;
   gained = lines;
   journal = draws.journal;
-  others = others;
+  others = λ left is. others;
   has = has;
   stands = λ before now then_held held was is from at.
       subst (λ (d : List ℕ). IsAt manager job before then_held d w.live next) (ap (λ (d : List ℕ). d ++ more) (sym at.0)) (stands before now then_held was is at.1);

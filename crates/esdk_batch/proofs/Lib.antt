@@ -30,12 +30,14 @@ pub mod SealTurns
 pub mod SealedFirst
 pub mod SealingJobs
 pub mod Serving
+pub mod ShelfCalls
 pub mod Standing
 pub mod TakenTurns
 pub mod Took
 pub mod TurnCounting
 pub mod Turning
 pub mod Unplaced
+pub mod Watched
 pub mod Windows
 pub mod Wishes
 pub mod Writing

@@ -3,7 +3,6 @@ use Rattle.std.proofs.Common.{◌≡◌, ◌+◌, ℕ, Bool, true, false, List, 
 use Rattle.std.specs.Prelude.{◌⊎◌, Option, Some, None, Ok, nat_eq}
 use Rattle.std.specs.Map.{update}
 use Rattle.std.proofs.lemmas.Map.{update_here}
-use Rattle.std.proofs.KnownBytes.{Consumes-nil}
 use Rattle.std.proofs.Math.Seq.{take-nil}
 use Rattle.esdk_fields.specs.declared.refusals.Outside.TheVariants as outsides
 use Rattle.esdk_base.specs.Shelf.{Files, file_of}
@@ -37,6 +36,7 @@ use Rattle.esdk_batch.specs.Opening.{BeginsFile}
 use Rattle.esdk_batch.specs.SealStory.{Seen, held}
 use Rattle.esdk_batch.specs.Underway.{IsLive, IsOpening, TakesTurn}
 use Rattle.esdk_batch.proofs.FirstTurns.{DrawsAtMost, draws_on, holds_now, left_now, left_others, rest_live, rest_none, takes_first}
+use Rattle.esdk_batch.proofs.Places.{drew_none}
 
 -- the session of a job that gives these pairs
 abbrev pub opening_of : List KeyValue → OpeningValue
@@ -102,7 +102,7 @@ open_begins manager job given required v u w lines files left entropy session (s
     let s : SessionValue = Opening (opening_of given) in
     let here : w.live live.session ≡ Some s = ap (λ (l : Live). w.live l.session) file.begins.0 ∙ file.begins.1 in
     let drew = draws_on v u w session lines draws is file.desk in
-    takes_first manager job (stages.Live live) v w lines files left entropy entropy [] drew (rest_live v w lines live drew (ap (λ (l : Live). l.session) file.begins.0 ∙ is) undrawn) (Consumes-nil entropy.to_come) file.begins.2.keeps
+    takes_first manager job (stages.Live live) v w lines files left entropy entropy [] drew (rest_live v w lines live drew (ap (λ (l : Live). l.session) file.begins.0 ∙ is) undrawn) (drew_none entropy) file.begins.2.keeps
     (s, here, omega (arith, ap (λ (l : Live). l.at) file.begins.0))
     (λ before now then_held was found unmade.
     let holds = holds_now files left job.to [] now then_held file.begins.2 was found in
@@ -111,7 +111,7 @@ open_begins manager job given required v u w lines files left entropy session (s
     (subst (λ (work : Work). IsLive manager work (file_of (Some before) job.from) (file_of (Some then_held) job.to) [] live (Some s)) (sym work) (refl, opening)))
 open_begins manager job given required v u w lines files left entropy session (stages.Ended line) work draws is undrawn file =
     let drew = draws_on v u w session lines draws is file.desk in
-    takes_first manager job (stages.Ended line) v w lines files left entropy entropy [] drew (rest_none v w lines drew undrawn (ap w.live (sym is) ∙ file.begins.1)) (Consumes-nil entropy.to_come)
+    takes_first manager job (stages.Ended line) v w lines files left entropy entropy [] drew (rest_none v w lines drew undrawn (ap w.live (sym is) ∙ file.begins.1)) (drew_none entropy)
     (left_others files left job.to [] file.begins.2) tt
     (λ before now then_held was found unmade.
     let made = left_now files left job.to [] before now then_held file.begins.2 was found unmade in

@@ -1,13 +1,16 @@
 -- A list that was changed at one place.
 use Rattle.std.proofs.Common.{◌≡◌, ◌≢◌, ◌<◌, ◌≤◌, ℕ, zero, suc, List, [], ◌∷◌, ◌++◌, length, take, get_or, set, refl, sym, ap, subst, ◌∙◌, inl, inr, arith, append_assoc, append-nil, length-set, get_or-set_same, get_or-set_other}
-use Rattle.std.specs.Prelude.{◌⊎◌, All, Option, Some, None, zip, filter_map}
+use Rattle.std.specs.Prelude.{All, Option, Some, None, zip, filter_map}
 use Rattle.std.specs.List.{concat, cons_option}
 use Rattle.std.specs.Option.{option_to_list}
 use Rattle.std.specs.List.Sorted.{IsPermutation}
-use Rattle.std.specs.Io.KnownBytes.{Consumes}
+use Rattle.std.specs.Io.KnownBytes.{Keeps}
+use Rattle.std.proofs.KnownBytes.{Consumes-kept, Consumes-nil, Consumes-trans}
 use Rattle.std.proofs.lemmas.Bool.{cases_eq}
 use Rattle.std.proofs.lemmas.List.{get_or-take, set-get_or, length-append}
 use Rattle.std.proofs.lemmas.List.Sorted.{IsPermutation-append_right, IsPermutation-append_comm}
+use Rattle.esdk_base.specs.Streams.{EntropyState}
+use Rattle.esdk_batch.specs.Batch.{Draws}
 
 -- ---- what holds at each place
 
@@ -82,21 +85,32 @@ concat_last (piece ∷ pieces) (suc i) more within none =
 pub nothing_more : (pieces : List (List ℕ)) (i : ℕ) (more : List ℕ) → more ≡ [] → set pieces i (get_or pieces i [] ++ more) ≡ pieces
 nothing_more pieces i more none = ap (λ m. set pieces i (get_or pieces i [] ++ m)) none ∙ ap (set pieces i) (append-nil (get_or pieces i [])) ∙ set-get_or pieces i []
 
--- ---- bytes that are taken
+-- ---- bytes that are drawn
 
-no_front : (xs more : List ℕ) → xs ≡ more ++ xs → more ≡ []
-no_front xs [] e = refl
-no_front xs (m ∷ more) e = absurd (omega (arith, ap length e, length-append (m ∷ more) xs))
+pub drew_none : (entropy : EntropyState) → Draws entropy entropy []
+drew_none entropy = record { told = Consumes-nil entropy.to_come; came = sym (append-nil entropy.drawn) }
 
--- nothing was taken, or it isn't known what is
-pub takes_none : (now : Option (List ℕ)) (more : List ℕ) → Consumes now now more → (now ≡ None) ⊎ (more ≡ [])
-takes_none None more takes = inl refl
-takes_none (Some xs) more takes = inr (no_front xs more takes)
+-- what failed drew none
+pub drew_kept : (entropy spent : EntropyState) → Keeps entropy.to_come spent.to_come → spent.drawn ≡ entropy.drawn → Draws entropy spent []
+drew_kept entropy spent kept same = record {
+  told = Consumes-kept entropy.to_come entropy.to_come spent.to_come [] (Consumes-nil entropy.to_come) kept;
+  came = same ∙ sym (append-nil entropy.drawn);
+}
 
-pub taken_unknown : (first now : Option (List ℕ)) (taken other : List ℕ) → now ≡ None → Consumes first now taken → Consumes first now other
-taken_unknown None now taken other none takes = tt
-taken_unknown (Some xs) None taken other none takes = absurd takes
-taken_unknown (Some xs) (Some ys) taken other none takes = absurd cc
+-- first these and then those
+pub drew_both : (first entropy spent : EntropyState) (bytes more : List ℕ) → Draws first entropy bytes → Draws entropy spent more → Draws first spent (bytes ++ more)
+drew_both first entropy spent bytes more before behind = record {
+  told = Consumes-trans first.to_come entropy.to_come spent.to_come bytes more before.told behind.told;
+  came = behind.came ∙ ap (λ l. l ++ more) before.came ∙ append_assoc first.drawn bytes more;
+}
+
+no_more : (xs more : List ℕ) → xs ≡ xs ++ more → more ≡ []
+no_more xs [] e = refl
+no_more xs (m ∷ more) e = absurd (omega (arith, ap length e, length-append xs (m ∷ more)))
+
+-- where the entropy is as it was, none were
+pub drew_same : (entropy : EntropyState) (more : List ℕ) → Draws entropy entropy more → more ≡ []
+drew_same entropy more drew = no_more entropy.drawn more drew.came
 
 -- ---- what is found at the places of two lists
 

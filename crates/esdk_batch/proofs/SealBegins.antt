@@ -1,8 +1,7 @@
 -- The first turn of an encrypt job, by what the desk answered and what became of the job's file.
 use Rattle.std.proofs.Common.{◌≡◌, ◌≤◌, ◌+◌, ℕ, Bool, List, [], ◌++◌, length, take, drop, min, refl, sym, ap, subst, ◌∙◌, inl, inr, arith}
 use Rattle.std.specs.Prelude.{◌⊎◌, Option, Some, None, Ok, Err}
-use Rattle.std.specs.Io.KnownBytes.{Consumes, Keeps}
-use Rattle.std.proofs.KnownBytes.{Consumes-kept, Consumes-nil}
+use Rattle.std.specs.Io.KnownBytes.{Keeps}
 use Rattle.std.proofs.lemmas.List.{take_min, take-append-le}
 use Rattle.esdk_fields.specs.declared.refusals.Outside.TheVariants as outsides
 use Rattle.esdk_base.specs.Shelf.{Files, file_of}
@@ -32,13 +31,14 @@ use Rattle.batch_report.specs.declared.job_lines.JobLine.{JobLine}
 use Rattle.esdk_batch.specs.declared.progress.Live.{Live}
 use Rattle.esdk_batch.specs.declared.progress.Progress.{Progress}
 use Rattle.esdk_batch.specs.declared.progress.Progress.TheVariants as stages
-use Rattle.esdk_batch.specs.Batch.{WorksSo, kind_of, seen_of}
+use Rattle.esdk_batch.specs.Batch.{Draws, WorksSo, kind_of, seen_of}
 use Rattle.esdk_batch.specs.Ending.{EndsFor}
 use Rattle.keyring_trait.specs.Saying.{Saying}
 use Rattle.esdk_batch.specs.Opening.{BeginsFile, request_of}
 use Rattle.esdk_batch.specs.SealStory.{IsGiven, SealAsked, SealsSo, Seen, held, sealed_text, wish_of}
 use Rattle.esdk_batch.specs.Underway.{IsLive, IsSealing, TakesTurn}
 use Rattle.esdk_batch.proofs.FirstTurns.{DrawsAtMost, draws_none, draws_on, holds_now, keeps_all, left_now, left_others, rest_live, rest_none, same_now, takes_first}
+use Rattle.esdk_batch.proofs.Places.{drew_kept}
 use Rattle.esdk_batch.proofs.SealTurns.{HasBegun, IsAnswered, Says, is_given, seals_none}
 
 -- the work of an encrypt job
@@ -54,12 +54,12 @@ sealed_line manager job asked seen line work kind seals = subst (λ (w : Work). 
 
 -- no byte was drawn
 pub draws_nothing : (manager : Saying) (job : Job) (asked : SealAsked) (v : DeskValue) (files : Option Files) (entropy spent : EntropyState) (next : Progress)
-    → job.work ≡ work_of asked → Keeps entropy.to_come spent.to_come
+    → job.work ≡ work_of asked → Keeps entropy.to_come spent.to_come → spent.drawn ≡ entropy.drawn
     → next ≡ stages.Ended (record { kind = Seal; end = ends.Outside outsides.EntropyFault; served = None })
     → TakesTurn manager job stages.Waiting next v v files files entropy spent
-draws_nothing manager job asked v files entropy spent next work kept ends_so =
+draws_nothing manager job asked v files entropy spent next work kept same_drawn ends_so =
     subst (λ (p : Progress). TakesTurn manager job stages.Waiting p v v files files entropy spent) (sym ends_so) (
-    takes_first manager job _ v v [] files files entropy spent [] (draws_none v) (λ session. refl) (Consumes-kept entropy.to_come entropy.to_come spent.to_come [] (Consumes-nil entropy.to_come) kept)
+    takes_first manager job _ v v [] files files entropy spent [] (draws_none v) (λ session. refl) (drew_kept entropy spent kept same_drawn)
     (keeps_all files job.to) tt
     (λ before now then_held was is unmade.
     let same = same_now files files job.to before now then_held refl was is unmade in
@@ -68,12 +68,12 @@ draws_nothing manager job asked v files entropy spent next work kept ends_so =
 -- the desk answered an error
 pub opens_none : (manager : Saying) (job : Job) (asked : SealAsked) (v w : DeskValue) (lines : List JournalLine) (files : Option Files) (entropy spent : EntropyState) (random : List ℕ)
     (reply : Reply) (short : Bool) (id wraps : ℕ) (error : DeskError) (end : JobEnd) (served : Option Served) (next : Progress) → job.work ≡ work_of asked → DrawsAtMost v w lines
-    → v.live (v.last + 1) ≡ None → w.live (v.last + 1) ≡ None → Consumes entropy.to_come spent.to_come random → length random ≡ draws wraps → wraps ≡ manager.wraps → Says manager asked random reply
+    → v.live (v.last + 1) ≡ None → w.live (v.last + 1) ≡ None → Draws entropy spent random → length random ≡ draws wraps → wraps ≡ manager.wraps → Says manager asked random reply
     → served ≡ served_by reply → Err error ≡ (seal_opened (request_of asked) random reply short id).answer → EndsFor error (Ok end)
     → next ≡ stages.Ended (record { kind = Seal; end = end; served = served }) → TakesTurn manager job stages.Waiting next v w files files entropy spent
-opens_none manager job asked v w lines files entropy spent random reply short id wraps error end served next work drew undrawn over consumes count same_wraps says serves is ends_for ends_so =
+opens_none manager job asked v w lines files entropy spent random reply short id wraps error end served next work drew undrawn over bytes count same_wraps says serves is ends_for ends_so =
     subst (λ (p : Progress). TakesTurn manager job stages.Waiting p v w files files entropy spent) (sym ends_so) (
-    takes_first manager job _ v w lines files files entropy spent random drew (rest_none v w lines drew undrawn over) consumes (keeps_all files job.to) tt
+    takes_first manager job _ v w lines files files entropy spent random drew (rest_none v w lines drew undrawn over) bytes (keeps_all files job.to) tt
     (λ before now then_held was found unmade.
     let same = same_now files files job.to before now then_held refl was found unmade in
     let line : JobLine = record { kind = Seal; end = end; served = served } in
@@ -159,14 +159,14 @@ fails_so manager asked seen random m served begun drawn serves left =
 -- by what became of the file
 seal_begins : (manager : Saying) (job : Job) (asked : SealAsked) (v u w : DeskValue) (lines : List JournalLine) (files left : Option Files) (entropy spent : EntropyState) (random : List ℕ)
     (m : EncMaterialsValue) (session : ℕ) (served : Option Served) (next : Progress) → job.work ≡ work_of asked → DrawsAtMost v u lines → session ≡ v.last + 1
-    → v.live (v.last + 1) ≡ None → Consumes entropy.to_come spent.to_come random → IsBegun manager asked random m served → BeginsFile session Seal served (Sealing (sealing_of asked random m)) u w files left job.to next
+    → v.live (v.last + 1) ≡ None → Draws entropy spent random → IsBegun manager asked random m served → BeginsFile session Seal served (Sealing (sealing_of asked random m)) u w files left job.to next
     → TakesTurn manager job stages.Waiting next v w files left entropy spent
-seal_begins manager job asked v u w lines files left entropy spent random m session served stages.Waiting work draws is undrawn consumes begun file = absurd file.begins
-seal_begins manager job asked v u w lines files left entropy spent random m session served (stages.Live live) work draws is undrawn consumes begun file =
+seal_begins manager job asked v u w lines files left entropy spent random m session served stages.Waiting work draws is undrawn bytes begun file = absurd file.begins
+seal_begins manager job asked v u w lines files left entropy spent random m session served (stages.Live live) work draws is undrawn bytes begun file =
     let s : SessionValue = Sealing (sealing_of asked random m) in
     let here : w.live live.session ≡ Some s = ap (λ (l : Live). w.live l.session) file.begins.0 ∙ file.begins.1 in
     let drew = draws_on v u w session lines draws is file.desk in
-    takes_first manager job (stages.Live live) v w lines files left entropy spent random drew (rest_live v w lines live drew (ap (λ (l : Live). l.session) file.begins.0 ∙ is) undrawn) consumes file.begins.2.keeps
+    takes_first manager job (stages.Live live) v w lines files left entropy spent random drew (rest_live v w lines live drew (ap (λ (l : Live). l.session) file.begins.0 ∙ is) undrawn) bytes file.begins.2.keeps
     (s, here, omega (arith, ap (λ (l : Live). l.at) file.begins.0))
     (λ before now then_held was found unmade.
     let holds = holds_now files left job.to (beginning (sealing_of asked random m)) now then_held file.begins.2 was found in
@@ -174,9 +174,9 @@ seal_begins manager job asked v u w lines files left entropy spent random m sess
     (ap (λ (l : Live). l.served) file.begins.0) holds in
     subst (λ (o : Option SessionValue). IsLive manager job.work (file_of (Some before) job.from) (file_of (Some then_held) job.to) random live o) (sym here)
     (subst (λ (work : Work). IsLive manager work (file_of (Some before) job.from) (file_of (Some then_held) job.to) random live (Some s)) (sym work) sealing))
-seal_begins manager job asked v u w lines files left entropy spent random m session served (stages.Ended line) work draws is undrawn consumes begun file =
+seal_begins manager job asked v u w lines files left entropy spent random m session served (stages.Ended line) work draws is undrawn bytes begun file =
     let drew = draws_on v u w session lines draws is file.desk in
-    takes_first manager job (stages.Ended line) v w lines files left entropy spent random drew (rest_none v w lines drew undrawn (ap w.live (sym is) ∙ file.begins.1)) consumes
+    takes_first manager job (stages.Ended line) v w lines files left entropy spent random drew (rest_none v w lines drew undrawn (ap w.live (sym is) ∙ file.begins.1)) bytes
     (left_others files left job.to (beginning (sealing_of asked random m)) file.begins.2) tt
     (λ before now then_held was found unmade.
     let made = left_now files left job.to (beginning (sealing_of asked random m)) before now then_held file.begins.2 was found unmade in
@@ -187,8 +187,8 @@ seal_begins manager job asked v u w lines files left entropy spent random m sess
 -- the same of the file that the desk and the shelf were given by its name
 pub seal_begins_at : (manager : Saying) (job : Job) (asked : SealAsked) (v u w : DeskValue) (lines : List JournalLine) (files left : Option Files) (entropy spent : EntropyState) (random : List ℕ)
     (m : EncMaterialsValue) (session : ℕ) (served : Option Served) (to : List ℕ) (next : Progress) → job.work ≡ work_of asked → job.to ≡ to → DrawsAtMost v u lines → session ≡ v.last + 1
-    → v.live (v.last + 1) ≡ None → Consumes entropy.to_come spent.to_come random → IsBegun manager asked random m served → BeginsFile session Seal served (Sealing (sealing_of asked random m)) u w files left to next
+    → v.live (v.last + 1) ≡ None → Draws entropy spent random → IsBegun manager asked random m served → BeginsFile session Seal served (Sealing (sealing_of asked random m)) u w files left to next
     → TakesTurn manager job stages.Waiting next v w files left entropy spent
-seal_begins_at manager job asked v u w lines files left entropy spent random m session served to next work at draws is undrawn consumes begun file =
-    seal_begins manager job asked v u w lines files left entropy spent random m session served next work draws is undrawn consumes begun
+seal_begins_at manager job asked v u w lines files left entropy spent random m session served to next work at draws is undrawn bytes begun file =
+    seal_begins manager job asked v u w lines files left entropy spent random m session served next work draws is undrawn bytes begun
     (subst (λ (name : List ℕ). BeginsFile session Seal served (Sealing (sealing_of asked random m)) u w files left name next) (sym at) file)

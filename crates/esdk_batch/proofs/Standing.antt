@@ -4,9 +4,7 @@ use Rattle.std.specs.Prelude.{◌⊎◌, AllPairs, Option, Some, None, is_some, 
 use Rattle.std.specs.List.{concat}
 use Rattle.std.specs.Option.{option_to_list}
 use Rattle.std.specs.List.Sorted.{IsPermutation}
-use Rattle.std.specs.Io.KnownBytes.{Consumes}
 use Rattle.std.specs.Cmp.Lexicographic.{bytes_decides}
-use Rattle.std.proofs.KnownBytes.{Consumes-trans}
 use Rattle.std.proofs.lemmas.Bool.{cases_eq, cases_lt}
 use Rattle.std.proofs.lemmas.List.{get_or_read, map-append}
 use Rattle.std.proofs.lemmas.List.Folds.{list_any_at}
@@ -21,13 +19,13 @@ use Rattle.job_file.specs.JobFile.{is_written}
 use Rattle.esdk_batch.specs.declared.progress.Progress.{Progress}
 use Rattle.esdk_batch.specs.declared.progress.Progress.TheVariants as stages
 use Rattle.esdk_batch.specs.Files.{KeepsOthers}
-use Rattle.esdk_batch.specs.Batch.{OnlyWritten, in_line}
+use Rattle.esdk_batch.specs.Batch.{Draws, OnlyWritten, in_line}
 use Rattle.keyring_trait.specs.Saying.{Saying}
 use Rattle.esdk_batch.specs.Underway.{IsAt, TakesTurn}
 use Rattle.esdk_batch.specs.Turns.{AddsLines, DrawsBytes, HasKind, answered_so_far}
 use Rattle.esdk_batch.specs.Rounds.{FilesAreApart, AreAt, Beginning, HaveBegun, HaveDrawn, HaveSessions, Stand, has_begun}
 use Rattle.esdk_batch.proofs.Beside.{rest_set}
-use Rattle.esdk_batch.proofs.Places.{at_places, concat_last, finds_more, nothing_more, taken_unknown, takes_none}
+use Rattle.esdk_batch.proofs.Places.{at_places, concat_last, drew_both, drew_same, finds_more, nothing_more}
 use Rattle.esdk_batch.proofs.SealedFirst.{sealed_after}
 use Rattle.esdk_batch.proofs.Turning.{Turned, begun_by, begun_waits_not, kept_at, sessions_after, stays_at}
 
@@ -47,7 +45,7 @@ is_begun (stages.Ended line) = inr refl
 module _ (draws : List (List ℕ)) (progress : List Progress) (i : ℕ) (old new : Progress) (more : List ℕ) (last next : ℕ) (first entropy spent : EntropyState)
     (within : i < length progress) (was : old ≡ get_or progress i old) (begun : has_begun new ≡ true)
     (order : AllPairs (λ one later. one ≡ stages.Waiting → later ≡ stages.Waiting) progress)
-    (bytes : DrawsBytes old last next entropy spent) (takes : Consumes entropy.to_come spent.to_come more) (drawn : HaveDrawn draws progress first entropy) where
+    (bytes : DrawsBytes old last next entropy spent) (drew : Draws entropy spent more) (drawn : HaveDrawn draws progress first entropy) where
   there : i < length draws
   there = omega (arith, within, drawn.count)
 
@@ -60,20 +58,16 @@ module _ (draws : List (List ℕ)) (progress : List Progress) (i : ℕ) (old new
         | inr apart ↦ order i k old (omega (arith, from, apart)) under (sym was ∙ waits)
       ])
 
-  taken_first : old ≡ stages.Waiting → Consumes first.to_come spent.to_come (concat (set draws i (get_or draws i [] ++ more)))
+  taken_first : old ≡ stages.Waiting → Draws first spent (concat (set draws i (get_or draws i [] ++ more)))
   taken_first waits =
-      subst (Consumes first.to_come spent.to_come) (sym (concat_last draws i more there (none_behind waits)))
-      (Consumes-trans first.to_come entropy.to_come spent.to_come (concat draws) more drawn.taken takes)
+      subst (Draws first spent) (sym (concat_last draws i more there (none_behind waits))) (drew_both first entropy spent (concat draws) more drawn.taken drew)
 
-  taken_later : has_begun old ≡ true → Consumes first.to_come spent.to_come (concat (set draws i (get_or draws i [] ++ more)))
+  taken_later : has_begun old ≡ true → Draws first spent (concat (set draws i (get_or draws i [] ++ more)))
   taken_later had =
       let same : spent ≡ entropy = draws_none old last next entropy spent had bytes in
-      let taken = concat (set draws i (get_or draws i [] ++ more)) in
-      subst (λ s. Consumes first.to_come s taken) (ap (λ (s : EntropyState). s.to_come) (sym same))
-      (elim (takes_none entropy.to_come more (subst (λ s. Consumes entropy.to_come s more) (ap (λ (s : EntropyState). s.to_come) same) takes)) [
-        | inl unknown ↦ taken_unknown first.to_come entropy.to_come (concat draws) taken unknown drawn.taken
-        | inr none ↦ subst (λ pieces. Consumes first.to_come entropy.to_come (concat pieces)) (sym (nothing_more draws i more none)) drawn.taken
-      ])
+      let none : more ≡ [] = drew_same entropy more (subst (λ s. Draws entropy s more) same drew) in
+      subst (λ s. Draws first s (concat (set draws i (get_or draws i [] ++ more)))) (sym same)
+      (subst (λ pieces. Draws first entropy (concat pieces)) (sym (nothing_more draws i more none)) drawn.taken)
 
   pub drawn_after : HaveDrawn (set draws i (get_or draws i [] ++ more)) (set progress i new) first spent
   drawn_after = record {
@@ -133,7 +127,7 @@ still_told now later left tells is = told now (sym tells ∙ ap is_some is)
 
 module _ (manager : Saying) (jobs : List Job) (progress : List Progress) (i : ℕ) (job : Job) (old new : Progress) (v w : DeskValue) (now later : Option Files) (entropy spent : EntropyState)
     (apart : FilesAreApart jobs) (turned : Turned jobs progress i job old new v.last w.last v.live w.live) (have : HaveSessions jobs progress v.live)
-    (turn : TakesTurn manager job old new v w now later entropy spent) (before : Option Files) (others : OnlyWritten jobs before now) (draws : List (List ℕ)) (count : length draws ≡ length progress)
+    (turn : TakesTurn manager job old new v w now later entropy spent) (before : Option Files) (others : (held : Files) → now ≡ Some held → OnlyWritten jobs before now) (draws : List (List ℕ)) (count : length draws ≡ length progress)
     (at : (files held : Files) → before ≡ Some files → now ≡ Some held → AreAt manager jobs files held draws v.live progress) where
   inside : i < length jobs
   inside = omega (arith, turned.within, turned.each)
@@ -142,7 +136,7 @@ module _ (manager : Saying) (jobs : List Job) (progress : List Progress) (i : �
   reads_same : (files held : Files) → before ≡ Some files → now ≡ Some held → file_of (Some held) job.from ≡ file_of (Some files) job.from
   reads_same files held was is =
       let unread : is_written jobs job.from ≡ false = subst (λ (j : Job). is_written jobs j.from ≡ false) (sym turned.is) (apart.unread i job inside) in
-      ap (λ f. file_of f job.from) (sym is) ∙ others job.from unread ∙ ap (λ f. file_of f job.from) was
+      ap (λ f. file_of f job.from) (sym is) ∙ others held is job.from unread ∙ ap (λ f. file_of f job.from) was
 
   job_after : (files held left : Files) → before ≡ Some files → now ≡ Some held → later ≡ Some left → IsAt manager job files left (get_or draws i [] ++ turn.more) w.live new
   job_after files held left was is then =
@@ -153,7 +147,7 @@ module _ (manager : Saying) (jobs : List Job) (progress : List Progress) (i : �
   other_same : (held left : Files) → now ≡ Some held → later ≡ Some left → (k : ℕ) (d : Job) → k ≢ i → k < length jobs
       → file_of (Some left) (get_or jobs k d).to ≡ file_of (Some held) (get_or jobs k d).to
   other_same held left is then k d other below =
-      ap (λ f. file_of f (get_or jobs k d).to) (sym then) ∙ turn.others.others (get_or jobs k d).to (apart_at jobs i k job d apart inside below other turned.is)
+      ap (λ f. file_of f (get_or jobs k d).to) (sym then) ∙ (turn.others left then).others (get_or jobs k d).to (apart_at jobs i k job d apart inside below other turned.is)
       ∙ ap (λ f. file_of f (get_or jobs k d).to) is
 
   place_after : (files held left : Files) → before ≡ Some files → now ≡ Some held → later ≡ Some left
@@ -173,7 +167,7 @@ module _ (manager : Saying) (jobs : List Job) (progress : List Progress) (i : �
 
   pub at_after : (files left : Files) → before ≡ Some files → later ≡ Some left
       → AreAt manager jobs files left (set draws i (get_or draws i [] ++ turn.more)) w.live (set progress i new)
-  at_after files left was then = let (held, is) = still_told now later left turn.others.tells then in place_after files held left was is then
+  at_after files left was then = let (held, is) = still_told now later left (turn.others left then).tells then in place_after files held left was is then
 
 -- ---- all of it
 
@@ -220,7 +214,10 @@ stand_after manager jobs width began progress i job old new v w now later entrop
       gained = stand.gained ++ t.lines.gained;
       journal = t.lines.journal ∙ ap (λ l. l ++ t.lines.gained) stand.journal ∙ append_assoc began.journal stand.gained t.lines.gained;
       served = served_after jobs progress i job old new stand.gained t.lines.gained turned.each within turned.is turned.was t.lines.served stand.served;
-      others = others_after jobs i job began.files now later inside turned.is t.turn.others stand.others;
+      others = λ left then.
+          (let keeps = t.turn.others left then in
+          let (held, is) = still_told now later left keeps.tells then in
+          others_after jobs i job began.files now later inside turned.is keeps (stand.others held is));
       at = at_after manager jobs progress i job old new v w now later entropy spent t.apart turned stand.sessions t.turn began.files stand.others stand.draws stand.drawn.count stand.at;
       later = omega (arith, stand.later, behind);
       sealed = λ stayed. sealed_after width began.last v.last w.last progress i old new stand.gained t.lines.gained entropy spent within turned.was turned.numbers t.bytes

@@ -1,7 +1,6 @@
 -- A turn of a job: of one whose session is live, and of one that ended.
 use Rattle.std.proofs.Common.{◌≡◌, ℕ, List, [], ◌++◌, refl, sym, subst, arith, append-nil}
 use Rattle.std.specs.Prelude.{Option, Some}
-use Rattle.std.proofs.KnownBytes.{Consumes-nil}
 use Rattle.esdk_base.specs.Shelf.{Files}
 use Rattle.esdk_base.specs.Streams.{EntropyState}
 use Rattle.desk_core.specs.Session.{SessionValue}
@@ -13,6 +12,7 @@ use Rattle.esdk_batch.specs.declared.progress.Progress.TheVariants as stages
 use Rattle.keyring_trait.specs.Saying.{Saying}
 use Rattle.esdk_batch.specs.Turns.{AddsLines}
 use Rattle.esdk_batch.specs.Underway.{FurtherTurn, HasSession, IsAt, TakesTurn}
+use Rattle.esdk_batch.proofs.Places.{drew_none}
 use Rattle.esdk_batch.proofs.Took.{keeps_all}
 
 -- no byte was drawn
@@ -25,7 +25,7 @@ pub further_taken : (manager : Saying) (job : Job) (live : Live) (next : Progres
     → FurtherTurn manager job live next v w files left → TakesTurn manager job (stages.Live live) next v w files left entropy entropy
 further_taken manager job live next v w files left entropy turn = record {
   more = [];
-  drawn = Consumes-nil entropy.to_come;
+  drawn = drew_none entropy;
   sessions = λ session lacks low. turn.sessions session (λ same. lacks (sym same));
   rest = turn.rest;
   last = omega (arith, turn.last);
@@ -45,14 +45,14 @@ pub none_taken : (manager : Saying) (job : Job) (progress : Progress) (v : DeskV
     → TakesTurn manager job progress progress v v files files entropy entropy
 none_taken manager job progress v files entropy has = record {
   more = [];
-  drawn = Consumes-nil entropy.to_come;
+  drawn = drew_none entropy;
   sessions = λ session lacks low. refl;
   rest = λ session. refl;
   last = omega arith;
   next = omega arith;
   gained = [];
   journal = sym (append-nil v.journal);
-  others = keeps_all files files job.to refl;
+  others = λ left is. keeps_all files files job.to refl;
   has = has;
   stands = λ before now later drawn is then_is from at.
       drawn_none manager job before later drawn v.live progress (subst (λ (f : Files). IsAt manager job before f drawn v.live progress) (same_files files now later is then_is) at);

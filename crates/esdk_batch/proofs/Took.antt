@@ -27,7 +27,7 @@ pub record TookPiece (taken piece : List ℕ) (at count : ℕ) (from : Option (L
   pub there : from ≡ Some text
   pub took : Took (taken ++ piece) (at + count) from
 
-piece_long : (count : ℕ) (buffer : List ℕ) → count ≤ length buffer → length (take count buffer) ≡ count
+pub piece_long : (count : ℕ) (buffer : List ℕ) → count ≤ length buffer → length (take count buffer) ≡ count
 piece_long count buffer fits = length-take-le count buffer fits
 
 pub took_piece : (files : Option Files) (now : Files) (name buffer taken : List ℕ) (at count : ℕ) (from : Option (List ℕ)) → files ≡ Some now → file_of (Some now) name ≡ from

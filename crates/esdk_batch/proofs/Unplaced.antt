@@ -102,12 +102,12 @@ unplaced_turn manager job old v w files left entropy spent line turn = record {
       (ended.0, works_unplaced manager job.work (seen_of job before then_held (drawn ++ turn.more) line) line.end ended.1);
 }
 
-pub turn_placed : (manager : Saying) (job : Job) (old next placed : Progress) (v w : DeskValue) (files : Option Files) (mid after : ShelfState) (entropy spent : EntropyState)
-    → PutsInPlace next placed mid after → TakesTurn manager job old next v w files mid.files entropy spent → TakesTurn manager job old placed v w files after.files entropy spent
-turn_placed manager job old next placed v w files mid after entropy spent puts turn =
-    subst (λ (left : Option Files). TakesTurn manager job old placed v w files left entropy spent) (sym puts.files)
-    (placed_by (λ (p : Progress). TakesTurn manager job old p v w files mid.files entropy spent) next placed mid.faults after.faults puts.line turn
-    (unplaced_turn manager job old v w files mid.files entropy spent))
+pub turn_placed : (manager : Saying) (job : Job) (old next placed : Progress) (v w : DeskValue) (files left then_left : Option Files) (mid after : ShelfState) (entropy spent : EntropyState)
+    → PutsInPlace next placed mid after → then_left ≡ left → TakesTurn manager job old next v w files left entropy spent → TakesTurn manager job old placed v w files then_left entropy spent
+turn_placed manager job old next placed v w files left then_left mid after entropy spent puts same turn =
+    subst (λ (left : Option Files). TakesTurn manager job old placed v w files left entropy spent) (sym same)
+    (placed_by (λ (p : Progress). TakesTurn manager job old p v w files left entropy spent) next placed mid.faults after.faults puts.line turn
+    (unplaced_turn manager job old v w files left entropy spent))
 
 unplaced_lines : (job : Job) (old : Progress) (v w : DeskValue) (line : JobLine) → AddsLines job old (stages.Ended line) v w → AddsLines job old (stages.Ended (unplaced_line line)) v w
 unplaced_lines job old v w line adds = record { knows = tt; gained = adds.gained; journal = adds.journal; lines = adds.lines; served = adds.served }

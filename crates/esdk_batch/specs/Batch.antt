@@ -6,7 +6,7 @@ use Rattle.std.specs.List.Sorted.{IsPermutation}
 use Rattle.std.specs.Io.KnownBytes.{Consumes}
 use Rattle.esdk_fields.specs.Counts.{Stayed}
 use Rattle.esdk_base.specs.Shelf.{Files, file_of}
-use Rattle.esdk_base.specs.Streams.{EntropyState, ShelfState}
+use Rattle.esdk_base.specs.Streams.{EntropyState}
 use Rattle.keyring_trait.specs.declared.journal.JournalLine.{JournalLine}
 use Rattle.keyring_trait.specs.declared.journal.Kind.{Kind}
 use Rattle.keyring_trait.specs.declared.journal.Kind.TheVariants.{Seal, Unseal}
@@ -54,8 +54,9 @@ WorksSo manager (Encrypt length frame context required) seen end =
 WorksSo manager (Decrypt given required) seen end =
     (seen.drawn ≡ []) × OpensSo manager given seen end
 
--- What a job comes to that drew these bytes and of which this is said, where the shelf tells its
--- files. A file that a job reads is as it was before the batch.
+-- What a job comes to that drew these bytes and of which this is said, where the files are known
+-- before the batch and behind it: as the shelf tells them, or as its calls show them. A file that a
+-- job reads is as it was before the batch.
 pub record ComesTo (manager : Saying) (job : Job) (before after : Option Files) (drawn : List ℕ)
     (line : JobLine) : Type 0 where
   pub kind : line.kind ≡ kind_of job.work
@@ -111,19 +112,27 @@ pub record SealsFirst (width last : ℕ) (gained : List JournalLine) : Type 0 wh
   pub sealed : All (λ line. line.kind ≡ Seal) first
   pub opened : All (λ line. line.session ≤ last + width → line.kind ≡ Unseal) later
 
+-- ---- the bytes drawn
+
+-- These bytes were drawn: they were the first of those to come, where the entropy told these; and
+-- they stand behind those that were drawn before, which every entropy tells.
+pub record Draws (entropy spent : EntropyState) (bytes : List ℕ) : Type 0 where
+  pub told : Consumes entropy.to_come spent.to_come bytes
+  pub came : spent.drawn ≡ entropy.drawn ++ bytes
+
 -- ---- the batch
 
--- The jobs had their turns, and this is said of them. The encrypt jobs drew these bytes, in their
--- order, of which those without a line of X4 are all that was taken; the journal gained these
--- lines.
-pub record RunsBatch (manager : Saying) (file : JobFile) (last : ℕ) (before after : ShelfState)
+-- The jobs had their turns, and this is said of them, of files that are known so before the batch
+-- and behind it, if they are. The encrypt jobs drew these bytes, in their order, of which those
+-- without a line of X4 are all that was taken; the journal gained these lines.
+pub record RunsBatch (manager : Saying) (file : JobFile) (last : ℕ) (before after : Option Files)
     (entropy spent : EntropyState) (lines_before lines_after : List JournalLine)
     (lines : List JobLine) : Type 0 where
   pub draws : List (List ℕ)
   pub gained : List JournalLine
   pub journal : lines_after ≡ lines_before ++ gained
-  pub jobs : AllCome manager before.files after.files file.jobs draws lines
-  pub others : OnlyWritten file.jobs before.files after.files
-  pub drawn : Consumes entropy.to_come spent.to_come (concat draws)
+  pub jobs : AllCome manager before after file.jobs draws lines
+  pub others : (left : Files) → after ≡ Some left → OnlyWritten file.jobs before after
+  pub drawn : Draws entropy spent (concat draws)
   pub served : SaysWhatWasServed file.jobs lines gained
   pub turns : Stayed entropy.faults spent.faults → SealsFirst file.width last gained

@@ -1,28 +1,31 @@
 -- The end of a file as a receiver of bytes.
-use Rattle.std.specs.Prelude.{◌≡◌, ◌≤◌, ℕ, false, List, take}
+use Rattle.std.specs.Prelude.{◌≡◌, ℕ, false, List, take}
 use Rattle.esdk_fields.specs.Counts.{Rose}
 use Rattle.esdk_base.specs.Shelf.{is_missing}
 use Rattle.esdk_base.specs.Streams.{ShelfState}
 use Rattle.esdk_batch.specs.declared.file_end.FileEnd.{FileEnd}
 use Rattle.esdk_batch.specs.Files.{Gains}
+use Rattle.esdk_batch.specs.ShelfCalls.{HasCalls, IsWrite}
+use Rattle.esdk_batch.specs.Watching.{IsFrom, Watch, files_by}
 
--- It is the end of the same file of the same shelf, which is lent by the same name in proofs. The
--- file gained all of these bytes.
+-- It is the end of the same file of the same shelf, which is lent by the same name in proofs, and
+-- was called only to append to the file. The file gained all of these bytes.
 pub record FileTakes (lent still : ℕ) (name same : List ℕ) (old new : ShelfState)
     (bytes : List ℕ) : Type 0 where
   pub shelf : still ≡ lent
   pub file : same ≡ name
-  pub gains : Gains old.files new.files name bytes
-  pub later : old.faults ≤ new.faults
+  pub gains : (by : Watch) → IsFrom by old
+      → Gains (files_by by old) (files_by by new) name bytes
+  pub calls : HasCalls (IsWrite name) old new
 
 -- An append failed, and the file gained a front of these bytes.
 pub record FileFails (lent still : ℕ) (name same : List ℕ) (old new : ShelfState)
     (bytes : List ℕ) : Type 0 where
   pub shelf : still ≡ lent
   pub file : same ≡ name
-  pub count : ℕ
-  pub gains : Gains old.files new.files name (take count bytes)
-  pub later : old.faults ≤ new.faults
+  pub gains : (by : Watch) → IsFrom by old
+      → (count : ℕ) × Gains (files_by by old) (files_by by new) name (take count bytes)
+  pub calls : HasCalls (IsWrite name) old new
   pub rose : is_missing old.files name ≡ false → Rose old.faults new.faults
 
 -- the same of an end of a file, over a shelf of which this says what it is

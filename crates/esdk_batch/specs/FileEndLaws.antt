@@ -3,13 +3,18 @@
 use Rattle.std.proofs.Common.{◌≡◌, ◌∙◌, ℕ, ◌+◌, false, List, [], ◌++◌, length, take, refl, sym, ap, subst, arith, append_assoc, append-nil}
 use Rattle.std.proofs.Math.Seq.{take-append-add}
 use Rattle.std.specs.Prelude.{is_none, is_some}
+use Rattle.std.proofs.lemmas.List.{length-append}
+use Rattle.std.proofs.lemmas.List.Elements.{All-append, All-nil}
 use Rattle.std.specs.declared.option.Option.{Option}
 use Rattle.std.specs.declared.option.Option.TheVariants.{None, Some}
 use Rattle.std.specs.Option.{option_map}
+use Rattle.esdk_seen.specs.Calls.{ShelfCall}
 use Rattle.esdk_base.specs.Shelf.{Files, file_of, is_missing}
 use Rattle.esdk_base.specs.Streams.{ShelfState}
 use Rattle.esdk_batch.specs.FileEnd.{FileFails, FileTakes}
 use Rattle.esdk_batch.specs.Files.{Gains, KeepsOthers}
+use Rattle.esdk_batch.specs.ShelfCalls.{HasCalls, IsWrite}
+use Rattle.esdk_batch.specs.Watching.{IsFrom, Watch, as_shown, as_told, files_by}
 
 -- ---- bytes behind bytes
 
@@ -67,6 +72,35 @@ pub gained_there : (old new : Option Files) (name bytes : List ℕ) → Gains ol
 gained_there old new name bytes gains there =
     gained_missing old new name bytes gains.keeps.tells gains.this ∙ there
 
+-- ---- calls
+
+-- there was none
+abbrev pub calls_none : (P : ShelfCall → Type 0) (shelf : ShelfState) → HasCalls P shelf shelf
+calls_none P shelf = record {
+  made = [];
+  calls = sym (append-nil shelf.calls);
+  all = All-nil P;
+  later = omega arith;
+}
+
+-- some behind others
+abbrev pub calls_more : (P : ShelfCall → Type 0) (a b c : ShelfState) → HasCalls P a b → HasCalls P b c
+    → HasCalls P a c
+calls_more P a b c one two = record {
+  made = one.made ++ two.made;
+  calls = two.calls ∙ ap (λ (calls : List ShelfCall). calls ++ two.made) one.calls
+      ∙ append_assoc a.calls one.made two.made;
+  all = All-append P one.made two.made one.all two.all;
+  later = omega (arith, one.later, two.later);
+}
+
+-- the files are known still
+pub from_later : (P : ShelfCall → Type 0) (by : Watch) (old new : ShelfState) → HasCalls P old new
+    → IsFrom by old → IsFrom by new
+from_later P as_told old new has from = tt
+from_later P (as_shown since before) old new has from =
+    omega (arith, from, ap length has.calls, length-append old.calls has.made)
+
 -- ---- the laws
 
 pub takes_none : (lent : ℕ) (name : List ℕ) (shelf : ShelfState)
@@ -74,8 +108,8 @@ pub takes_none : (lent : ℕ) (name : List ℕ) (shelf : ShelfState)
 takes_none lent name shelf = record {
   shelf = refl;
   file = refl;
-  gains = gained_nothing shelf.files name;
-  later = omega arith;
+  gains = λ by from. gained_nothing (files_by by shelf) name;
+  calls = calls_none (IsWrite name) shelf;
 }
 
 pub takes_more : (l m n : ℕ) (x y z : List ℕ) (a b c : ShelfState) (first second : List ℕ)
@@ -84,28 +118,37 @@ pub takes_more : (l m n : ℕ) (x y z : List ℕ) (a b c : ShelfState) (first se
 takes_more l m n x y z a b c first second one two = record {
   shelf = two.shelf ∙ one.shelf;
   file = two.file ∙ one.file;
-  gains = gains_more a.files b.files c.files x first second one.gains
-      (subst (λ (name : List ℕ). Gains b.files c.files name second) one.file two.gains);
-  later = omega (arith, one.later, two.later);
+  gains = λ by from.
+      gains_more (files_by by a) (files_by by b) (files_by by c) x first second
+      (one.gains by from)
+      (subst (λ (name : List ℕ). Gains (files_by by b) (files_by by c) name second) one.file
+      (two.gains by (from_later (IsWrite x) by a b one.calls from)));
+  calls = calls_more (IsWrite x) a b c one.calls
+      (subst (λ (name : List ℕ). HasCalls (IsWrite name) b c) one.file two.calls);
 }
 
 pub fails_behind : (l m n : ℕ) (x y z : List ℕ) (a b c : ShelfState) (first second : List ℕ)
     → FileTakes l m x y a b first → FileFails m n y z b c second
     → FileFails l n x z a c (first ++ second)
-fails_behind l m n x y z a b c first second one two =
-    let front : List ℕ = take two.count second in
-    record {
-      shelf = two.shelf ∙ one.shelf;
-      file = two.file ∙ one.file;
-      count = length first + two.count;
-      gains = subst (λ (bytes : List ℕ). Gains a.files c.files x bytes)
-          (sym (take-append-add first second two.count))
-          (gains_more a.files b.files c.files x first front one.gains
-          (subst (λ (name : List ℕ). Gains b.files c.files name front) one.file two.gains));
-      later = omega (arith, one.later, two.later);
-      rose = λ there.
-          (let still = gained_there a.files b.files x first one.gains there in
-          let rose = two.rose (subst (λ (name : List ℕ). is_missing b.files name ≡ false)
-          (sym one.file) still) in
-          omega (arith, rose, one.later));
-    }
+fails_behind l m n x y z a b c first second one two = record {
+  shelf = two.shelf ∙ one.shelf;
+  file = two.file ∙ one.file;
+  gains = λ by from.
+      (let more = two.gains by (from_later (IsWrite x) by a b one.calls from) in
+      let front : List ℕ = take more.0 second in (
+        length first + more.0,
+        subst (λ (bytes : List ℕ). Gains (files_by by a) (files_by by c) x bytes)
+            (sym (take-append-add first second more.0))
+            (gains_more (files_by by a) (files_by by b) (files_by by c) x first front
+            (one.gains by from)
+            (subst (λ (name : List ℕ). Gains (files_by by b) (files_by by c) name front)
+            one.file more.1)),
+      ));
+  calls = calls_more (IsWrite x) a b c one.calls
+      (subst (λ (name : List ℕ). HasCalls (IsWrite name) b c) one.file two.calls);
+  rose = λ there.
+      (let still = gained_there a.files b.files x first (one.gains as_told tt) there in
+      let rose = two.rose (subst (λ (name : List ℕ). is_missing b.files name ≡ false)
+      (sym one.file) still) in
+      omega (arith, rose, one.calls.later));
+}

@@ -14,5 +14,7 @@ pub mod Placing
 pub mod Progress
 pub mod Rounds
 pub mod SealStory
+pub mod ShelfCalls
 pub mod Turns
 pub mod Underway
+pub mod Watching

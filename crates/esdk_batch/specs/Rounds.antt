@@ -2,7 +2,6 @@
 use Rattle.std.specs.Prelude.{◌≡◌, ◌≢◌, ◌⊎◌, ◌≤◌, ◌<◌, ◌+◌, ℕ, Bool, true, false, List, [], ◌∷◌, ◌++◌, length, map, take, zip, filter_map, All, AllPairs, Option, Some, slice_index_or}
 use Rattle.std.specs.List.{concat, sum_by}
 use Rattle.std.specs.List.Sorted.{IsPermutation}
-use Rattle.std.specs.Io.KnownBytes.{Consumes}
 use Rattle.esdk_fields.specs.Counts.{Stayed}
 use Rattle.esdk_base.specs.Shelf.{Files}
 use Rattle.esdk_base.specs.Streams.{EntropyState}
@@ -16,7 +15,7 @@ use Rattle.job_file.specs.declared.job.Job.{Job}
 use Rattle.job_file.specs.JobFile.{is_written}
 use Rattle.esdk_batch.specs.declared.progress.Progress.{Progress}
 use Rattle.esdk_batch.specs.declared.progress.Progress.TheVariants as stages
-use Rattle.esdk_batch.specs.Batch.{OnlyWritten, SealsFirst, in_line}
+use Rattle.esdk_batch.specs.Batch.{Draws, OnlyWritten, SealsFirst, in_line}
 use Rattle.esdk_batch.specs.Underway.{HasSession, IsAt, LacksSession, beside}
 use Rattle.esdk_batch.specs.Turns.{HasKind, Knows, answered_so_far, waits}
 
@@ -99,7 +98,7 @@ AreAt manager jobs before files draws live progress =
 pub record HaveDrawn (draws : List (List ℕ)) (progress : List Progress)
     (entropy spent : EntropyState) : Type 0 where
   pub count : length draws ≡ length progress
-  pub taken : Consumes entropy.to_come spent.to_come (concat draws)
+  pub taken : Draws entropy spent (concat draws)
   pub none : (k : ℕ) (drawn : List ℕ) (one : Progress) → k < length progress
       → slice_index_or progress k one ≡ stages.Waiting → slice_index_or draws k drawn ≡ []
 
@@ -127,7 +126,7 @@ pub record Stand (manager : Saying) (jobs : List Job) (width : ℕ) (began : Beg
   pub gained : List JournalLine
   pub journal : v.journal ≡ began.journal ++ gained
   pub served : IsPermutation (filter_map answered_so_far (zip jobs progress)) (map in_line gained)
-  pub others : OnlyWritten jobs began.files now
+  pub others : (left : Files) → now ≡ Some left → OnlyWritten jobs began.files now
   pub at : (files left : Files) → began.files ≡ Some files → now ≡ Some left
       → AreAt manager jobs files left draws v.live progress
   pub later : began.entropy.faults ≤ spent.faults

@@ -2,7 +2,6 @@
 -- the file holds that it writes.
 use Rattle.std.specs.Prelude.{◌≡◌, ◌≢◌, ◌≤◌, ◌+◌, ℕ, List, [], ◌++◌, length, drop, Option, Some, None, nat_eq}
 use Rattle.std.specs.Map.{update}
-use Rattle.std.specs.Io.KnownBytes.{Consumes}
 use Rattle.esdk_base.specs.Shelf.{Files, file_of}
 use Rattle.esdk_base.specs.Streams.{EntropyState}
 use Rattle.context_codec.specs.Context.{KeyValue}
@@ -28,7 +27,7 @@ use Rattle.esdk_batch.specs.declared.progress.Progress.TheVariants as stages
 use Rattle.esdk_batch.specs.Answering.{KeepsServed, no_limits}
 use Rattle.esdk_batch.specs.Files.{KeepsOthers, most_input}
 use Rattle.esdk_batch.specs.SealStory.{SealAsked, held, wish_of}
-use Rattle.esdk_batch.specs.Batch.{WorksSo, kind_of, seen_of}
+use Rattle.esdk_batch.specs.Batch.{Draws, WorksSo, kind_of, seen_of}
 
 -- the desk is worth something at which this session is live
 abbrev pub IsLiveAt : {M : Type 0} → Desk M → ℕ → Type 0
@@ -133,7 +132,7 @@ beside (stages.Ended line) live session = live session
 pub record TakesTurn (manager : Saying) (job : Job) (old new : Progress) (v w : DeskValue)
     (files left : Option Files) (entropy spent : EntropyState) : Type 0 where
   pub more : List ℕ
-  pub drawn : Consumes entropy.to_come spent.to_come more
+  pub drawn : Draws entropy spent more
   pub sessions : (session : ℕ) → LacksSession session old → session ≤ v.last
       → w.live session ≡ v.live session
   pub rest : (session : ℕ) → beside new w.live session ≡ beside old v.live session
@@ -141,7 +140,7 @@ pub record TakesTurn (manager : Saying) (job : Job) (old new : Progress) (v w : 
   pub next : w.last ≤ v.last + 1
   pub gained : List JournalLine
   pub journal : w.journal ≡ v.journal ++ gained
-  pub others : KeepsOthers files left job.to
+  pub others : (then_held : Files) → left ≡ Some then_held → KeepsOthers files left job.to
   pub has : HasSession w.live new
   pub stands : (before now then_held : Files) (drawn : List ℕ) → files ≡ Some now
       → left ≡ Some then_held
@@ -157,7 +156,7 @@ pub record FurtherTurn (manager : Saying) (job : Job) (live : Live) (new : Progr
   pub last : w.last ≡ v.last
   pub gained : List JournalLine
   pub journal : w.journal ≡ v.journal ++ gained
-  pub others : KeepsOthers files left job.to
+  pub others : (then_held : Files) → left ≡ Some then_held → KeepsOthers files left job.to
   pub has : HasSession w.live new
   pub stands : (before now then_held : Files) (drawn : List ℕ) → files ≡ Some now
       → left ≡ Some then_held

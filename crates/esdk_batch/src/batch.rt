@@ -1,6 +1,7 @@
 //! The whole batch.
 
-ghost use Rattle.std.specs.Prelude.{◌≡◌, ◌≤◌, ◌+◌, ◌-◌, ◌^◌, ℕ, true, All, length, is_some, IfOk, OnOk};
+ghost use Rattle.std.specs.Prelude.{◌≡◌, ◌≤◌, ◌+◌, ◌-◌, ◌^◌, ℕ, true, All, length, is_some, Some, IfOk, OnOk};
+ghost use Rattle.esdk_base.specs.Shelf.{Files};
 ghost use Rattle.keyring_trait.specs.Manager.{Went};
 ghost use Rattle.keyring_trait.specs.Saying.{said_between};
 ghost use Rattle.desk_core.specs.Desk.{DeskValue};
@@ -9,6 +10,8 @@ ghost use Rattle.esdk_batch.specs.Batch.{OnlyWritten, RunsBatch};
 ghost use Rattle.esdk_batch.specs.Failures.{CountsFailures, tally_of};
 ghost use Rattle.esdk_batch.specs.Moments.{ReadsClock};
 ghost use Rattle.esdk_batch.specs.Progress.{AreEnded, is_ended};
+ghost use Rattle.esdk_batch.specs.ShelfCalls.{AreFinished, CallsAtMost};
+ghost use Rattle.esdk_batch.specs.Watching.{shown_files};
 
 use crate::progress::{Progress, all_waiting};
 use crate::rounds::run_rounds;
@@ -59,9 +62,14 @@ pub fn run_batch<M: Manager, F: Shelf, W: Entropy, C: Clock>(
     requires worth { IsWorth desk.old }
     ensures runs { (v : DeskValue) → Stands desk.old v → IfOk result (RunsBatch
         (said_between (M.state (manager_of desk.old)) (M.state (manager_of desk.new)))
-        jobs.now v.last (F.state shelf.old) (F.state shelf.new) (W.state entropy.old)
-        (W.state entropy.new) (journal_of desk.old) (journal_of desk.new)) }
-    ensures moments { ReadsClock (C.moments clock.old) (C.moments clock.new)
+        jobs.now v.last (F.state shelf.old).files (F.state shelf.new).files
+        (W.state entropy.old) (W.state entropy.new) (journal_of desk.old) (journal_of desk.new)) }
+    ensures shown { (before : Files) (v : DeskValue) → Stands desk.old v
+        → IfOk result (RunsBatch
+        (said_between (M.state (manager_of desk.old)) (M.state (manager_of desk.new)))
+        jobs.now v.last (Some before) (shown_files before (F.state shelf.old) (F.state shelf.new))
+        (W.state entropy.old) (W.state entropy.new) (journal_of desk.old) (journal_of desk.new)) }
+    ensures moments { ReadsClock (C.state clock.old) (C.state clock.new)
         (journal_of desk.old) (journal_of desk.new) }
     ensures sessions { (v : DeskValue) → Stands desk.old v → OnOk result ((w : DeskValue)
         × Stands desk.new w × ((session : ℕ) → w.live session ≡ v.live session)) }
@@ -70,6 +78,9 @@ pub fn run_batch<M: Manager, F: Shelf, W: Entropy, C: Clock>(
     ensures numbers { last_of desk.new ≤ last_of desk.old + length jobs.now.jobs }
     ensures others { OnlyWritten jobs.now.jobs (F.state shelf.old).files (F.state shelf.new).files }
     ensures told { is_some (F.state shelf.new).files ≡ is_some (F.state shelf.old).files }
+    ensures calls { CallsAtMost jobs.now.jobs (F.state shelf.old) (F.state shelf.new) }
+    ensures finished { IfOk result
+        (AreFinished jobs.now.jobs (F.state shelf.old) (F.state shelf.new)) }
     ensures failures { IfOk result (CountsFailures jobs.now.jobs
         (tally_of (F.state shelf.old) (W.state entropy.old).faults
         (M.state (manager_of desk.old)).meaning.faults)

@@ -14,7 +14,9 @@ ghost use Rattle.esdk_base.specs.Shelf.{is_missing};
 ghost use Rattle.esdk_batch.specs.Failures.{PieceCounts};
 ghost use Rattle.esdk_batch.specs.Files.{KeepsOthers};
 ghost use Rattle.esdk_batch.specs.Moments.{GainsAt};
+ghost use Rattle.esdk_batch.specs.ShelfCalls.{HasCalls, IsWrite};
 ghost use Rattle.esdk_batch.specs.Underway.{IsLiveAt};
+ghost use Rattle.esdk_batch.specs.Watching.{IsFrom, Watch, files_by};
 
 use crate::file_end::FileEnd;
 use crate::opening::end_of;
@@ -38,15 +40,18 @@ pub(crate) fn feed_piece<M: Manager, F: Shelf>(
     shelf: &mut F,
 ) -> Result<Option<JobEnd>, AllocError>
     requires { IsLiveAt desk.old session }
-    ensures feeds { (first last : M) (v : DeskValue) (s : SessionValue)
+    ensures feeds { (by : Watch) (first last : M) (v : DeskValue) (s : SessionValue)
+        → IsFrom by (F.state shelf.old)
         → SaysWithin M.state first last desk.old desk.new
         → Stands desk.old v → v.live session ≡ Some s
         → IfOk result (λ end. (w : DeskValue) × Stands desk.new w × FeedsPiece
         (said_between (M.state first) (M.state last))
-        session s piece.now v w to.now (F.state shelf.old).files (F.state shelf.new).files end) }
+        session s piece.now v w to.now
+        (files_by by (F.state shelf.old)) (files_by by (F.state shelf.new)) end) }
     ensures sessions { (last : ℕ) → last < session → KeepsSessions last 0 desk.old desk.new }
     ensures moment { GainsAt now (journal_of desk.old) (journal_of desk.new) }
     ensures kept { KeepsOthers (F.state shelf.old).files (F.state shelf.new).files to.now }
+    ensures calls { HasCalls (IsWrite to.now) (F.state shelf.old) (F.state shelf.new) }
     ensures counts { is_missing (F.state shelf.old).files to.now ≡ false
         → IfOk result (λ end. PieceCounts to.now end (F.state shelf.old) (F.state shelf.new)
         (M.state (manager_of desk.old)).meaning.faults
@@ -70,12 +75,14 @@ pub(crate) fn end_session<M: Manager, F: Shelf>(
     shelf: &mut F,
 ) -> Result<JobEnd, AllocError>
     requires { IsLiveAt desk.old session }
-    ensures ends { (v : DeskValue) (s : SessionValue) → Stands desk.old v → v.live session ≡ Some s
+    ensures ends { (by : Watch) (v : DeskValue) (s : SessionValue) → IsFrom by (F.state shelf.old)
+        → Stands desk.old v → v.live session ≡ Some s
         → IfOk result (λ end. (w : DeskValue) × Stands desk.new w
-        × EndsSession session s v w to.now (F.state shelf.old).files (F.state shelf.new).files
-        end) }
+        × EndsSession session s v w to.now
+        (files_by by (F.state shelf.old)) (files_by by (F.state shelf.new)) end) }
     ensures sessions { (last : ℕ) → last < session → KeepsSessions last 0 desk.old desk.new }
     ensures kept { KeepsOthers (F.state shelf.old).files (F.state shelf.new).files to.now }
+    ensures calls { HasCalls (IsWrite to.now) (F.state shelf.old) (F.state shelf.new) }
     ensures counts { (keyring : ℕ) → is_missing (F.state shelf.old).files to.now ≡ false
         → IfOk result (λ end. PieceCounts to.now (Some end)
         (F.state shelf.old) (F.state shelf.new) keyring keyring) }

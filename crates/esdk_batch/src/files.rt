@@ -3,7 +3,10 @@
 ghost use Rattle.std.specs.Prelude.{◌≡◌, ◌≤◌, ◌<◌, false, length, OnErr};
 ghost use Rattle.esdk_fields.specs.Counts.{HasCause, Rose};
 ghost use Rattle.esdk_base.specs.Shelf.{HasCauseOrMissing, is_missing};
+ghost use Rattle.esdk_base.specs.Told.{TellsRead};
 ghost use Rattle.esdk_batch.specs.Files.{KeepsOthers, Makes, Puts, ReadsAt, most_input};
+ghost use Rattle.esdk_batch.specs.ShelfCalls.{HasCalls, IsRead, IsWrite};
+ghost use Rattle.esdk_batch.specs.Watching.{IsFrom, Watch, files_by};
 
 use esdk_base::{Failed, Shelf};
 use esdk_fields::Outside;
@@ -26,6 +29,9 @@ pub(crate) fn read_piece<F: Shelf>(
     requires room { 0 < length buffer.old }
     ensures reads { ReadsAt (F.state shelf.old) (F.state shelf.new) name.now at buffer.new result }
     ensures stays { (F.state shelf.new).files ≡ (F.state shelf.old).files }
+    ensures calls { HasCalls (IsRead name.now) (F.state shelf.old) (F.state shelf.new) }
+    ensures tells { TellsRead (F.state shelf.old).calls
+        (F.state shelf.new).calls result name.now at buffer.new }
 {
     let room = MOST_INPUT - at;
     if room == 0 {
@@ -41,8 +47,10 @@ pub(crate) fn read_piece<F: Shelf>(
 /// Makes the file hold nothing.
 pub(crate) fn make<F: Shelf>(shelf: &mut F, name: &str) -> Result<(), Failed>
     ensures kept { KeepsOthers (F.state shelf.old).files (F.state shelf.new).files name.now }
-    ensures makes { Makes (F.state shelf.old).files (F.state shelf.new).files name.now result }
+    ensures makes { (by : Watch) → IsFrom by (F.state shelf.old)
+        → Makes (files_by by (F.state shelf.old)) (files_by by (F.state shelf.new)) name.now result }
     ensures cause { HasCause (F.state shelf.old).faults (F.state shelf.new).faults result }
+    ensures calls { HasCalls (IsWrite name.now) (F.state shelf.old) (F.state shelf.new) }
 {
     shelf.create(name)
 }
@@ -50,12 +58,13 @@ pub(crate) fn make<F: Shelf>(shelf: &mut F, name: &str) -> Result<(), Failed>
 /// Appends these bytes to the file, by one call. Where there are none, there is no call.
 pub(crate) fn put<F: Shelf>(shelf: &mut F, name: &str, bytes: &[u8]) -> Result<(), Failed>
     ensures kept { KeepsOthers (F.state shelf.old).files (F.state shelf.new).files name.now }
-    ensures puts { Puts (F.state shelf.old).files
-        (F.state shelf.new).files name.now bytes.now result }
+    ensures puts { (by : Watch) → IsFrom by (F.state shelf.old)
+        → Puts (files_by by (F.state shelf.old)) (files_by by (F.state shelf.new))
+        name.now bytes.now result }
     ensures some { OnErr result (1 ≤ length bytes.now) }
-    ensures later { (F.state shelf.old).faults ≤ (F.state shelf.new).faults }
     ensures cause { is_missing (F.state shelf.old).files name.now ≡ false
         → OnErr result (Rose (F.state shelf.old).faults (F.state shelf.new).faults) }
+    ensures calls { HasCalls (IsWrite name.now) (F.state shelf.old) (F.state shelf.new) }
 {
     if bytes.is_empty() {
         return Ok(());

@@ -26,7 +26,9 @@ ghost use Rattle.esdk_batch.specs.Ending.{EndsFor};
 ghost use Rattle.esdk_batch.specs.Keeping.{KeepsSessions};
 ghost use Rattle.esdk_batch.specs.Opening.{BeginsFile, request_of};
 ghost use Rattle.esdk_batch.specs.SealStory.{SealAsked};
+ghost use Rattle.esdk_batch.specs.ShelfCalls.{HasCalls, IsOfTurn, IsWrite};
 ghost use Rattle.esdk_batch.specs.Underway.{IsLiveAt, TakesTurn};
+ghost use Rattle.esdk_batch.specs.Watching.{IsFrom, Watch, files_by};
 ghost use Rattle.esdk_batch.specs.Batch.{kind_of};
 ghost use Rattle.esdk_batch.specs.Turns.{AddsLines, DrawsBytes, DrawsNumber, HasKind};
 
@@ -63,11 +65,12 @@ pub(crate) fn open_job<M: Manager, F: Shelf, W: Entropy>(
     requires room { last_of desk.old < 2 ^ 64 - 1 }
     requires worth { IsWorth desk.old }
     requires still { Went (M.state (manager_of desk.old)) (M.state (manager_of desk.old)) }
-    ensures turn { (first last : M) (v : DeskValue)
+    ensures turn { (by : Watch) (first last : M) (v : DeskValue)
+        → IsFrom by (F.state shelf.old)
         → SaysWithin M.state first last desk.old desk.new
         → Stands desk.old v → IfOk result (λ next. (w : DeskValue) × Stands desk.new w × TakesTurn
         (said_between (M.state first) (M.state last))
-        job.now Waiting next v w (F.state shelf.old).files (F.state shelf.new).files
+        job.now Waiting next v w (files_by by (F.state shelf.old)) (files_by by (F.state shelf.new))
         (W.state entropy.old) (W.state entropy.new)) }
     ensures numbers { IfOk result
         (λ next. DrawsNumber Waiting next (last_of desk.old) (last_of desk.new)) }
@@ -81,6 +84,7 @@ pub(crate) fn open_job<M: Manager, F: Shelf, W: Entropy>(
     ensures kind { IfOk result (λ next. HasKind job.now.work next) }
     ensures moment { GainsAt now (journal_of desk.old) (journal_of desk.new) }
     ensures kept { KeepsOthers (F.state shelf.old).files (F.state shelf.new).files job.now.to }
+    ensures calls { HasCalls (IsOfTurn job.now) (F.state shelf.old) (F.state shelf.new) }
     ensures counts { IfOk result (λ next. TurnCounts job.now next
         (tally_of (F.state shelf.old) (W.state entropy.old).faults
         (M.state (manager_of desk.old)).meaning.faults)
@@ -141,13 +145,14 @@ fn open_sealing<M: Manager, F: Shelf, W: Entropy>(
     requires room { last_of desk.old < 2 ^ 64 - 1 }
     requires worth { IsWorth desk.old }
     requires still { Went (M.state (manager_of desk.old)) (M.state (manager_of desk.old)) }
-    ensures turn { (first last : M) (job : Job) (asked : SealAsked) (v : DeskValue)
+    ensures turn { (by : Watch) (first last : M) (job : Job) (asked : SealAsked) (v : DeskValue)
+        → IsFrom by (F.state shelf.old)
         → SaysWithin M.state first last desk.old desk.new
         → job.work ≡ Encrypt asked.declared asked.frame asked.context asked.required
         → job.to ≡ to.now → request.now ≡ request_of asked → Stands desk.old v
         → IfOk result (λ next. (w : DeskValue) × Stands desk.new w × TakesTurn
         (said_between (M.state first) (M.state last))
-        job Waiting next v w (F.state shelf.old).files (F.state shelf.new).files
+        job Waiting next v w (files_by by (F.state shelf.old)) (files_by by (F.state shelf.new))
         (W.state entropy.old) (W.state entropy.new)) }
     ensures numbers { IfOk result
         (λ next. DrawsNumber Waiting next (last_of desk.old) (last_of desk.new)) }
@@ -162,6 +167,7 @@ fn open_sealing<M: Manager, F: Shelf, W: Entropy>(
     ensures kind { (work : Work) → Seal ≡ kind_of work → IfOk result (λ next. HasKind work next) }
     ensures moment { GainsAt now (journal_of desk.old) (journal_of desk.new) }
     ensures kept { KeepsOthers (F.state shelf.old).files (F.state shelf.new).files to.now }
+    ensures calls { HasCalls (IsWrite to.now) (F.state shelf.old) (F.state shelf.new) }
     ensures counts { (job : Job) → job.to ≡ to.now → IfOk result (λ next. TurnCounts job next
         (tally_of (F.state shelf.old) (W.state entropy.old).faults
         (M.state (manager_of desk.old)).meaning.faults)
@@ -196,12 +202,13 @@ fn open_opening<M: Manager, F: Shelf>(
 ) -> Result<Progress, AllocError>
     requires room { last_of desk.old < 2 ^ 64 - 1 }
     requires worth { IsWorth desk.old }
-    ensures turn { (first last : M) (job : Job) (required : List (List ℕ)) (v : DeskValue)
-        (entropy : EntropyState)
+    ensures turn { (by : Watch) (first last : M) (job : Job) (required : List (List ℕ))
+        (v : DeskValue) (entropy : EntropyState) → IsFrom by (F.state shelf.old)
         → job.work ≡ Decrypt given.now required → job.to ≡ to.now
         → Stands desk.old v → IfOk result (λ next. (w : DeskValue) × Stands desk.new w × TakesTurn
         (said_between (M.state first) (M.state last))
-        job Waiting next v w (F.state shelf.old).files (F.state shelf.new).files entropy entropy) }
+        job Waiting next v w (files_by by (F.state shelf.old)) (files_by by (F.state shelf.new))
+        entropy entropy) }
     ensures numbers { IfOk result
         (λ next. DrawsNumber Waiting next (last_of desk.old) (last_of desk.new)) }
     ensures sessions { (last : ℕ) → last ≤ last_of desk.old
@@ -212,6 +219,7 @@ fn open_opening<M: Manager, F: Shelf>(
         (λ next. (w : DeskValue) × Stands desk.new w × AddsLines job Waiting next v w) }
     ensures kind { (work : Work) → Unseal ≡ kind_of work → IfOk result (λ next. HasKind work next) }
     ensures kept { KeepsOthers (F.state shelf.old).files (F.state shelf.new).files to.now }
+    ensures calls { HasCalls (IsWrite to.now) (F.state shelf.old) (F.state shelf.new) }
     ensures counts { (job : Job) (entropy keyring : ℕ) → job.to ≡ to.now
         → IfOk result (λ next. TurnCounts job next
         (tally_of (F.state shelf.old) entropy keyring)
@@ -237,14 +245,15 @@ fn begin<M: Manager, F: Shelf>(
     shelf: &mut F,
 ) -> Progress
     requires { IsLiveAt desk.old session }
-    ensures begins { (v : DeskValue) (s : SessionValue) → Stands desk.old v
-        → v.live session ≡ Some s
+    ensures begins { (by : Watch) (v : DeskValue) (s : SessionValue) → IsFrom by (F.state shelf.old)
+        → Stands desk.old v → v.live session ≡ Some s
         → (w : DeskValue) × Stands desk.new w
         × BeginsFile session kind served s v w
-        (F.state shelf.old).files (F.state shelf.new).files to.now result }
+        (files_by by (F.state shelf.old)) (files_by by (F.state shelf.new)) to.now result }
     ensures sessions { (last : ℕ) → last < session → KeepsSessions last 0 desk.old desk.new }
     ensures kind { (work : Work) → kind ≡ kind_of work → HasKind work result }
     ensures kept { KeepsOthers (F.state shelf.old).files (F.state shelf.new).files to.now }
+    ensures calls { HasCalls (IsWrite to.now) (F.state shelf.old) (F.state shelf.new) }
     ensures counts { (job : Job) (entropy keyring : ℕ) → job.to ≡ to.now → TurnCounts job result
         (tally_of (F.state shelf.old) entropy keyring)
         (tally_of (F.state shelf.new) entropy keyring) }
@@ -275,11 +284,12 @@ fn make_file<M: Manager, F: Shelf>(
 ) -> Result<(), Failed>
     requires { IsLiveAt desk.now session }
     ensures kept { KeepsOthers (F.state shelf.old).files (F.state shelf.new).files to.now }
-    ensures later { (F.state shelf.old).faults ≤ (F.state shelf.new).faults }
+    ensures calls { HasCalls (IsWrite to.now) (F.state shelf.old) (F.state shelf.new) }
     ensures cause { OnErr result (Rose (F.state shelf.old).faults (F.state shelf.new).faults) }
     ensures there { OnOk result (is_missing (F.state shelf.new).files to.now ≡ false) }
-    ensures makes { (v : DeskValue) (s : SessionValue) → Stands desk.now v → v.live session ≡ Some s
-        → MakesFile (F.state shelf.old).files (F.state shelf.new).files to.now
+    ensures makes { (by : Watch) (v : DeskValue) (s : SessionValue) → IsFrom by (F.state shelf.old)
+        → Stands desk.now v → v.live session ≡ Some s
+        → MakesFile (files_by by (F.state shelf.old)) (files_by by (F.state shelf.new)) to.now
         (header_of s) result }
 {
     make(shelf, to)?;

@@ -2,6 +2,7 @@
 
 ghost use Rattle.std.specs.Prelude.{◌≡◌};
 ghost use Rattle.esdk_batch.specs.Placing.{PutsInPlace, unplaced_end, readers_of, unplaced_line};
+ghost use Rattle.esdk_batch.specs.ShelfCalls.{FinishesBy};
 
 use crate::progress::Progress;
 use batch_report::{JobEnd, JobLine};
@@ -14,7 +15,8 @@ use keyring_trait::Kind;
 /// one for its owner alone. A job that was done is a failure of the shelf where that fails; another
 /// one ended before, and stays as it ended.
 pub(crate) fn put_in_place<F: Shelf>(job: &Job, next: Progress, shelf: &mut F) -> Progress
-    ensures { PutsInPlace next result (F.state shelf.old) (F.state shelf.new) }
+    ensures puts { PutsInPlace next result (F.state shelf.old) (F.state shelf.new) }
+    ensures calls { FinishesBy job.now next result (F.state shelf.old) (F.state shelf.new) }
 {
     match next {
         Progress::Waiting => Progress::Waiting,

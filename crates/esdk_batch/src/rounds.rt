@@ -1,6 +1,7 @@
 //! The rounds of a batch.
 
-ghost use Rattle.std.specs.Prelude.{◌≡◌, ◌≤◌, ◌<◌, ◌+◌, ◌-◌, ◌^◌, ℕ, true, All, length, take, is_some, List, Some, OnOk};
+ghost use Rattle.std.specs.Prelude.{◌≡◌, ◌≤◌, ◌<◌, ◌+◌, ◌-◌, ◌^◌, ℕ, true, All, length, take, is_some, List, Some, OnErr, OnOk};
+ghost use Rattle.esdk_base.specs.Streams.{ShelfState};
 ghost use Rattle.job_file.specs.JobFile.{IsWork};
 ghost use Rattle.desk_core.specs.Desk.{DeskValue};
 ghost use Rattle.desk_core.specs.Stands.{IsWorth, Stands, manager_of, journal_of, last_of};
@@ -13,6 +14,8 @@ ghost use Rattle.esdk_batch.specs.Managing.{ManagerWent, SaysWithin};
 ghost use Rattle.esdk_batch.specs.Moments.{ReadsClock};
 ghost use Rattle.esdk_batch.specs.Progress.{IsFirstRunning, all_turns_left, is_ended};
 ghost use Rattle.esdk_batch.specs.Rounds.{FilesAreApart, AreReady, Beginning, HaveBegun, IsOpened, Stand, all_waits};
+ghost use Rattle.esdk_batch.specs.ShelfCalls.{CallsAtMost, JobsCall};
+ghost use Rattle.esdk_batch.specs.Watching.{IsFrom, Watch, files_by};
 
 use crate::progress::{Progress, first_running};
 use crate::turns::take_turn;
@@ -45,21 +48,30 @@ pub(crate) fn run_rounds<M: Manager, F: Shelf, W: Entropy, C: Clock>(
     requires opened { IsOpened width progress.old }
     requires still { Went (M.state (manager_of desk.old)) (M.state (manager_of desk.old)) }
     ensures ended { OnOk result (All (λ one. is_ended one ≡ true) progress.new) }
-    ensures stand { (start last : M) (began : Beginning) (v : DeskValue)
+    ensures stand { (by : Watch) (start last : M) (began : Beginning) (v : DeskValue)
+        → IsFrom by (F.state shelf.old)
         → SaysWithin M.state start last desk.old desk.new
         → Stands desk.old v
         → Stand (said_between (M.state start) (M.state last))
-        jobs.now width began (F.state shelf.old).files (W.state entropy.old) v progress.old
+        jobs.now width began (files_by by (F.state shelf.old)) (W.state entropy.old)
+        v progress.old
         → OnOk result ((w : DeskValue) × Stands desk.new w
         × Stand (said_between (M.state start) (M.state last))
-        jobs.now width began (F.state shelf.new).files (W.state entropy.new) w progress.new) }
+        jobs.now width began (files_by by (F.state shelf.new)) (W.state entropy.new)
+        w progress.new) }
     ensures sessions { (last : ℕ) → last ≤ last_of desk.old → All (IsBeyond last) progress.old
         → KeepsSessions last (all_waits progress.old) desk.old desk.new }
     ensures went { ManagerWent M.state desk.old desk.new }
-    ensures moments { ReadsClock (C.moments clock.old) (C.moments clock.new)
+    ensures moments { ReadsClock (C.state clock.old) (C.state clock.new)
         (journal_of desk.old) (journal_of desk.new) }
     ensures others { OnlyWritten jobs.now (F.state shelf.old).files (F.state shelf.new).files }
     ensures told { is_some (F.state shelf.new).files ≡ is_some (F.state shelf.old).files }
+    ensures calls { (began : ShelfState)
+        → JobsCall jobs.now began (F.state shelf.old) progress.old
+        → OnOk result (JobsCall jobs.now began (F.state shelf.new) progress.new) }
+    ensures broken { (began : ShelfState)
+        → JobsCall jobs.now began (F.state shelf.old) progress.old
+        → OnErr result (CallsAtMost jobs.now began (F.state shelf.new)) }
     ensures counts { (began : Tally)
         → AllCounted jobs.now began (tally_of (F.state shelf.old) (W.state entropy.old).faults
         (M.state (manager_of desk.old)).meaning.faults) progress.old
@@ -104,22 +116,31 @@ fn run_round<M: Manager, F: Shelf, W: Entropy, C: Clock>(
     requires ready { AreReady desk.old jobs.now progress.old }
     requires opened { IsOpened width progress.old }
     requires still { Went (M.state (manager_of desk.old)) (M.state (manager_of desk.old)) }
-    ensures stand { (start last : M) (began : Beginning) (v : DeskValue)
+    ensures stand { (by : Watch) (start last : M) (began : Beginning) (v : DeskValue)
+        → IsFrom by (F.state shelf.old)
         → SaysWithin M.state start last desk.old desk.new
         → Stands desk.old v
         → Stand (said_between (M.state start) (M.state last))
-        jobs.now width began (F.state shelf.old).files (W.state entropy.old) v progress.old
+        jobs.now width began (files_by by (F.state shelf.old)) (W.state entropy.old)
+        v progress.old
         → OnOk result ((w : DeskValue) × Stands desk.new w
         × Stand (said_between (M.state start) (M.state last))
-        jobs.now width began (F.state shelf.new).files (W.state entropy.new) w progress.new) }
+        jobs.now width began (files_by by (F.state shelf.new)) (W.state entropy.new)
+        w progress.new) }
     ensures sessions { (last : ℕ) → last ≤ last_of desk.old → All (IsBeyond last) progress.old
         → KeepsSessions last (all_waits progress.old) desk.old desk.new }
     ensures beyond { (last : ℕ) → last ≤ last_of desk.old → All (IsBeyond last) progress.old
         → OnOk result (All (IsBeyond last) progress.new) }
-    ensures moments { ReadsClock (C.moments clock.old) (C.moments clock.new)
+    ensures moments { ReadsClock (C.state clock.old) (C.state clock.new)
         (journal_of desk.old) (journal_of desk.new) }
     ensures others { OnlyWritten jobs.now (F.state shelf.old).files (F.state shelf.new).files }
     ensures told { is_some (F.state shelf.new).files ≡ is_some (F.state shelf.old).files }
+    ensures calls { (began : ShelfState)
+        → JobsCall jobs.now began (F.state shelf.old) progress.old
+        → OnOk result (JobsCall jobs.now began (F.state shelf.new) progress.new) }
+    ensures broken { (began : ShelfState)
+        → JobsCall jobs.now began (F.state shelf.old) progress.old
+        → OnErr result (CallsAtMost jobs.now began (F.state shelf.new)) }
     ensures counts { (began : Tally)
         → AllCounted jobs.now began (tally_of (F.state shelf.old) (W.state entropy.old).faults
         (M.state (manager_of desk.old)).meaning.faults) progress.old
@@ -129,6 +150,8 @@ fn run_round<M: Manager, F: Shelf, W: Entropy, C: Clock>(
     ensures worth { IsWorth desk.new }
     ensures past { OnOk result (All (λ one. is_ended one ≡ true) (take first progress.new)) }
     ensures ready { OnOk result (AreReady desk.new jobs.now progress.new) }
+    ensures known { OnOk result ((by : Watch) → IsFrom by (F.state shelf.old)
+        → IsFrom by (F.state shelf.new)) }
     ensures opened { OnOk result (HaveBegun width progress.new) }
     ensures room { OnOk result
         (last_of desk.new + all_waits progress.new ≤ last_of desk.old + all_waits progress.old) }

@@ -1,6 +1,6 @@
 //! One turn of a job.
 
-ghost use Rattle.std.specs.Prelude.{◌≡◌, ◌≤◌, ◌<◌, ◌+◌, ◌-◌, ◌^◌, ℕ, true, false, length, List, IfOk, OnOk};
+ghost use Rattle.std.specs.Prelude.{◌≡◌, ◌≤◌, ◌<◌, ◌+◌, ◌-◌, ◌^◌, ℕ, true, false, length, List, IfOk, OnErr, OnOk};
 ghost use Rattle.job_file.specs.JobFile.{IsWork};
 ghost use Rattle.desk_core.specs.Desk.{DeskValue};
 ghost use Rattle.desk_core.specs.Stands.{IsWorth, Stands, manager_of, journal_of, last_of};
@@ -14,6 +14,8 @@ ghost use Rattle.esdk_batch.specs.Underway.{FurtherTurn, HasSession, IsLiveAt, I
 ghost use Rattle.esdk_batch.specs.Failures.{HasFile, TurnCounts, tally_of};
 ghost use Rattle.esdk_batch.specs.Files.{KeepsOthers, most_input};
 ghost use Rattle.esdk_batch.specs.Moments.{GainsAt, TakesMoment};
+ghost use Rattle.esdk_batch.specs.ShelfCalls.{HasCalls, IsOfTurn, TurnCalls};
+ghost use Rattle.esdk_batch.specs.Watching.{IsFrom, Watch, files_by};
 ghost use Rattle.esdk_batch.specs.declared.progress.Progress.TheVariants as stages;
 
 use crate::feeding::{end_session, feed_piece};
@@ -48,12 +50,14 @@ pub(crate) fn take_turn<M: Manager, F: Shelf, W: Entropy, C: Clock>(
     requires room { last_of desk.old + waits progress.old ≤ 2 ^ 64 - 1 }
     requires ready { IsReady desk.old progress.old }
     requires still { Went (M.state (manager_of desk.old)) (M.state (manager_of desk.old)) }
-    ensures turn { (first last : M) (v : DeskValue)
+    ensures turn { (by : Watch) (first last : M) (v : DeskValue)
+        → IsFrom by (F.state shelf.old)
         → SaysWithin M.state first last desk.old desk.new
         → Stands desk.old v → HasSession v.live progress.old
         → OnOk result ((w : DeskValue) × Stands desk.new w × TakesTurn
         (said_between (M.state first) (M.state last))
-        job.now progress.old progress.new v w (F.state shelf.old).files (F.state shelf.new).files
+        job.now progress.old progress.new v w
+        (files_by by (F.state shelf.old)) (files_by by (F.state shelf.new))
         (W.state entropy.old) (W.state entropy.new)) }
     ensures numbers { OnOk result
         (DrawsNumber progress.old progress.new (last_of desk.old) (last_of desk.new)) }
@@ -66,9 +70,13 @@ pub(crate) fn take_turn<M: Manager, F: Shelf, W: Entropy, C: Clock>(
         × AddsLines job.now progress.old progress.new v w) }
     ensures kind { OnOk result
         (HasKind job.now.work progress.old → HasKind job.now.work progress.new) }
-    ensures moment { is_ended progress.old ≡ false → TakesMoment (C.moments clock.old)
-        (C.moments clock.new) (journal_of desk.old) (journal_of desk.new) }
+    ensures moment { is_ended progress.old ≡ false → TakesMoment (C.state clock.old)
+        (C.state clock.new) (journal_of desk.old) (journal_of desk.new) }
     ensures kept { KeepsOthers (F.state shelf.old).files (F.state shelf.new).files job.now.to }
+    ensures calls { is_ended progress.old ≡ false → OnOk result
+        (TurnCalls job.now progress.new (F.state shelf.old) (F.state shelf.new)) }
+    ensures broken { is_ended progress.old ≡ false → OnErr result
+        (HasCalls (IsOfTurn job.now) (F.state shelf.old) (F.state shelf.new)) }
     ensures counts { is_ended progress.old ≡ false
         → HasFile (F.state shelf.old).files job.now progress.old
         → OnOk result (TurnCounts job.now progress.new
@@ -111,12 +119,13 @@ fn go_on<M: Manager, F: Shelf>(
     requires ready { IsLiveAt desk.old live.session }
     requires low { live.at ≤ most_input }
     requires still { Went (M.state (manager_of desk.old)) (M.state (manager_of desk.old)) }
-    ensures turn { (first last : M) (v : DeskValue)
+    ensures turn { (by : Watch) (first last : M) (v : DeskValue)
+        → IsFrom by (F.state shelf.old)
         → SaysWithin M.state first last desk.old desk.new
         → Stands desk.old v → HasSession v.live (stages.Live live)
         → IfOk result (λ next. (w : DeskValue) × Stands desk.new w × FurtherTurn
         (said_between (M.state first) (M.state last))
-        job.now live next v w (F.state shelf.old).files (F.state shelf.new).files) }
+        job.now live next v w (files_by by (F.state shelf.old)) (files_by by (F.state shelf.new))) }
     ensures numbers { IfOk result
         (λ next. DrawsNumber (stages.Live live) next (last_of desk.old) (last_of desk.new)) }
     ensures sessions { (last : ℕ) → last < live.session → KeepsSessions last 0 desk.old desk.new }
@@ -127,6 +136,7 @@ fn go_on<M: Manager, F: Shelf>(
     ensures kind { IfOk result (λ next. HasKind job.now.work next) }
     ensures moment { GainsAt now (journal_of desk.old) (journal_of desk.new) }
     ensures kept { KeepsOthers (F.state shelf.old).files (F.state shelf.new).files job.now.to }
+    ensures calls { HasCalls (IsOfTurn job.now) (F.state shelf.old) (F.state shelf.new) }
     ensures counts { (entropy : ℕ) → HasFile (F.state shelf.old).files job.now (stages.Live live)
         → IfOk result (λ next. TurnCounts job.now next
         (tally_of (F.state shelf.old) entropy (M.state (manager_of desk.old)).meaning.faults)

@@ -1,5 +1,5 @@
 -- No job had a turn yet; and all ended.
-use Rattle.std.proofs.Common.{◌≡◌, length, arith, ap, refl, sym, subst, ◌∙◌}
+use Rattle.std.proofs.Common.{◌≡◌, ◌≤◌, length, arith, ap, refl, sym, subst, ◌∙◌}
 use Rattle.std.specs.Prelude.{All}
 use Rattle.std.proofs.lemmas.List.{with_items_is}
 use Rattle.std.proofs.lemmas.Result.{IfOk-weaker}
@@ -7,12 +7,14 @@ use Rattle.desk_core.specs.Stands.{last_of, manager_of}
 use Rattle.esdk_batch.specs.declared.progress.Progress.TheVariants.{Waiting}
 use Rattle.esdk_batch.specs.Rounds.{Beginning, all_waits}
 use Rattle.esdk_batch.specs.Failures.{Tally, tally_of}
+use Rattle.esdk_batch.specs.Watching.{IsFrom, as_shown, as_told, files_by}
 use Rattle.esdk_batch.proofs.AllCounting.{counted_all, counted_none}
 use Rattle.esdk_batch.proofs.Beginnings.{count_waits, stand_begins}
 use Rattle.esdk_batch.proofs.Beside.{rest_ended}
-use Rattle.esdk_batch.proofs.Conclusion.{batch_ends_at, begun_as, counted_as, on_ok}
+use Rattle.esdk_batch.proofs.Conclusion.{batch_ends_at, begun_as, counted_as, on_ok, shown_batch}
 use Rattle.esdk_batch.proofs.Keeping.{beyond_waiting, keeps_drawn_before}
 use Rattle.esdk_batch.proofs.Managers.{admits_between}
+use Rattle.esdk_batch.proofs.ShelfCalls.{jobs_at_most, jobs_finished, jobs_none, most_never, most_since}
 use Rattle.esdk_batch.proofs.batch.run_batch.Goals as goal
 
 pub run_rounds-requires-clause-room : goal.run_rounds-requires-clause-room
@@ -29,7 +31,7 @@ returns-clause-runs g c = λ v stands.
     let new = c.run_rounds.new.progress in
     let wait = subst (All (λ one. one ≡ Waiting)) (sym c.deref_mut.ensures.value) c.in_ok-progress.ensures.waiting in
     let began : Beginning = record { live = v.live; files = shelf.files; entropy = g.W.Entropy.state c.args.entropy.now; journal = v.journal; last = v.last } in
-    let (w, then, stand) = c.in_ok-run_rounds.ensures.stand (manager_of c.args.desk.now) (manager_of c.run_rounds.new.desk) began v (admits_between _ _) stands
+    let (w, then, stand) = c.in_ok-run_rounds.ensures.stand as_told (manager_of c.args.desk.now) (manager_of c.run_rounds.new.desk) began v tt (admits_between _ _) stands
     (stand_begins _ c.jobs-3.result.now c.width.result began.files began.entropy v old wait) in
     let made = c.in_ok-progress.progress in
     let kept : length new ≡ length old = c.run_rounds.auto.progress in
@@ -39,10 +41,35 @@ returns-clause-runs g c = λ v stands.
     let again : c.jobs-3.result.now ≡ c.args.jobs.now.jobs = c.jobs-3.ensures.jobs in
     let items = with_items_is made new (omega (arith, kept, as_made, made.ok.0)) in
     IfOk-weaker c.report_of.result _ _
-    (λ lines ended. begun_as _ c.args.jobs.now v.last _ shelf _ _ _ _ _ lines c.announce.ensures
-    (batch_ends_at _ c.args.jobs.now v w shelf _ _ _ _ _ lines c.jobs-3.result.now c.width.result new again c.width.ensures.width (sym items ∙ ended)
+    (λ lines ended. begun_as _ c.args.jobs.now v.last as_told _ shelf _ _ _ _ _ lines c.announce.ensures
+    (batch_ends_at _ c.args.jobs.now v w shelf.files _ _ _ _ _ lines c.jobs-3.result.now c.width.result new again c.width.ensures.width (sym items ∙ ended)
     (omega (arith, kept, as_made, count, ap length jobs, ap length again))
     stands.journal then.journal stand)) c.report_of.ensures
+
+pub returns-clause-shown : goal.returns-clause-shown
+returns-clause-shown g c = λ before v stands.
+    let by = as_shown (length (g.F.Shelf.state c.args.shelf.now).calls) before in
+    let from : length (g.F.Shelf.state c.args.shelf.now).calls ≤ length (g.F.Shelf.state c.args.shelf.now).calls = omega arith in
+    let shelf = g.F.Shelf.state c.announce.new.shelf in
+    let old = c.deref_mut.result.now in
+    let new = c.run_rounds.new.progress in
+    let wait = subst (All (λ one. one ≡ Waiting)) (sym c.deref_mut.ensures.value) c.in_ok-progress.ensures.waiting in
+    let began : Beginning = record { live = v.live; files = files_by by shelf; entropy = g.W.Entropy.state c.args.entropy.now; journal = v.journal; last = v.last } in
+    let (w, then, stand) = c.in_ok-run_rounds.ensures.stand by (manager_of c.args.desk.now) (manager_of c.run_rounds.new.desk) began v (subst (IsFrom by) (sym c.announce.ensures) from) (admits_between _ _) stands
+    (stand_begins _ c.jobs-3.result.now c.width.result began.files began.entropy v old wait) in
+    let made = c.in_ok-progress.progress in
+    let kept : length new ≡ length old = c.run_rounds.auto.progress in
+    let as_made : length old ≡ length made.items = ap length c.deref_mut.ensures.value in
+    let count : length made.items ≡ length c.jobs-2.result.now = c.in_ok-progress.ensures.count in
+    let jobs : c.jobs-2.result.now ≡ c.args.jobs.now.jobs = c.jobs-2.ensures.jobs in
+    let again : c.jobs-3.result.now ≡ c.args.jobs.now.jobs = c.jobs-3.ensures.jobs in
+    let items = with_items_is made new (omega (arith, kept, as_made, made.ok.0)) in
+    IfOk-weaker c.report_of.result _ _
+    (λ lines ended. shown_batch _ c.args.jobs.now v.last before (g.F.Shelf.state c.args.shelf.now) (g.F.Shelf.state c.run_rounds.new.shelf) _ _ _ _ lines
+    (begun_as _ c.args.jobs.now v.last by _ shelf _ _ _ _ _ lines c.announce.ensures
+    (batch_ends_at _ c.args.jobs.now v w (files_by by shelf) _ _ _ _ _ lines c.jobs-3.result.now c.width.result new again c.width.ensures.width (sym items ∙ ended)
+    (omega (arith, kept, as_made, count, ap length jobs, ap length again))
+    stands.journal then.journal stand))) c.report_of.ensures
 
 pub returns-clause-sessions : goal.returns-clause-sessions
 returns-clause-sessions g c = λ v stands.
@@ -50,7 +77,7 @@ returns-clause-sessions g c = λ v stands.
     let old = c.deref_mut.result.now in
     let wait = subst (All (λ one. one ≡ Waiting)) (sym c.deref_mut.ensures.value) c.in_ok-progress.ensures.waiting in
     let began : Beginning = record { live = v.live; files = shelf.files; entropy = g.W.Entropy.state c.args.entropy.now; journal = v.journal; last = v.last } in
-    let (w, then, stand) = c.in_ok-run_rounds.ensures.stand (manager_of c.args.desk.now) (manager_of c.run_rounds.new.desk) began v (admits_between _ _) stands
+    let (w, then, stand) = c.in_ok-run_rounds.ensures.stand as_told (manager_of c.args.desk.now) (manager_of c.run_rounds.new.desk) began v tt (admits_between _ _) stands
     (stand_begins _ c.jobs-3.result.now c.width.result began.files began.entropy v old wait) in
     on_ok c.report_of.result (w, then, λ session. sym (rest_ended c.run_rounds.new.progress w.live c.in_ok-run_rounds.ensures.ended session) ∙ stand.rest session)
 
@@ -110,3 +137,52 @@ returns-in_err-run_rounds-clause-numbers g c =
     let jobs : c.jobs-2.result.now ≡ c.args.jobs.now.jobs = c.jobs-2.ensures.jobs in
     let count : length progress ≡ length c.jobs-2.result.now = c.in_ok-progress.ensures.count in
     omega (arith, kept.few, ap all_waits c.deref_mut.ensures.value, count_waits progress c.in_ok-progress.ensures.waiting, count, ap length jobs)
+
+-- ---- the calls of the shelf
+
+pub returns-clause-finished : goal.returns-clause-finished
+returns-clause-finished g c =
+    let old = c.deref_mut.result.now in
+    let new = c.run_rounds.new.progress in
+    let wait = subst (All (λ one. one ≡ Waiting)) (sym c.deref_mut.ensures.value) c.in_ok-progress.ensures.waiting in
+    let made = c.in_ok-progress.progress in
+    let kept : length new ≡ length old = c.run_rounds.auto.progress in
+    let as_made : length old ≡ length made.items = ap length c.deref_mut.ensures.value in
+    let count : length made.items ≡ length c.jobs-2.result.now = c.in_ok-progress.ensures.count in
+    let jobs : c.jobs-2.result.now ≡ c.args.jobs.now.jobs = c.jobs-2.ensures.jobs in
+    let again : c.jobs-3.result.now ≡ c.args.jobs.now.jobs = c.jobs-3.ensures.jobs in
+    let items = with_items_is made new (omega (arith, kept, as_made, made.ok.0)) in
+    let began = g.F.Shelf.state c.announce.new.shelf in
+    IfOk-weaker c.report_of.result _ _
+    (λ lines ended. jobs_finished c.jobs-3.result.now c.args.jobs.now.jobs _ began _ new lines again c.announce.ensures (omega (arith, kept, as_made, count, ap length jobs, ap length again))
+    (c.in_ok-run_rounds.ensures.calls began (jobs_none c.jobs-3.result.now began old wait)) (sym items ∙ ended)) c.report_of.ensures
+
+pub returns-clause-calls : goal.returns-clause-calls
+returns-clause-calls g c =
+    let old = c.deref_mut.result.now in
+    let new = c.run_rounds.new.progress in
+    let wait = subst (All (λ one. one ≡ Waiting)) (sym c.deref_mut.ensures.value) c.in_ok-progress.ensures.waiting in
+    let kept : length new ≡ length old = c.run_rounds.auto.progress in
+    let as_made : length old ≡ length c.in_ok-progress.progress.items = ap length c.deref_mut.ensures.value in
+    let count : length c.in_ok-progress.progress.items ≡ length c.jobs-2.result.now = c.in_ok-progress.ensures.count in
+    let jobs : c.jobs-2.result.now ≡ c.args.jobs.now.jobs = c.jobs-2.ensures.jobs in
+    let again : c.jobs-3.result.now ≡ c.args.jobs.now.jobs = c.jobs-3.ensures.jobs in
+    let began = g.F.Shelf.state c.announce.new.shelf in
+    most_since c.jobs-3.result.now c.args.jobs.now.jobs _ began _ again c.announce.ensures
+    (jobs_at_most c.jobs-3.result.now began _ new (omega (arith, kept, as_made, count, ap length jobs, ap length again)) (c.in_ok-run_rounds.ensures.calls began (jobs_none c.jobs-3.result.now began old wait)))
+
+pub returns-in_err-run_rounds-clause-calls : goal.returns-in_err-run_rounds-clause-calls
+returns-in_err-run_rounds-clause-calls g c =
+    let wait = subst (All (λ one. one ≡ Waiting)) (sym c.deref_mut.ensures.value) c.in_ok-progress.ensures.waiting in
+    let began = g.F.Shelf.state c.announce.new.shelf in
+    most_since c.jobs-3.result.now c.args.jobs.now.jobs _ began _ c.jobs-3.ensures.jobs c.announce.ensures
+    (c.in_err-run_rounds.ensures.broken began (jobs_none c.jobs-3.result.now began c.deref_mut.result.now wait))
+
+pub returns-in_err-announce-clause-calls : goal.returns-in_err-announce-clause-calls
+returns-in_err-announce-clause-calls g c = most_never c.args.jobs.now.jobs _ _ c.announce.ensures
+
+pub returns-in_err-buffer-clause-calls : goal.returns-in_err-buffer-clause-calls
+returns-in_err-buffer-clause-calls g c = most_never c.args.jobs.now.jobs _ _ c.announce.ensures
+
+pub returns-in_err-progress-clause-calls : goal.returns-in_err-progress-clause-calls
+returns-in_err-progress-clause-calls g c = most_never c.args.jobs.now.jobs _ _ c.announce.ensures

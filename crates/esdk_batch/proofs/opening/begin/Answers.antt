@@ -11,20 +11,20 @@ use Rattle.esdk_batch.proofs.TurnCounting.{ended_counts, live_counts}
 use Rattle.esdk_batch.proofs.opening.begin.Goals as goal
 
 pub returns-in-Ok-clause-begins : goal.returns-in-Ok-clause-begins
-returns-in-Ok-clause-begins g c = λ v s stands live.
-    (v, stands, file_begun c.args.session c.args.kind c.args.served s v _ _ c.args.to.now live (c.in-Ok.ensures.makes v s stands live))
+returns-in-Ok-clause-begins g c = λ by v s from stands live.
+    (v, stands, file_begun c.args.session c.args.kind c.args.served s v _ _ c.args.to.now live (c.in-Ok.ensures.makes by v s from stands live))
 
 pub returns-in-Err-clause-begins : goal.returns-in-Err-clause-begins
-returns-in-Err-clause-begins g c = λ v s stands live. (
+returns-in-Err-clause-begins g c = λ by v s from stands live. (
   after_call v c.args.session false DropSession,
   c.drop_session-dropped.ensures.stands v stands,
-  file_failed c.args.session c.args.kind c.args.served s v _ _ c.args.to.now _ c.ended_job.ensures live (c.in-Err.ensures.makes v s stands live),
+  file_failed c.args.session c.args.kind c.args.served s v _ _ c.args.to.now _ c.ended_job.ensures live (c.in-Err.ensures.makes by v s from stands live),
 )
 
 pub returns-in-Ok-clause-counts : goal.returns-in-Ok-clause-counts
 returns-in-Ok-clause-counts g c = λ job entropy keyring to.
     live_counts job _ _ _ (record { session = c.args.session; at = 0; served = c.args.served }) refl
-    (subst (λ (n : List ℕ). is_missing (g.F.Shelf.state c.make_file.new.shelf).files n ≡ false) (sym to) c.in-Ok.ensures.there) (omega arith) (omega arith) c.in-Ok.ensures.later
+    (subst (λ (n : List ℕ). is_missing (g.F.Shelf.state c.make_file.new.shelf).files n ≡ false) (sym to) c.in-Ok.ensures.there) (omega arith) (omega arith) c.in-Ok.ensures.calls.later
 
 pub returns-in-Err-clause-counts : goal.returns-in-Err-clause-counts
 returns-in-Err-clause-counts g c = λ job entropy keyring to.

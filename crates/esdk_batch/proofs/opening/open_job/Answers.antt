@@ -4,7 +4,10 @@ use Rattle.std.proofs.lemmas.Result.{IfOk-weaker}
 use Rattle.desk_core.specs.Stands.{manager_of}
 use Rattle.job_file.specs.JobFile.{IsWork}
 use Rattle.job_file.specs.declared.job.Work.{Work}
+use Rattle.esdk_batch.specs.FileEndLaws.{calls_none}
 use Rattle.esdk_batch.specs.SealStory.{SealAsked}
+use Rattle.esdk_batch.specs.ShelfCalls.{IsOfTurn}
+use Rattle.esdk_batch.proofs.ShelfCalls.{writes_turn}
 use Rattle.esdk_batch.proofs.TurnCounting.{counts_from}
 use Rattle.esdk_batch.proofs.Wishes.{asks_as, none_absent}
 use Rattle.esdk_batch.proofs.opening.open_job.Goals as goal
@@ -15,10 +18,10 @@ wish_of-requires g c =
     none_absent c.in-Encrypt.context c.in-Encrypt.required work.2
 
 pub returns-in_ok-wish-in-Encrypt-clause-turn : goal.returns-in_ok-wish-in-Encrypt-clause-turn
-returns-in_ok-wish-in-Encrypt-clause-turn g c = λ first last v admits stands.
+returns-in_ok-wish-in-Encrypt-clause-turn g c = λ by first last v from admits stands.
     let asked : SealAsked = record { declared = c.in-Encrypt.length; frame = c.in-Encrypt.frame; context = c.in-Encrypt.context; required = c.in-Encrypt.required } in
     let request = asks_as asked c.in_ok-wish-in-Encrypt.wish c.new-request.result c.new-request.ensures c.in_ok-wish-in-Encrypt.ensures in
-    c.open_sealing.ensures.turn first last c.args.job.now asked v admits c.in-Encrypt.is (sym c.as_str-to.ensures.text) request stands
+    c.open_sealing.ensures.turn by first last c.args.job.now asked v from admits c.in-Encrypt.is (sym c.as_str-to.ensures.text) request stands
 
 pub returns-in_ok-wish-in-Encrypt-clause-lines : goal.returns-in_ok-wish-in-Encrypt-clause-lines
 returns-in_ok-wish-in-Encrypt-clause-lines g c = λ v stands.
@@ -27,8 +30,8 @@ returns-in_ok-wish-in-Encrypt-clause-lines g c = λ v stands.
     c.open_sealing.ensures.lines c.args.job.now asked v c.in-Encrypt.is request stands
 
 pub returns-in-Decrypt-clause-turn : goal.returns-in-Decrypt-clause-turn
-returns-in-Decrypt-clause-turn g c = λ first last v admits stands.
-    c.open_opening.ensures.turn first last c.args.job.now c.in-Decrypt.required v (g.W.Entropy.state c.args.entropy.now) c.in-Decrypt.is (sym c.as_str-to.ensures.text) stands
+returns-in-Decrypt-clause-turn g c = λ by first last v from admits stands.
+    c.open_opening.ensures.turn by first last c.args.job.now c.in-Decrypt.required v (g.W.Entropy.state c.args.entropy.now) from c.in-Decrypt.is (sym c.as_str-to.ensures.text) stands
 
 pub returns-in-Decrypt-clause-lines : goal.returns-in-Decrypt-clause-lines
 returns-in-Decrypt-clause-lines g c = λ v stands. c.open_opening.ensures.lines c.args.job.now c.in-Decrypt.required v c.in-Decrypt.is stands
@@ -42,3 +45,14 @@ returns-in-Decrypt-clause-counts g c =
     IfOk-weaker c.open_opening.result _ _
     (λ next counts. counts_from c.args.job.now next _ _ _ refl (omega arith) (omega (arith, ap (λ m. (g.M.Manager.state m).meaning.faults) c.open_opening.ensures.manager)) refl counts)
     (c.open_opening.ensures.counts c.args.job.now (g.W.Entropy.state c.args.entropy.now).faults keyring (sym c.as_str-to.ensures.text))
+
+-- ---- the calls of the shelf
+
+pub returns-in_err-wish-in-Encrypt-clause-calls : goal.returns-in_err-wish-in-Encrypt-clause-calls
+returns-in_err-wish-in-Encrypt-clause-calls g c = calls_none (IsOfTurn c.args.job.now) _
+
+pub returns-in_ok-wish-in-Encrypt-clause-calls : goal.returns-in_ok-wish-in-Encrypt-clause-calls
+returns-in_ok-wish-in-Encrypt-clause-calls g c = writes_turn c.args.job.now c.as_str-to.result.now _ _ c.as_str-to.ensures.text c.open_sealing.ensures.calls
+
+pub returns-in-Decrypt-clause-calls : goal.returns-in-Decrypt-clause-calls
+returns-in-Decrypt-clause-calls g c = writes_turn c.args.job.now c.as_str-to.result.now _ _ c.as_str-to.ensures.text c.open_opening.ensures.calls

@@ -3,6 +3,9 @@ use Rattle.std.proofs.Common.{◌+◌, ℕ, [], None, Ok, refl, arith}
 use Rattle.keyring_trait.specs.declared.journal.Kind.TheVariants.{Unseal}
 use Rattle.desk_core.specs.Session.{Opening, Turn, open_opened}
 use Rattle.desk_core.specs.Desk.{DeskValue, after_turn, drawn}
+use Rattle.esdk_batch.specs.FileEndLaws.{calls_none}
+use Rattle.esdk_batch.specs.ShelfCalls.{IsWrite}
+use Rattle.esdk_batch.specs.Watching.{as_told}
 use Rattle.esdk_batch.proofs.Counting.{rose_zero}
 use Rattle.esdk_batch.proofs.Faulting.{open_soundly, sound_end}
 use Rattle.esdk_batch.proofs.FirstLines.{number_drawn, open_begun_adds}
@@ -26,12 +29,12 @@ begin-requires g c =
     )
 
 pub returns-in-Ok-clause-turn : goal.returns-in-Ok-clause-turn
-returns-in-Ok-clause-turn g c = λ first last job required v entropy work to stands.
+returns-in-Ok-clause-turn g c = λ by first last job required v entropy from work to stands.
     let opens = c.in-Ok.ensures.opens v stands in
     let begun = has_begun c.none.result c.in_ok-copy.field-0 c.args.given.now opens.short (v.last + 1) c.in-Ok.session c.none.ensures c.in_ok-copy.ensures opens.answer in
     let turn : Turn ℕ = open_opened c.none.result c.in_ok-copy.field-0 opens.short (v.last + 1) in
     let u : DeskValue = after_turn (drawn v) (v.last + 1) [] turn in
-    let file = c.begin.ensures.begins u (Opening (opening_of c.args.given.now)) opens.stands (opening_live v c.args.given.now turn c.in-Ok.session begun) in (
+    let file = c.begin.ensures.begins by u (Opening (opening_of c.args.given.now)) from opens.stands (opening_live v c.args.given.now turn c.in-Ok.session begun) in (
       file.0,
       file.1,
       open_begins_at _ job c.args.given.now required v u file.0 [] _ _ entropy c.in-Ok.session c.args.to.now c.begin.result work to (draws_next v [] turn) begun.same
@@ -46,7 +49,7 @@ returns-in-Ok-clause-numbers g c =
     let begun = has_begun c.none.result c.in_ok-copy.field-0 c.args.given.now opens.short (v.last + 1) c.in-Ok.session c.none.ensures c.in_ok-copy.ensures opens.answer in
     let turn : Turn ℕ = open_opened c.none.result c.in_ok-copy.field-0 opens.short (v.last + 1) in
     let u : DeskValue = after_turn (drawn v) (v.last + 1) [] turn in
-    let file = c.begin.ensures.begins u (Opening (opening_of c.args.given.now)) opens.stands (opening_live v c.args.given.now turn c.in-Ok.session begun) in
+    let file = c.begin.ensures.begins as_told u (Opening (opening_of c.args.given.now)) tt opens.stands (opening_live v c.args.given.now turn c.in-Ok.session begun) in
     number_drawn c.args.desk.now c.open_open.new.self c.begin.new.desk c.in-Ok.session Unseal None (Opening (opening_of c.args.given.now)) v u file.0 _ _ c.args.to.now c.begin.result stands file.2
     begun.same c.in-Ok.ensures.last c.begin.ensures.last
 
@@ -56,7 +59,7 @@ returns-in-Ok-clause-lines g c = λ job required v work stands.
     let begun = has_begun c.none.result c.in_ok-copy.field-0 c.args.given.now opens.short (v.last + 1) c.in-Ok.session c.none.ensures c.in_ok-copy.ensures opens.answer in
     let turn : Turn ℕ = open_opened c.none.result c.in_ok-copy.field-0 opens.short (v.last + 1) in
     let u : DeskValue = after_turn (drawn v) (v.last + 1) [] turn in
-    let file = c.begin.ensures.begins u (Opening (opening_of c.args.given.now)) opens.stands (opening_live v c.args.given.now turn c.in-Ok.session begun) in
+    let file = c.begin.ensures.begins as_told u (Opening (opening_of c.args.given.now)) tt opens.stands (opening_live v c.args.given.now turn c.in-Ok.session begun) in
     let draws = draws_on v u file.0 c.in-Ok.session [] (draws_next v [] turn) begun.same file.2.desk in
     (file.0, file.1, open_begun_adds job c.args.given.now required c.in-Ok.session (opening_of c.args.given.now) v u file.0 _ _ c.args.to.now c.begin.result work refl draws.journal file.2)
 
@@ -101,3 +104,14 @@ returns-in_err-end_of-in-Err-clause-sessions g c = λ last under.
     let o = c.in-Err.ensures.opens v stands in
     let turn : Turn ℕ = open_opened c.none.result c.in_ok-copy.field-0 o.short (v.last + 1) in
     (after_turn (drawn v) (v.last + 1) [] turn, o.stands, ([], draws_next v [] turn)))
+
+-- ---- the calls of the shelf
+
+pub returns-in_err-copy-clause-calls : goal.returns-in_err-copy-clause-calls
+returns-in_err-copy-clause-calls g c = calls_none (IsWrite c.args.to.now) _
+
+pub returns-in_ok-end_of-in-Err-clause-calls : goal.returns-in_ok-end_of-in-Err-clause-calls
+returns-in_ok-end_of-in-Err-clause-calls g c = calls_none (IsWrite c.args.to.now) _
+
+pub returns-in_err-end_of-in-Err-clause-calls : goal.returns-in_err-end_of-in-Err-clause-calls
+returns-in_err-end_of-in-Err-clause-calls g c = calls_none (IsWrite c.args.to.now) _

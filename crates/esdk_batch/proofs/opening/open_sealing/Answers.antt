@@ -9,7 +9,10 @@ use Rattle.desk_core.specs.Desk.{DeskValue, after_turn, drawn, lines_of, seal_li
 use Rattle.desk_core.specs.Stands.{manager_of}
 use Rattle.batch_report.specs.declared.job_lines.JobEnd.TheVariants as ends
 use Rattle.keyring_trait.specs.Saying.{Saying}
+use Rattle.esdk_batch.specs.FileEndLaws.{calls_none}
 use Rattle.esdk_batch.specs.Opening.{request_of}
+use Rattle.esdk_batch.specs.ShelfCalls.{IsWrite}
+use Rattle.esdk_batch.specs.Watching.{as_told}
 use Rattle.esdk_batch.proofs.Counting.{rose_none, rose_zero}
 use Rattle.esdk_batch.proofs.Faulting.{entropy_sound, keyring_counted, seal_rose, shelf_sound}
 use Rattle.esdk_batch.proofs.FirstLines.{number_drawn, seal_begun_adds, seal_ended_adds}
@@ -41,13 +44,13 @@ begin-requires g c =
 -- ---- the entropy failed
 
 pub returns-in_default-clause-turn : goal.returns-in_default-clause-turn
-returns-in_default-clause-turn g c = λ first last job asked v admits work to request stands.
-    (v, stands, draws_nothing _ job asked v _ _ _ c.ended_job.result work c.in_default.ensures.bytes c.ended_job.ensures)
+returns-in_default-clause-turn g c = λ by first last job asked v from admits work to request stands.
+    (v, stands, draws_nothing _ job asked v _ _ _ c.ended_job.result work c.in_default.ensures.bytes c.in_default.ensures.drawn c.ended_job.ensures)
 
 -- ---- a session began
 
 pub returns-in-Ok-opened-clause-turn : goal.returns-in-Ok-opened-clause-turn
-returns-in-Ok-opened-clause-turn g c = λ first last job asked v admits work to request stands.
+returns-in-Ok-opened-clause-turn g c = λ by first last job asked v from admits work to request stands.
     let manager : Saying = said g.M.Manager.state first last in
     let random : List ℕ = c.fill.new.out in
     let o = opened_so _ c.open_seal-opened.new.self asked c.args.request.now c.args.now random v _ c.served_since-served.result c.journal-lines.result.now request
@@ -61,13 +64,13 @@ returns-in-Ok-opened-clause-turn g c = λ first last job asked v admits work to 
     let lines : List JournalLine = lines_of (v.last + 1) Seal c.args.now asked.declared (served_by o.reply) in
     let turn : Turn ℕ = seal_opened (request_of asked) random o.reply o.short (v.last + 1) in
     let u : DeskValue = after_turn (drawn v) (v.last + 1) lines turn in
-    let file = c.begin.ensures.begins u (Sealing (sealing_of asked random b.materials)) o.stands (sealing_live v asked random o.reply o.short c.in-Ok-opened.session b) in
+    let file = c.begin.ensures.begins by u (Sealing (sealing_of asked random b.materials)) from o.stands (sealing_live v asked random o.reply o.short c.in-Ok-opened.session b) in
     let begun = is_begun manager asked c.args.request.now random o.reply o.short (v.last + 1) c.in-Ok-opened.session wraps c.served_since-served.result b request c.requires.some count within.wraps told
     o.serves in (
       file.0,
       file.1,
       seal_begins_at manager job asked v u file.0 lines _ _ _ _ random b.materials c.in-Ok-opened.session c.served_since-served.result c.args.to.now c.begin.result work to (draws_next v lines turn) b.same
-          (stands.undrawn (v.last + 1) (omega arith)) c.in-Ok.ensures.bytes begun file.2,
+          (stands.undrawn (v.last + 1) (omega arith)) (record { told = c.in-Ok.ensures.bytes; came = c.in-Ok.ensures.drawn }) begun file.2,
     )
 
 pub returns-in-Ok-opened-clause-numbers : goal.returns-in-Ok-opened-clause-numbers
@@ -77,7 +80,7 @@ returns-in-Ok-opened-clause-numbers g c =
     let lives = seal_lives c.args.request.now c.fill.new.out opens.reply opens.short (v.last + 1) c.in-Ok-opened.session opens.answer in
     let turn : Turn ℕ = seal_opened c.args.request.now c.fill.new.out opens.reply opens.short (v.last + 1) in
     let u : DeskValue = after_turn (drawn v) (v.last + 1) (lines_of (v.last + 1) Seal c.args.now c.args.request.now.wish.declared (served_by opens.reply)) turn in
-    let file = c.begin.ensures.begins u lives.left opens.stands (live_after v.live turn (v.last + 1) c.in-Ok-opened.session lives) in
+    let file = c.begin.ensures.begins as_told u lives.left tt opens.stands (live_after v.live turn (v.last + 1) c.in-Ok-opened.session lives) in
     number_drawn c.args.desk.now c.open_seal-opened.new.self c.begin.new.desk c.in-Ok-opened.session Seal c.served_since-served.result lives.left v u file.0 _ _ c.args.to.now c.begin.result
     c.requires.worth.1 file.2 lives.same c.in-Ok-opened.ensures.last c.begin.ensures.last
 
@@ -90,7 +93,7 @@ returns-in-Ok-opened-clause-lines g c = λ job asked v work request stands.
     let lines : List JournalLine = lines_of (v.last + 1) Seal c.args.now asked.declared (served_by o.reply) in
     let turn : Turn ℕ = seal_opened (request_of asked) random o.reply o.short (v.last + 1) in
     let u : DeskValue = after_turn (drawn v) (v.last + 1) lines turn in
-    let file = c.begin.ensures.begins u (Sealing (sealing_of asked random b.materials)) o.stands (sealing_live v asked random o.reply o.short c.in-Ok-opened.session b) in
+    let file = c.begin.ensures.begins as_told u (Sealing (sealing_of asked random b.materials)) tt o.stands (sealing_live v asked random o.reply o.short c.in-Ok-opened.session b) in
     let grown = draws_on v u file.0 c.in-Ok-opened.session lines (draws_next v lines turn) b.same file.2.desk in (
       file.0,
       file.1,
@@ -101,7 +104,7 @@ returns-in-Ok-opened-clause-lines g c = λ job asked v work request stands.
 -- ---- none began
 
 pub returns-in_ok-end_of-in-Err-clause-turn : goal.returns-in_ok-end_of-in-Err-clause-turn
-returns-in_ok-end_of-in-Err-clause-turn g c = λ first last job asked v admits work to request stands.
+returns-in_ok-end_of-in-Err-clause-turn g c = λ by first last job asked v from admits work to request stands.
     let manager : Saying = said g.M.Manager.state first last in
     let random : List ℕ = c.fill.new.out in
     let o = opened_so _ c.open_seal-opened.new.self asked c.args.request.now c.args.now random v _ c.served_since-served.result c.journal-lines.result.now request
@@ -115,7 +118,8 @@ returns-in_ok-end_of-in-Err-clause-turn g c = λ first last job asked v admits w
       o.stands,
       opens_none manager job asked v _ lines _ _ _ random o.reply o.short (v.last + 1) wraps c.in-Err.error c.in_ok-end_of-in-Err.field-0 c.served_since-served.result c.ended_job-in-Err.result work
           (draws_next v lines turn) (stands.undrawn (v.last + 1) (omega arith))
-          (update_here v.live (v.last + 1) turn.left ∙ seal_error_none (request_of asked) random o.reply o.short (v.last + 1) c.in-Err.error o.answer) c.in-Ok.ensures.bytes count admits.wraps told o.serves o.answer c.in_ok-end_of-in-Err.ensures c.ended_job-in-Err.ensures,
+          (update_here v.live (v.last + 1) turn.left ∙ seal_error_none (request_of asked) random o.reply o.short (v.last + 1) c.in-Err.error o.answer)
+          (record { told = c.in-Ok.ensures.bytes; came = c.in-Ok.ensures.drawn }) count admits.wraps told o.serves o.answer c.in_ok-end_of-in-Err.ensures c.ended_job-in-Err.ensures,
     )
 
 pub returns-in_ok-end_of-in-Err-clause-lines : goal.returns-in_ok-end_of-in-Err-clause-lines
@@ -209,3 +213,14 @@ returns-in_err-end_of-in-Err-clause-sessions g c = λ last under.
     let lines : List JournalLine = seal_lines (v.last + 1) c.args.now c.args.request.now o.reply in
     let turn : Turn ℕ = seal_opened c.args.request.now c.fill.new.out o.reply o.short (v.last + 1) in
     (after_turn (drawn v) (v.last + 1) lines turn, o.stands, (lines, draws_next v lines turn)))
+
+-- ---- the calls of the shelf
+
+pub returns-in_default-clause-calls : goal.returns-in_default-clause-calls
+returns-in_default-clause-calls g c = calls_none (IsWrite c.args.to.now) _
+
+pub returns-in_ok-end_of-in-Err-clause-calls : goal.returns-in_ok-end_of-in-Err-clause-calls
+returns-in_ok-end_of-in-Err-clause-calls g c = calls_none (IsWrite c.args.to.now) _
+
+pub returns-in_err-end_of-in-Err-clause-calls : goal.returns-in_err-end_of-in-Err-clause-calls
+returns-in_err-end_of-in-Err-clause-calls g c = calls_none (IsWrite c.args.to.now) _

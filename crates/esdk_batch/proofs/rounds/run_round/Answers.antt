@@ -1,20 +1,34 @@
 -- The job at the index has a turn, or it ended before.
-use Rattle.std.proofs.Common.{◌<◌, ◌≤◌, length, get_or, sym, ap, ◌∙◌, inl, inr, arith}
+use Rattle.std.proofs.Common.{◌<◌, ◌≤◌, length, get_or, set, refl, sym, ap, ◌∙◌, inl, inr, arith, length-set}
 use Rattle.std.proofs.lemmas.List.{get_or_default}
 use Rattle.desk_core.specs.Stands.{last_of}
+use Rattle.esdk_batch.specs.FileEndLaws.{from_later}
 use Rattle.esdk_batch.specs.Progress.{is_ended}
+use Rattle.esdk_batch.specs.Rounds.{all_waits}
+use Rattle.esdk_batch.specs.ShelfCalls.{IsOfJob}
 use Rattle.esdk_batch.proofs.AllCounting.{counted_after, has_file_at}
-use Rattle.esdk_batch.proofs.Keeping.{beyond_set, keeps_turn}
-use Rattle.esdk_batch.proofs.Moments.{reads_turn}
+use Rattle.esdk_batch.proofs.Keeping.{beyond_set, keeps_same, keeps_turn}
+use Rattle.esdk_batch.proofs.Moments.{reads_none, reads_turn}
+use Rattle.esdk_batch.proofs.ShelfCalls.{jobs_after, jobs_at_most, on_err, turn_broken}
 use Rattle.esdk_batch.proofs.Standing.{others_after}
-use Rattle.esdk_batch.proofs.Windows.{round_begun, round_skips, round_turns}
+use Rattle.esdk_batch.proofs.Windows.{round_begun, round_skips, round_starts, round_turns}
 use Rattle.esdk_batch.proofs.rounds.run_round.Goals as goal
+
+pub loop-at-init : goal.loop-at-init
+loop-at-init g c = record {
+  on = round_starts _ c.args.jobs.now c.args.width c.args.first c.args.desk.now c.args.progress.now _ _ c.requires.each c.requires.first c.requires.ready c.requires.opened c.requires.still;
+  counts = λ began all. all;
+  calls = λ began all. all;
+  moments = reads_none _ _ _ _ refl refl;
+  sessions = λ last under beyond. (keeps_same last (all_waits c.args.progress.now) c.args.desk.now, beyond);
+}
 
 pub loop-at-preserved-then-is_ended : goal.loop-at-preserved-then-is_ended
 loop-at-preserved-then-is_ended g c = record {
   on = round_skips _ c.args.jobs.now c.args.width c.args.first c.args.desk.now c.loop-at.desk c.args.progress.now c.loop-at.progress _ _ _ _ c.loop-at.at c.loop-at.turns
       c.loop-at.invariant.on (omega (arith, c.loop-at-test.true)) c.requires.first c.index-progress-at.result c.index-progress-at.is (ap is_ended c.index-progress-at.is ∙ sym c.is_ended.ensures ∙ c.if-is_ended.true);
   counts = c.loop-at.invariant.counts;
+  calls = c.loop-at.invariant.calls;
   moments = c.loop-at.invariant.moments;
   sessions = c.loop-at.invariant.sessions;
 }
@@ -34,12 +48,15 @@ loop-at-preserved g c =
           c.loop-at.invariant.on (omega (arith, c.loop-at-test.true)) c.requires.first one was
           c.index-jobs-at.result c.take_turn.new.progress c.take_turn.new.desk _ _ c.index-jobs-at.is c.requires.apart runs
           (omega (arith, c.if-turns-width.false, c.loop-at.invariant.on.few))
-          (record { turn = turn.turn; numbers = turn.numbers; bytes = turn.draws; lines = turn.lines; kind = turn.kind; falls = turn.falls; went = turn.went; kept = turn.kept });
+          (record { turn = turn.turn; numbers = turn.numbers; bytes = turn.draws; lines = turn.lines; kind = turn.kind; falls = turn.falls; went = turn.went; kept = turn.kept; known = λ by from. from_later (IsOfJob c.index-jobs-at.result) by _ _ (turn.calls runs).has from });
       counts = λ began first.
           let all = c.loop-at.invariant.counts began first in
           let has = has_file_at c.args.jobs.now progress at c.index-jobs-at.result one began _ within each c.index-jobs-at.is was all in
           counted_after c.args.jobs.now progress at c.index-jobs-at.result one c.take_turn.new.progress began _ _ within each c.index-jobs-at.is was runs c.requires.apart
           turn.kept (turn.counts runs has) all;
+      calls = λ began first.
+          jobs_after c.args.jobs.now progress at c.index-jobs-at.result one c.take_turn.new.progress began _ _ within each c.index-jobs-at.is was runs c.requires.apart
+          (turn.calls runs) (c.loop-at.invariant.calls began first);
       moments = reads_turn _ _ _ _ _ _ c.loop-at.invariant.moments (turn.moment runs);
       sessions = λ last under beyond.
           let all = c.loop-at.invariant.sessions last under beyond in
@@ -69,6 +86,34 @@ returns-in_err-take_turn-clause-moments g c =
     let within : c.loop-at.at < length progress = omega (arith, c.loop-at-test.true, c.loop-at.invariant.on.each) in
     let runs = ap is_ended (get_or_default progress c.loop-at.at c.index-progress-at-in-loop-at.result c.index-progress-at.result within) ∙ sym c.is_ended.ensures ∙ c.if-is_ended.false in
     reads_turn _ _ _ _ _ _ c.loop-at.invariant.moments (c.in_err-take_turn.ensures.moment runs)
+
+-- ---- the calls of the shelf
+
+pub returns-then-turns-width-clause-known : goal.returns-then-turns-width-clause-known
+returns-then-turns-width-clause-known g c = c.loop-at.invariant.on.known
+
+pub returns-clause-known : goal.returns-clause-known
+returns-clause-known g c = c.loop-at.invariant.on.known
+
+pub returns-then-turns-width-clause-calls : goal.returns-then-turns-width-clause-calls
+returns-then-turns-width-clause-calls g c = c.loop-at.invariant.calls
+
+pub returns-clause-calls : goal.returns-clause-calls
+returns-clause-calls g c = c.loop-at.invariant.calls
+
+pub returns-in_err-take_turn-clause-broken : goal.returns-in_err-take_turn-clause-broken
+returns-in_err-take_turn-clause-broken g c = λ began first.
+    let progress = c.loop-at.progress in
+    let at = c.loop-at.at in
+    let one = get_or progress at c.index-progress-at-in-loop-at.result in
+    let within : at < length progress = omega (arith, c.loop-at-test.true, c.loop-at.invariant.on.each) in
+    let runs = ap is_ended (get_or_default progress at c.index-progress-at-in-loop-at.result c.index-progress-at.result within) ∙ sym c.is_ended.ensures ∙ c.if-is_ended.false in
+    let was = get_or_default progress at c.index-progress-at-in-loop-at.result one within in
+    let each = c.loop-at.invariant.on.each in
+    let job = c.index-jobs-at.result in
+    on_err _ (jobs_at_most c.args.jobs.now began _ (set progress at one) (length-set progress at one ∙ each)
+    (jobs_after c.args.jobs.now progress at job one one began _ _ within each c.index-jobs-at.is was runs c.requires.apart
+    (turn_broken job one _ _ runs (c.in_err-take_turn.ensures.broken runs)) (c.loop-at.invariant.calls began first)))
 
 -- ---- the other sessions
 

@@ -2,64 +2,82 @@
 use Rattle.std.proofs.Common.{◌≡◌, ◌∙◌, ◌+◌, false, Some, None, length, take, refl, sym, ap, arith}
 use Rattle.desk_core.specs.Desk.{DropSession, after_call}
 use Rattle.desk_core.specs.Stands.{manager_of, journal_of}
+use Rattle.esdk_batch.specs.FileEndLaws.{from_later}
+use Rattle.esdk_batch.specs.ShelfCalls.{IsRead}
+use Rattle.esdk_batch.specs.Watching.{as_told, files_by}
 use Rattle.esdk_batch.proofs.FedTurns.{broken_so, fed_as, fed_so, reported_is}
 use Rattle.esdk_batch.proofs.FurtherLines.{broken_lines_so, draws_none, fed_lines, known, no_lines_so}
-use Rattle.esdk_batch.proofs.FurtherTurns.{finished_so, unread_so}
+use Rattle.esdk_batch.proofs.FurtherTurns.{finished_so, turn_sooner, unread_so}
 use Rattle.esdk_batch.proofs.Keeping.{keeps_dropped}
 use Rattle.esdk_batch.proofs.Managers.{admits_between}
 use Rattle.esdk_batch.proofs.Moments.{gains_none}
+use Rattle.esdk_batch.proofs.ShelfCalls.{read_writes_turn, reads_turn}
 use Rattle.esdk_batch.proofs.TurnCounting.{counts_from, piece_as, piece_ended, piece_goes, there_mid, unread_counts}
+use Rattle.esdk_batch.proofs.Watched.{piece_seen, read_known, still_seen}
 use Rattle.esdk_batch.proofs.turns.go_on.Goals as goal
 
 pub returns-in-Err-clause-turn : goal.returns-in-Err-clause-turn
-returns-in-Err-clause-turn g c = λ first last v admits stands has. (
+returns-in-Err-clause-turn g c = λ by first last v from admits stands has. (
   after_call v c.args.live.session false DropSession,
   c.drop_session-dropped.ensures.stands v stands,
-  unread_so _ c.args.job.now c.args.live c.ended_job.result c.kind_of-kind.result c.as_str.result.now has.0 v _ _ c.in-Err.outside c.kind_of-kind.ensures c.ended_job.ensures c.as_str.ensures.text has.1
-      c.in-Err.ensures.reads c.read_piece.ensures.stays,
+  unread_so _ c.args.job.now c.args.live c.ended_job.result c.kind_of-kind.result c.as_str.result.now has.0 v _ _ _ _ c.in-Err.outside c.kind_of-kind.ensures c.ended_job.ensures has.1
+      c.in-Err.ensures.reads (still_seen by _ _ c.read_piece.ensures.stays c.in-Err.ensures.tells),
 )
 
 pub returns-then-count-eq0-clause-turn : goal.returns-then-count-eq0-clause-turn
-returns-then-count-eq0-clause-turn g c = λ first last v admits stands has.
-    let ends = c.in_ok-end.ensures.ends v has.0 stands has.1 in (
+returns-then-count-eq0-clause-turn g c = λ by first last v from admits stands has.
+    let mid = g.F.Shelf.state c.read_piece.new.shelf in
+    let ends = c.in_ok-end.ensures.ends by v has.0 (from_later (IsRead c.as_str.result.now) by _ _ c.read_piece.ensures.calls from) stands has.1 in (
       ends.0,
       ends.1,
-      finished_so _ c.args.job.now c.args.live c.ended_job-then-count-eq0.result c.kind_of-kind.result c.as_str.result.now c.as_str-to.result.now has.0 v ends.0 _ _ _ c.read_piece.new.buffer c.in-Ok.count
-          c.in_ok-end.end c.kind_of-kind.ensures c.ended_job-then-count-eq0.ensures c.as_str.ensures.text c.as_str-to.ensures.text c.read_piece.ensures.stays has.1
-          c.in-Ok.ensures.reads.0 c.if-count-eq0.true ends.2,
+      turn_sooner _ c.args.job.now c.args.live c.ended_job-then-count-eq0.result v ends.0 _ (files_by by mid) _
+          (λ held. read_known by _ _ c.as_str.result.now c.args.live.at (take c.in-Ok.count c.read_piece.new.buffer) from c.read_piece.ensures.stays c.in-Ok.ensures.tells held)
+          (finished_so _ c.args.job.now c.args.live c.ended_job-then-count-eq0.result c.kind_of-kind.result c.as_str.result.now c.as_str-to.result.now has.0 v ends.0 (files_by by mid) (files_by by mid) _
+          c.read_piece.new.buffer c.in-Ok.count c.in_ok-end.end c.kind_of-kind.ensures c.ended_job-then-count-eq0.ensures c.as_str.ensures.text c.as_str-to.ensures.text refl has.1
+          (piece_seen by _ _ c.as_str.result.now c.args.live.at c.in-Ok.count c.read_piece.new.buffer from c.read_piece.ensures.stays c.in-Ok.ensures.tells c.in-Ok.ensures.reads.0) c.if-count-eq0.true ends.2),
     )
+
+pub returns-then-count-eq0-clause-numbers : goal.returns-then-count-eq0-clause-numbers
+returns-then-count-eq0-clause-numbers g c =
+    let ready = c.requires.ready in
+    let ends = c.in_ok-end.ensures.ends as_told ready.0 ready.2.0 tt ready.1 ready.2.1 in
+    draws_none c.args.live c.ended_job-then-count-eq0.result c.kind_of-kind.result c.in_ok-end.end c.args.live.served _ _ c.ended_job-then-count-eq0.ensures (ends.1.last ∙ ends.2.desk.last ∙ sym ready.1.last)
 
 pub returns-then-count-eq0-clause-lines : goal.returns-then-count-eq0-clause-lines
 returns-then-count-eq0-clause-lines g c = λ v stands knows.
     let s = known c.args.job.now.work c.args.live v.live knows in
-    let ends = c.in_ok-end.ensures.ends v s.0 stands s.1 in
+    let ends = c.in_ok-end.ensures.ends as_told v s.0 tt stands s.1 in
     (ends.0, ends.1, no_lines_so c.args.job.now c.args.live c.ended_job-then-count-eq0.result c.kind_of-kind.result c.in_ok-end.end v ends.0 c.ended_job-then-count-eq0.ensures ends.2.desk.journal)
 
 pub returns-in-Some-clause-turn : goal.returns-in-Some-clause-turn
-returns-in-Some-clause-turn g c = λ first last v admits stands has.
-    let feeds = c.in_ok-end-2.ensures.feeds first last v has.0 admits stands has.1 in
-    let fed = fed_as _ c.args.live.session has.0 (take c.in-Ok.count c.read_piece.new.buffer) v feeds.0 _ c.args.job.now.to _ _ _ _ (Some c.in-Some.end)
-    c.as_str-to.ensures.text c.read_piece.ensures.stays c.in-Some.is feeds.2 in
+returns-in-Some-clause-turn g c = λ by first last v from admits stands has.
+    let mid = g.F.Shelf.state c.read_piece.new.shelf in
+    let feeds = c.in_ok-end-2.ensures.feeds by first last v has.0 (from_later (IsRead c.as_str.result.now) by _ _ c.read_piece.ensures.calls from) admits stands has.1 in
+    let fed = fed_as _ c.args.live.session has.0 (take c.in-Ok.count c.read_piece.new.buffer) v feeds.0 _ c.args.job.now.to (files_by by mid) (files_by by mid) _ _ (Some c.in-Some.end)
+    c.as_str-to.ensures.text refl c.in-Some.is feeds.2 in
     let journal : journal_of c.feed_piece.new.desk ≡ feeds.0.journal = feeds.1.journal in (
       feeds.0,
       feeds.1,
-      broken_so _ c.args.job.now c.args.live c.ended_job-in-Some.result c.kind_of-kind.result c.as_str.result.now c.either-served.result has.0 v feeds.0 _ _ c.read_piece.new.buffer c.in-Ok.count
-          c.in-Some.end c.kind_of-kind.ensures c.ended_job-in-Some.ensures c.as_str.ensures.text has.1 c.in-Ok.ensures.reads.0 fed
+      turn_sooner _ c.args.job.now c.args.live c.ended_job-in-Some.result v feeds.0 _ (files_by by mid) _
+          (λ held. read_known by _ _ c.as_str.result.now c.args.live.at (take c.in-Ok.count c.read_piece.new.buffer) from c.read_piece.ensures.stays c.in-Ok.ensures.tells held)
+          (broken_so _ c.args.job.now c.args.live c.ended_job-in-Some.result c.kind_of-kind.result c.as_str.result.now c.either-served.result has.0 v feeds.0 (files_by by mid) _ c.read_piece.new.buffer c.in-Ok.count
+          c.in-Some.end c.kind_of-kind.ensures c.ended_job-in-Some.ensures c.as_str.ensures.text has.1
+          (piece_seen by _ _ c.as_str.result.now c.args.live.at c.in-Ok.count c.read_piece.new.buffer from c.read_piece.ensures.stays c.in-Ok.ensures.tells c.in-Ok.ensures.reads.0) fed
           (reported_is c.args.live.served c.served_since.result c.either-served.result (journal_of c.feed_piece.new.desk) v.journal fed.gained _ c.either-served.ensures
-          c.served_since.ensures (journal ∙ fed.desk.journal) (ap length (c.journal-lines.ensures.lines v stands))),
+          c.served_since.ensures (journal ∙ fed.desk.journal) (ap length (c.journal-lines.ensures.lines v stands)))),
     )
 
 pub returns-in-Some-clause-numbers : goal.returns-in-Some-clause-numbers
 returns-in-Some-clause-numbers g c =
     let ready = c.requires.ready in
-    let feeds = c.in_ok-end-2.ensures.feeds (manager_of c.args.desk.now) (manager_of c.feed_piece.new.desk) ready.0 ready.2.0 (admits_between _ _) ready.1 ready.2.1 in
+    let feeds = c.in_ok-end-2.ensures.feeds as_told (manager_of c.args.desk.now) (manager_of c.feed_piece.new.desk) ready.0 ready.2.0 tt (admits_between _ _) ready.1 ready.2.1 in
     draws_none c.args.live c.ended_job-in-Some.result c.kind_of-kind.result c.in-Some.end c.either-served.result _ _ c.ended_job-in-Some.ensures
     (feeds.1.last ∙ feeds.2.desk.last ∙ sym ready.1.last)
 
 pub returns-in-Some-clause-lines : goal.returns-in-Some-clause-lines
 returns-in-Some-clause-lines g c = λ v stands knows.
     let s = known c.args.job.now.work c.args.live v.live knows in
-    let feeds = c.in_ok-end-2.ensures.feeds (manager_of c.args.desk.now) (manager_of c.feed_piece.new.desk) v s.0 (admits_between _ _) stands s.1 in
+    let feeds = c.in_ok-end-2.ensures.feeds as_told (manager_of c.args.desk.now) (manager_of c.feed_piece.new.desk) v s.0 tt (admits_between _ _) stands s.1 in
     let fed = fed_as _ c.args.live.session s.0 (take c.in-Ok.count c.read_piece.new.buffer) v feeds.0 _ c.args.job.now.to _ _ _ _ (Some c.in-Some.end)
     c.as_str-to.ensures.text c.read_piece.ensures.stays c.in-Some.is feeds.2 in
     let journal : journal_of c.feed_piece.new.desk ≡ feeds.0.journal = feeds.1.journal in (
@@ -71,29 +89,33 @@ returns-in-Some-clause-lines g c = λ v stands knows.
     )
 
 pub returns-in-None-clause-turn : goal.returns-in-None-clause-turn
-returns-in-None-clause-turn g c = λ first last v admits stands has.
-    let feeds = c.in_ok-end-2.ensures.feeds first last v has.0 admits stands has.1 in
-    let fed = fed_as _ c.args.live.session has.0 (take c.in-Ok.count c.read_piece.new.buffer) v feeds.0 _ c.args.job.now.to _ _ _ _ None
-    c.as_str-to.ensures.text c.read_piece.ensures.stays c.in-None.is feeds.2 in
+returns-in-None-clause-turn g c = λ by first last v from admits stands has.
+    let mid = g.F.Shelf.state c.read_piece.new.shelf in
+    let feeds = c.in_ok-end-2.ensures.feeds by first last v has.0 (from_later (IsRead c.as_str.result.now) by _ _ c.read_piece.ensures.calls from) admits stands has.1 in
+    let fed = fed_as _ c.args.live.session has.0 (take c.in-Ok.count c.read_piece.new.buffer) v feeds.0 _ c.args.job.now.to (files_by by mid) (files_by by mid) _ _ None
+    c.as_str-to.ensures.text refl c.in-None.is feeds.2 in
     let journal : journal_of c.feed_piece.new.desk ≡ feeds.0.journal = feeds.1.journal in (
       feeds.0,
       feeds.1,
-      fed_so _ c.args.job.now c.args.live c.as_str.result.now c.either-served.result has.0 v feeds.0 _ _ c.read_piece.new.buffer c.in-Ok.count
-          c.as_str.ensures.text has.1 c.in-Ok.ensures.reads.0 fed
+      turn_sooner _ c.args.job.now c.args.live _ v feeds.0 _ (files_by by mid) _
+          (λ held. read_known by _ _ c.as_str.result.now c.args.live.at (take c.in-Ok.count c.read_piece.new.buffer) from c.read_piece.ensures.stays c.in-Ok.ensures.tells held)
+          (fed_so _ c.args.job.now c.args.live c.as_str.result.now c.either-served.result has.0 v feeds.0 (files_by by mid) _ c.read_piece.new.buffer c.in-Ok.count
+          c.as_str.ensures.text has.1
+          (piece_seen by _ _ c.as_str.result.now c.args.live.at c.in-Ok.count c.read_piece.new.buffer from c.read_piece.ensures.stays c.in-Ok.ensures.tells c.in-Ok.ensures.reads.0) fed
           (reported_is c.args.live.served c.served_since.result c.either-served.result (journal_of c.feed_piece.new.desk) v.journal fed.gained _ c.either-served.ensures
-          c.served_since.ensures (journal ∙ fed.desk.journal) (ap length (c.journal-lines.ensures.lines v stands))),
+          c.served_since.ensures (journal ∙ fed.desk.journal) (ap length (c.journal-lines.ensures.lines v stands)))),
     )
 
 pub returns-in-None-clause-numbers : goal.returns-in-None-clause-numbers
 returns-in-None-clause-numbers g c =
     let ready = c.requires.ready in
-    let feeds = c.in_ok-end-2.ensures.feeds (manager_of c.args.desk.now) (manager_of c.feed_piece.new.desk) ready.0 ready.2.0 (admits_between _ _) ready.1 ready.2.1 in
+    let feeds = c.in_ok-end-2.ensures.feeds as_told (manager_of c.args.desk.now) (manager_of c.feed_piece.new.desk) ready.0 ready.2.0 tt (admits_between _ _) ready.1 ready.2.1 in
     (refl, feeds.1.last ∙ feeds.2.desk.last ∙ sym ready.1.last)
 
 pub returns-in-None-clause-lines : goal.returns-in-None-clause-lines
 returns-in-None-clause-lines g c = λ v stands knows.
     let s = known c.args.job.now.work c.args.live v.live knows in
-    let feeds = c.in_ok-end-2.ensures.feeds (manager_of c.args.desk.now) (manager_of c.feed_piece.new.desk) v s.0 (admits_between _ _) stands s.1 in
+    let feeds = c.in_ok-end-2.ensures.feeds as_told (manager_of c.args.desk.now) (manager_of c.feed_piece.new.desk) v s.0 tt (admits_between _ _) stands s.1 in
     let fed = fed_as _ c.args.live.session s.0 (take c.in-Ok.count c.read_piece.new.buffer) v feeds.0 _ c.args.job.now.to _ _ _ _ None
     c.as_str-to.ensures.text c.read_piece.ensures.stays c.in-None.is feeds.2 in
     let journal : journal_of c.feed_piece.new.desk ≡ feeds.0.journal = feeds.1.journal in (
@@ -150,3 +172,28 @@ returns-in-None-clause-counts g c = λ entropy has.
 pub returns-in-Err-clause-sessions : goal.returns-in-Err-clause-sessions
 returns-in-Err-clause-sessions g c = λ last beyond.
     keeps_dropped last c.args.live.session c.args.desk.now c.drop_session-dropped.new.self (c.requires.ready.0, c.requires.ready.1) c.drop_session-dropped.ensures.stands beyond
+
+-- ---- the calls of the shelf
+
+pub returns-in-Err-clause-calls : goal.returns-in-Err-clause-calls
+returns-in-Err-clause-calls g c = reads_turn c.args.job.now c.as_str.result.now _ _ c.as_str.ensures.text c.read_piece.ensures.calls
+
+pub returns-then-count-eq0-clause-calls : goal.returns-then-count-eq0-clause-calls
+returns-then-count-eq0-clause-calls g c =
+    read_writes_turn c.args.job.now c.as_str.result.now c.as_str-to.result.now _ _ _ c.as_str.ensures.text c.as_str-to.ensures.text c.read_piece.ensures.calls c.end_session.ensures.calls
+
+pub returns-in_err-end-clause-calls : goal.returns-in_err-end-clause-calls
+returns-in_err-end-clause-calls g c =
+    read_writes_turn c.args.job.now c.as_str.result.now c.as_str-to.result.now _ _ _ c.as_str.ensures.text c.as_str-to.ensures.text c.read_piece.ensures.calls c.end_session.ensures.calls
+
+pub returns-in_err-end-2-clause-calls : goal.returns-in_err-end-2-clause-calls
+returns-in_err-end-2-clause-calls g c =
+    read_writes_turn c.args.job.now c.as_str.result.now c.as_str-to.result.now _ _ _ c.as_str.ensures.text c.as_str-to.ensures.text c.read_piece.ensures.calls c.feed_piece.ensures.calls
+
+pub returns-in-Some-clause-calls : goal.returns-in-Some-clause-calls
+returns-in-Some-clause-calls g c =
+    read_writes_turn c.args.job.now c.as_str.result.now c.as_str-to.result.now _ _ _ c.as_str.ensures.text c.as_str-to.ensures.text c.read_piece.ensures.calls c.feed_piece.ensures.calls
+
+pub returns-in-None-clause-calls : goal.returns-in-None-clause-calls
+returns-in-None-clause-calls g c =
+    read_writes_turn c.args.job.now c.as_str.result.now c.as_str-to.result.now _ _ _ c.as_str.ensures.text c.as_str-to.ensures.text c.read_piece.ensures.calls c.feed_piece.ensures.calls

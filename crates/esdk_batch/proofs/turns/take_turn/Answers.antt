@@ -9,22 +9,28 @@ use Rattle.esdk_batch.specs.Keeping.{IsBeyond}
 use Rattle.esdk_batch.specs.Underway.{HasSession}
 use Rattle.esdk_batch.proofs.Unplaced.{counts_placed, kept_placed, kind_placed, lines_placed, number_placed, turn_placed, turns_first, turns_placed}
 use Rattle.esdk_batch.proofs.Keeping.{keeps_as, keeps_same}
+use Rattle.esdk_batch.specs.FileEndLaws.{from_later}
+use Rattle.esdk_batch.specs.ShelfCalls.{IsOfTurn}
+use Rattle.esdk_batch.proofs.ShelfCalls.{on_err, turn_finished}
 use Rattle.esdk_batch.proofs.TakenTurns.{further_taken, lines_as, none_taken, turn_as}
+use Rattle.esdk_batch.proofs.Watched.{placed_seen}
 use Rattle.esdk_batch.proofs.turns.take_turn.Goals as goal
 
 -- ---- a first turn
 
 pub returns-in_ok-next-in-Waiting-clause-turn : goal.returns-in_ok-next-in-Waiting-clause-turn
-returns-in_ok-next-in-Waiting-clause-turn g c = λ first last v admits stands has.
-    let turn = c.in_ok-next-in-Waiting.ensures.turn first last v admits stands in (
+returns-in_ok-next-in-Waiting-clause-turn g c = λ by first last v from admits stands has.
+    let turn = c.in_ok-next-in-Waiting.ensures.turn by first last v from admits stands in (
       turn.0,
       turn.1,
       turn_as _ c.args.job.now c.args.progress.now stages.Waiting c.put_in_place.result v turn.0 _ _ _ _ c.in-Waiting.is
-          (turn_placed _ c.args.job.now stages.Waiting c.in_ok-next-in-Waiting.next c.put_in_place.result v turn.0 _ _ _ _ _ c.put_in_place.ensures turn.2),
+          (turn_placed _ c.args.job.now stages.Waiting c.in_ok-next-in-Waiting.next c.put_in_place.result v turn.0 _ _ _ _ _ _ _ c.put_in_place.ensures.puts
+          (placed_seen by c.args.job.now c.in_ok-next-in-Waiting.next c.put_in_place.result _ _ (from_later (IsOfTurn c.args.job.now) by _ _ c.in_ok-next-in-Waiting.ensures.calls from) c.put_in_place.ensures.puts.files c.put_in_place.ensures.calls)
+          turn.2),
     )
 
 pub returns-in_ok-next-in-Waiting-clause-numbers : goal.returns-in_ok-next-in-Waiting-clause-numbers
-returns-in_ok-next-in-Waiting-clause-numbers g c = number_placed c.args.progress.now stages.Waiting c.in_ok-next-in-Waiting.next c.put_in_place.result _ _ _ _ c.in-Waiting.is refl c.put_in_place.ensures c.in_ok-next-in-Waiting.ensures.numbers
+returns-in_ok-next-in-Waiting-clause-numbers g c = number_placed c.args.progress.now stages.Waiting c.in_ok-next-in-Waiting.next c.put_in_place.result _ _ _ _ c.in-Waiting.is refl c.put_in_place.ensures.puts c.in_ok-next-in-Waiting.ensures.numbers
 
 pub returns-in_ok-next-in-Waiting-clause-lines : goal.returns-in_ok-next-in-Waiting-clause-lines
 returns-in_ok-next-in-Waiting-clause-lines g c = λ v stands knows.
@@ -32,43 +38,45 @@ returns-in_ok-next-in-Waiting-clause-lines g c = λ v stands knows.
       lines.0,
       lines.1,
       lines_as c.args.job.now c.args.progress.now stages.Waiting c.put_in_place.result v lines.0 c.in-Waiting.is
-          (lines_placed c.args.job.now stages.Waiting c.in_ok-next-in-Waiting.next c.put_in_place.result v lines.0 _ _ c.put_in_place.ensures lines.2),
+          (lines_placed c.args.job.now stages.Waiting c.in_ok-next-in-Waiting.next c.put_in_place.result v lines.0 _ _ c.put_in_place.ensures.puts lines.2),
     )
 
 pub returns-in_ok-next-in-Waiting-clause-kind : goal.returns-in_ok-next-in-Waiting-clause-kind
-returns-in_ok-next-in-Waiting-clause-kind g c = λ was. kind_placed c.args.job.now.work c.in_ok-next-in-Waiting.next c.put_in_place.result _ _ c.put_in_place.ensures c.in_ok-next-in-Waiting.ensures.kind
+returns-in_ok-next-in-Waiting-clause-kind g c = λ was. kind_placed c.args.job.now.work c.in_ok-next-in-Waiting.next c.put_in_place.result _ _ c.put_in_place.ensures.puts c.in_ok-next-in-Waiting.ensures.kind
 
 pub returns-in_ok-next-in-Waiting-clause-moment : goal.returns-in_ok-next-in-Waiting-clause-moment
-returns-in_ok-next-in-Waiting-clause-moment g c = λ runs. record { moment = c.now.result; answers = (c.now.ensures.moment, c.now.ensures.moments); gains = c.in_ok-next-in-Waiting.ensures.moment }
+returns-in_ok-next-in-Waiting-clause-moment g c = λ runs. record { moment = c.now.result; answers = record { given = c.now.ensures.given; told = (c.now.ensures.moment, c.now.ensures.moments) }; gains = c.in_ok-next-in-Waiting.ensures.moment }
 
 pub returns-in_err-next-in-Waiting-clause-moment : goal.returns-in_err-next-in-Waiting-clause-moment
-returns-in_err-next-in-Waiting-clause-moment g c = λ runs. record { moment = c.now.result; answers = (c.now.ensures.moment, c.now.ensures.moments); gains = c.in_err-next-in-Waiting.ensures.moment }
+returns-in_err-next-in-Waiting-clause-moment g c = λ runs. record { moment = c.now.result; answers = record { given = c.now.ensures.given; told = (c.now.ensures.moment, c.now.ensures.moments) }; gains = c.in_err-next-in-Waiting.ensures.moment }
 
 pub returns-in_ok-next-in-Waiting-clause-kept : goal.returns-in_ok-next-in-Waiting-clause-kept
-returns-in_ok-next-in-Waiting-clause-kept g c = kept_placed _ c.in_ok-next-in-Waiting.next c.put_in_place.result _ _ c.args.job.now.to c.put_in_place.ensures c.in_ok-next-in-Waiting.ensures.kept
+returns-in_ok-next-in-Waiting-clause-kept g c = kept_placed _ c.in_ok-next-in-Waiting.next c.put_in_place.result _ _ c.args.job.now.to c.put_in_place.ensures.puts c.in_ok-next-in-Waiting.ensures.kept
 
 pub returns-in_ok-next-in-Waiting-clause-falls : goal.returns-in_ok-next-in-Waiting-clause-falls
 returns-in_ok-next-in-Waiting-clause-falls g c = λ left.
-    omega (arith, turns_placed c.in_ok-next-in-Waiting.next c.put_in_place.result _ _ c.put_in_place.ensures, ap turns_left c.in-Waiting.is, turns_first c.in_ok-next-in-Waiting.next _ _ c.in_ok-next-in-Waiting.ensures.numbers)
+    omega (arith, turns_placed c.in_ok-next-in-Waiting.next c.put_in_place.result _ _ c.put_in_place.ensures.puts, ap turns_left c.in-Waiting.is, turns_first c.in_ok-next-in-Waiting.next _ _ c.in_ok-next-in-Waiting.ensures.numbers)
 
 pub returns-in_ok-next-in-Waiting-clause-counts : goal.returns-in_ok-next-in-Waiting-clause-counts
-returns-in_ok-next-in-Waiting-clause-counts g c = λ runs has. counts_placed c.args.job.now _ _ _ _ _ c.in_ok-next-in-Waiting.next c.put_in_place.result c.put_in_place.ensures c.in_ok-next-in-Waiting.ensures.counts
+returns-in_ok-next-in-Waiting-clause-counts g c = λ runs has. counts_placed c.args.job.now _ _ _ _ _ c.in_ok-next-in-Waiting.next c.put_in_place.result c.put_in_place.ensures.puts c.in_ok-next-in-Waiting.ensures.counts
 
 -- ---- a further turn
 
 pub returns-in_ok-next-in-Live-clause-turn : goal.returns-in_ok-next-in-Live-clause-turn
-returns-in_ok-next-in-Live-clause-turn g c = λ first last v admits stands has.
-    let turn = c.in_ok-next-in-Live.ensures.turn first last v admits stands (subst (λ (p : Progress). HasSession v.live p) c.in-Live.is has) in (
+returns-in_ok-next-in-Live-clause-turn g c = λ by first last v from admits stands has.
+    let turn = c.in_ok-next-in-Live.ensures.turn by first last v from admits stands (subst (λ (p : Progress). HasSession v.live p) c.in-Live.is has) in (
       turn.0,
       turn.1,
       turn_as _ c.args.job.now c.args.progress.now (stages.Live c.in-Live.live) c.put_in_place-in-Live.result v turn.0 _ _ _ _ c.in-Live.is
-          (turn_placed _ c.args.job.now (stages.Live c.in-Live.live) c.in_ok-next-in-Live.next c.put_in_place-in-Live.result v turn.0 _ _ _ _ _ c.put_in_place-in-Live.ensures
+          (turn_placed _ c.args.job.now (stages.Live c.in-Live.live) c.in_ok-next-in-Live.next c.put_in_place-in-Live.result v turn.0 _ _ _ _ _ _ _ c.put_in_place-in-Live.ensures.puts
+          (placed_seen by c.args.job.now c.in_ok-next-in-Live.next c.put_in_place-in-Live.result _ _ (from_later (IsOfTurn c.args.job.now) by _ _ c.in_ok-next-in-Live.ensures.calls from) c.put_in_place-in-Live.ensures.puts.files
+          c.put_in_place-in-Live.ensures.calls)
           (further_taken _ c.args.job.now c.in-Live.live c.in_ok-next-in-Live.next v turn.0 _ _ _ turn.2)),
     )
 
 pub returns-in_ok-next-in-Live-clause-numbers : goal.returns-in_ok-next-in-Live-clause-numbers
 returns-in_ok-next-in-Live-clause-numbers g c =
-    number_placed c.args.progress.now (stages.Live c.in-Live.live) c.in_ok-next-in-Live.next c.put_in_place-in-Live.result _ _ _ _ c.in-Live.is refl c.put_in_place-in-Live.ensures c.in_ok-next-in-Live.ensures.numbers
+    number_placed c.args.progress.now (stages.Live c.in-Live.live) c.in_ok-next-in-Live.next c.put_in_place-in-Live.result _ _ _ _ c.in-Live.is refl c.put_in_place-in-Live.ensures.puts c.in_ok-next-in-Live.ensures.numbers
 
 pub returns-in_ok-next-in-Live-clause-lines : goal.returns-in_ok-next-in-Live-clause-lines
 returns-in_ok-next-in-Live-clause-lines g c = λ v stands knows.
@@ -76,35 +84,35 @@ returns-in_ok-next-in-Live-clause-lines g c = λ v stands knows.
       lines.0,
       lines.1,
       lines_as c.args.job.now c.args.progress.now (stages.Live c.in-Live.live) c.put_in_place-in-Live.result v lines.0 c.in-Live.is
-          (lines_placed c.args.job.now (stages.Live c.in-Live.live) c.in_ok-next-in-Live.next c.put_in_place-in-Live.result v lines.0 _ _ c.put_in_place-in-Live.ensures lines.2),
+          (lines_placed c.args.job.now (stages.Live c.in-Live.live) c.in_ok-next-in-Live.next c.put_in_place-in-Live.result v lines.0 _ _ c.put_in_place-in-Live.ensures.puts lines.2),
     )
 
 pub returns-in_ok-next-in-Live-clause-kind : goal.returns-in_ok-next-in-Live-clause-kind
-returns-in_ok-next-in-Live-clause-kind g c = λ was. kind_placed c.args.job.now.work c.in_ok-next-in-Live.next c.put_in_place-in-Live.result _ _ c.put_in_place-in-Live.ensures c.in_ok-next-in-Live.ensures.kind
+returns-in_ok-next-in-Live-clause-kind g c = λ was. kind_placed c.args.job.now.work c.in_ok-next-in-Live.next c.put_in_place-in-Live.result _ _ c.put_in_place-in-Live.ensures.puts c.in_ok-next-in-Live.ensures.kind
 
 pub returns-in_ok-next-in-Live-clause-moment : goal.returns-in_ok-next-in-Live-clause-moment
-returns-in_ok-next-in-Live-clause-moment g c = λ runs. record { moment = c.now-in-Live.result; answers = (c.now-in-Live.ensures.moment, c.now-in-Live.ensures.moments); gains = c.in_ok-next-in-Live.ensures.moment }
+returns-in_ok-next-in-Live-clause-moment g c = λ runs. record { moment = c.now-in-Live.result; answers = record { given = c.now-in-Live.ensures.given; told = (c.now-in-Live.ensures.moment, c.now-in-Live.ensures.moments) }; gains = c.in_ok-next-in-Live.ensures.moment }
 
 pub returns-in_err-next-in-Live-clause-moment : goal.returns-in_err-next-in-Live-clause-moment
-returns-in_err-next-in-Live-clause-moment g c = λ runs. record { moment = c.now-in-Live.result; answers = (c.now-in-Live.ensures.moment, c.now-in-Live.ensures.moments); gains = c.in_err-next-in-Live.ensures.moment }
+returns-in_err-next-in-Live-clause-moment g c = λ runs. record { moment = c.now-in-Live.result; answers = record { given = c.now-in-Live.ensures.given; told = (c.now-in-Live.ensures.moment, c.now-in-Live.ensures.moments) }; gains = c.in_err-next-in-Live.ensures.moment }
 
 pub returns-in_ok-next-in-Live-clause-kept : goal.returns-in_ok-next-in-Live-clause-kept
-returns-in_ok-next-in-Live-clause-kept g c = kept_placed _ c.in_ok-next-in-Live.next c.put_in_place-in-Live.result _ _ c.args.job.now.to c.put_in_place-in-Live.ensures c.in_ok-next-in-Live.ensures.kept
+returns-in_ok-next-in-Live-clause-kept g c = kept_placed _ c.in_ok-next-in-Live.next c.put_in_place-in-Live.result _ _ c.args.job.now.to c.put_in_place-in-Live.ensures.puts c.in_ok-next-in-Live.ensures.kept
 
 pub returns-in_ok-next-in-Live-clause-falls : goal.returns-in_ok-next-in-Live-clause-falls
 returns-in_ok-next-in-Live-clause-falls g c = λ left.
-    omega (arith, turns_placed c.in_ok-next-in-Live.next c.put_in_place-in-Live.result _ _ c.put_in_place-in-Live.ensures, ap turns_left c.in-Live.is, c.in_ok-next-in-Live.ensures.falls)
+    omega (arith, turns_placed c.in_ok-next-in-Live.next c.put_in_place-in-Live.result _ _ c.put_in_place-in-Live.ensures.puts, ap turns_left c.in-Live.is, c.in_ok-next-in-Live.ensures.falls)
 
 pub returns-in_ok-next-in-Live-clause-counts : goal.returns-in_ok-next-in-Live-clause-counts
 returns-in_ok-next-in-Live-clause-counts g c = λ runs has.
-    counts_placed c.args.job.now _ _ _ _ _ c.in_ok-next-in-Live.next c.put_in_place-in-Live.result c.put_in_place-in-Live.ensures
+    counts_placed c.args.job.now _ _ _ _ _ c.in_ok-next-in-Live.next c.put_in_place-in-Live.result c.put_in_place-in-Live.ensures.puts
     (c.in_ok-next-in-Live.ensures.counts (g.W.Entropy.state c.args.entropy.now).faults
     (subst (λ (p : Progress). HasFile (g.F.Shelf.state c.args.shelf.now).files c.args.job.now p) c.in-Live.is has))
 
 -- ---- none
 
 pub returns-in-Ended-clause-turn : goal.returns-in-Ended-clause-turn
-returns-in-Ended-clause-turn g c = λ first last v admits stands has. (v, stands, none_taken _ c.args.job.now c.args.progress.now v _ _ has)
+returns-in-Ended-clause-turn g c = λ by first last v from admits stands has. (v, stands, none_taken _ c.args.job.now c.args.progress.now v _ _ has)
 
 pub returns-in-Ended-clause-moment : goal.returns-in-Ended-clause-moment
 returns-in-Ended-clause-moment g c = λ runs. let no : true ≡ false = ap is_ended (sym c.in-Ended.is) ∙ runs in absurd cc
@@ -134,3 +142,23 @@ returns-in_err-next-in-Live-clause-sessions g c = λ last under beyond.
 
 pub returns-in-Ended-clause-sessions : goal.returns-in-Ended-clause-sessions
 returns-in-Ended-clause-sessions g c = λ last under beyond. keeps_same last (waits c.args.progress.now) c.args.desk.now
+
+-- ---- the calls of the shelf
+
+pub returns-in_ok-next-in-Waiting-clause-calls : goal.returns-in_ok-next-in-Waiting-clause-calls
+returns-in_ok-next-in-Waiting-clause-calls g c = λ runs.
+    turn_finished c.args.job.now c.in_ok-next-in-Waiting.next c.put_in_place.result _ _ _ c.in_ok-next-in-Waiting.ensures.kind c.put_in_place.ensures.puts c.in_ok-next-in-Waiting.ensures.calls c.put_in_place.ensures.calls
+
+pub returns-in_err-next-in-Waiting-clause-broken : goal.returns-in_err-next-in-Waiting-clause-broken
+returns-in_err-next-in-Waiting-clause-broken g c = λ runs. on_err _ c.in_err-next-in-Waiting.ensures.calls
+
+pub returns-in_ok-next-in-Live-clause-calls : goal.returns-in_ok-next-in-Live-clause-calls
+returns-in_ok-next-in-Live-clause-calls g c = λ runs.
+    turn_finished c.args.job.now c.in_ok-next-in-Live.next c.put_in_place-in-Live.result _ _ _ c.in_ok-next-in-Live.ensures.kind c.put_in_place-in-Live.ensures.puts c.in_ok-next-in-Live.ensures.calls
+    c.put_in_place-in-Live.ensures.calls
+
+pub returns-in_err-next-in-Live-clause-broken : goal.returns-in_err-next-in-Live-clause-broken
+returns-in_err-next-in-Live-clause-broken g c = λ runs. on_err _ c.in_err-next-in-Live.ensures.calls
+
+pub returns-in-Ended-clause-calls : goal.returns-in-Ended-clause-calls
+returns-in-Ended-clause-calls g c = λ runs. let no : true ≡ false = ap is_ended (sym c.in-Ended.is) ∙ runs in absurd cc

@@ -1,0 +1,34 @@
+-- The file is made, and the header is put behind it.
+use Rattle.std.proofs.Common.{◌≡◌, ◌∙◌, ℕ, List, sym, ap, subst}
+use Rattle.std.specs.Prelude.{Option, Some, OnErr, option_map}
+use Rattle.esdk_fields.specs.Counts.{Rose}
+use Rattle.desk_core.specs.Session.{SessionValue, header_of}
+use Rattle.esdk_batch.specs.FileEndLaws.{calls_more, from_later}
+use Rattle.esdk_batch.specs.Files.{MakesFile}
+use Rattle.esdk_batch.specs.ShelfCalls.{IsWrite}
+use Rattle.esdk_batch.specs.Watching.{as_told, files_by}
+use Rattle.esdk_batch.proofs.Counting.{emptied_there}
+use Rattle.esdk_batch.proofs.Watched.{file_made, put_there}
+use Rattle.esdk_batch.proofs.opening.make_file.Goals as goal
+
+-- the header that the desk gives is the session's
+header_is : (o : Option SessionValue) (s : SessionValue) (header : List ℕ) → o ≡ Some s → option_map header_of o ≡ Some header → header ≡ header_of s
+header_is o s header live gives = let same : Some (header_of s) ≡ Some header = ap (option_map header_of) (sym live) ∙ gives in cc
+
+pub returns-clause-calls : goal.returns-clause-calls
+returns-clause-calls g c = calls_more (IsWrite c.args.to.now) _ _ _ c.in_ok-make.ensures.calls c.put.ensures.calls
+
+pub returns-clause-makes : goal.returns-clause-makes
+returns-clause-makes g c = λ by v s from stands live.
+    let header = header_is _ s c.in-Ok.header.now live (c.in-Ok.ensures.header v stands) in
+    subst (λ (bytes : List ℕ). MakesFile (files_by by (g.F.Shelf.state c.args.shelf.now)) (files_by by (g.F.Shelf.state c.put.new.shelf)) c.args.to.now bytes c.put.result) header
+    (file_made _ _ _ c.args.to.now c.in-Ok.header.now c.put.result (c.in_ok-make.ensures.makes by from)
+    (c.put.ensures.puts by (from_later (IsWrite c.args.to.now) by _ _ c.in_ok-make.ensures.calls from)))
+
+pub returns-clause-cause : goal.returns-clause-cause
+returns-clause-cause g c =
+    let there = emptied_there _ _ c.args.to.now (c.in_ok-make.ensures.makes as_told tt) in
+    subst (λ (n : ℕ). OnErr c.put.result (Rose n (g.F.Shelf.state c.put.new.shelf).faults)) c.in_ok-make.ensures.cause.same (c.put.ensures.cause there)
+
+pub returns-clause-there : goal.returns-clause-there
+returns-clause-there g c = put_there _ _ c.args.to.now c.in-Ok.header.now c.put.result (c.put.ensures.puts as_told tt) (emptied_there _ _ c.args.to.now (c.in_ok-make.ensures.makes as_told tt))

@@ -1,0 +1,147 @@
+-- What a batch calls of its shelf, which every shelf tells: whose files it reads, makes, appends to
+-- and finishes; and that each job's file is finished once, behind all that is written into it.
+use Rattle.std.specs.Prelude.{◌≡◌, ◌≢◌, ◌⊎◌, ◌≤◌, ◌<◌, ℕ, Bool, true, false, List, [], ◌∷◌, ◌++◌, length, All, slice_index_or}
+use Rattle.std.specs.List.{AllZip, filter, list_any}
+use Rattle.std.specs.Str.{bytes_eq}
+use Rattle.esdk_fields.specs.Counts.{Rose}
+use Rattle.esdk_seen.specs.Calls.{ShelfCall, announces, appends, creates, finishes, reads}
+use Rattle.esdk_base.specs.declared.shelf.Readers.{Readers}
+use Rattle.esdk_base.specs.Streams.{ShelfState}
+use Rattle.esdk_base.specs.Told.{whom}
+use Rattle.job_file.specs.declared.job.Job.{Job}
+use Rattle.job_file.specs.JobFile.{is_written}
+use Rattle.batch_report.specs.declared.job_lines.JobLine.{JobLine}
+use Rattle.batch_report.specs.declared.job_lines.JobEnd.{JobEnd}
+use Rattle.batch_report.specs.declared.job_lines.JobEnd.TheVariants as ends
+use Rattle.esdk_batch.specs.declared.progress.Progress.{Progress}
+use Rattle.esdk_batch.specs.declared.progress.Progress.TheVariants as stages
+use Rattle.esdk_batch.specs.Batch.{kind_of}
+use Rattle.esdk_batch.specs.Placing.{readers_of, unplaced_line}
+
+-- ---- calls between two moments
+
+-- The shelf was called so often, and each of these calls is so. Its count of faults never falls.
+pub record HasCalls (P : ShelfCall → Type 0) (old new : ShelfState) : Type 0 where
+  pub made : List ShelfCall
+  pub calls : new.calls ≡ old.calls ++ made
+  pub all : All P made
+  pub later : old.faults ≤ new.faults
+
+-- it reads the file of this name
+abbrev pub IsRead : List ℕ → ShelfCall → Type 0
+IsRead name (reads other at bytes) = other ≡ name
+IsRead name call = ⊥
+
+-- it makes the file of this name, or appends to it
+abbrev pub IsWrite : List ℕ → ShelfCall → Type 0
+IsWrite name (creates other) = other ≡ name
+IsWrite name (appends other bytes) = other ≡ name
+IsWrite name call = ⊥
+
+-- ---- a job
+
+-- it reads what the job reads, or writes what the job writes
+abbrev pub IsOfTurn : Job → ShelfCall → Type 0
+IsOfTurn job call = IsRead job.from call ⊎ IsWrite job.to call
+
+-- the same, or it finishes what the job writes
+abbrev pub IsOfJob : Job → ShelfCall → Type 0
+IsOfJob job (reads name at bytes) = name ≡ job.from
+IsOfJob job (creates name) = name ≡ job.to
+IsOfJob job (appends name bytes) = name ≡ job.to
+IsOfJob job (announces name) = ⊥
+IsOfJob job (finishes name whom) = name ≡ job.to
+
+-- it makes the file of this name, appends to it, or finishes it
+abbrev pub is_about : List ℕ → ShelfCall → Bool
+is_about name (reads other at bytes) = false
+is_about name (creates other) = bytes_eq other name
+is_about name (appends other bytes) = bytes_eq other name
+is_about name (announces other) = false
+is_about name (finishes other whom) = bytes_eq other name
+
+-- the calls that make the file of this name, append to it or finish it
+abbrev pub calls_about : List ℕ → List ShelfCall → List ShelfCall
+calls_about name made = filter (is_about name) made
+
+-- the file wasn't finished
+abbrev pub FinishesNot : List ℕ → List ShelfCall → Type 0
+FinishesNot name made = All (IsWrite name) (calls_about name made)
+
+-- The file was finished once, for these readers, behind all that was written into it.
+pub record FinishesOnce (name : List ℕ) (readers : Readers) (made : List ShelfCall)
+    : Type 0 where
+  pub written : List ShelfCall
+  pub only : All (IsWrite name) written
+  pub last : calls_about name made ≡ written ++ finishes name (whom readers) ∷ []
+
+-- the same for those who may read what the job writes
+abbrev pub IsFinished : Job → List ShelfCall → Type 0
+IsFinished job made = FinishesOnce job.to (readers_of (kind_of job.work)) made
+
+-- The job ended so, and its file was finished; or that isn't told, and then the shelf failed, and
+-- the job isn't done.
+abbrev pub IsOver : Job → JobEnd → List ShelfCall → (before now : ℕ) → Type 0
+IsOver job end made before now =
+    IsFinished job made
+    ⊎ (FinishesNot job.to made × (end ≢ ends.Done) × Rose before now)
+
+-- before a job ended its file isn't finished
+abbrev pub IsFinishedSo : Job → Progress → List ShelfCall → (before now : ℕ) → Type 0
+IsFinishedSo job stages.Waiting made before now = FinishesNot job.to made
+IsFinishedSo job (stages.Live live) made before now = FinishesNot job.to made
+IsFinishedSo job (stages.Ended line) made before now = IsOver job line.end made before now
+
+-- Where the job ended, its file was finished by one call, for those who may read what the job
+-- wrote; or that failed and isn't told, and what is said of the job is what is said then.
+abbrev pub FinishesBy : Job → Progress → Progress → ShelfState → ShelfState → Type 0
+FinishesBy job stages.Waiting placed before after = after.calls ≡ before.calls
+FinishesBy job (stages.Live live) placed before after = after.calls ≡ before.calls
+FinishesBy job (stages.Ended line) placed before after =
+    (after.calls ≡ before.calls ++ finishes job.to (whom (readers_of line.kind)) ∷ [])
+    ⊎ ((after.calls ≡ before.calls) × (placed ≡ stages.Ended (unplaced_line line))
+    × Rose before.faults after.faults)
+
+-- The calls of a turn, behind which the job stands so.
+pub record TurnCalls (job : Job) (new : Progress) (before now : ShelfState) : Type 0 where
+  pub has : HasCalls (IsOfJob job) before now
+  pub so : IsFinishedSo job new has.made before.faults now.faults
+
+-- ---- all jobs
+
+-- some job is to read this name
+abbrev pub is_read : List Job → List ℕ → Bool
+is_read jobs name = list_any (λ job. bytes_eq name job.from) jobs
+
+-- it reads what some job reads; or it makes what some job writes, appends to it or finishes it
+abbrev pub IsOfJobs : List Job → ShelfCall → Type 0
+IsOfJobs jobs (reads name at bytes) = is_read jobs name ≡ true
+IsOfJobs jobs (creates name) = is_written jobs name ≡ true
+IsOfJobs jobs (appends name bytes) = is_written jobs name ≡ true
+IsOfJobs jobs (announces name) = ⊥
+IsOfJobs jobs (finishes name whom) = is_written jobs name ≡ true
+
+-- The calls since a batch began whose jobs stand so.
+pub record JobsCall (jobs : List Job) (began now : ShelfState) (progress : List Progress)
+    : Type 0 where
+  pub has : HasCalls (IsOfJobs jobs) began now
+  pub so : (k : ℕ) (job : Job) (one : Progress) → k < length progress
+      → IsFinishedSo (slice_index_or jobs k job) (slice_index_or progress k one) has.made
+      began.faults now.faults
+
+-- the job's file was finished once at the most
+abbrev pub IsFinishedAtMost : Job → List ShelfCall → Type 0
+IsFinishedAtMost job made = IsFinished job made ⊎ FinishesNot job.to made
+
+-- The calls since a batch began are of files that its jobs read and write, and each job's file was
+-- finished once at the most.
+pub record CallsAtMost (jobs : List Job) (began now : ShelfState) : Type 0 where
+  pub has : HasCalls (IsOfJobs jobs) began now
+  pub most : All (λ job. IsFinishedAtMost job has.made) jobs
+
+-- The jobs all ended, and each job's file was finished; or that isn't told, and then the shelf
+-- failed since the batch began, and the job isn't done.
+pub record AreFinished (jobs : List Job) (began now : ShelfState) (lines : List JobLine)
+    : Type 0 where
+  pub has : HasCalls (IsOfJobs jobs) began now
+  pub over : AllZip (λ job line. IsOver job line.end has.made began.faults now.faults) jobs lines
