@@ -3,8 +3,8 @@ use Rattle.std.proofs.Common.{◌≡◌, ◌∙◌, ℕ, List, [], ◌++◌, Ok,
 use Rattle.std.specs.Prelude.{IfOk}
 use Rattle.std.specs.declared.option.Option.{Option}
 use Rattle.std.specs.declared.result.Result.{Result}
-use Rattle.esdk_base.specs.Clock.{Moments}
-use Rattle.esdk_base.specs.Streams.{EntropyState, ShelfState, SinkState}
+use Rattle.esdk_base.specs.Shelf.{Files}
+use Rattle.esdk_base.specs.Streams.{ClockState, EntropyState, ShelfState, SinkState}
 use Rattle.keyring_trait.specs.declared.journal.JournalLine.{JournalLine}
 use Rattle.cmm_caching.specs.Journal.{KeepsWithin}
 use Rattle.cmm_caching.specs.Limits.{LimitsValue}
@@ -20,7 +20,7 @@ use Rattle.esdk_run.proofs.Showing.{each_has_a_line}
 use Rattle.esdk_run.proofs.Statuses.{not_done, not_seven}
 
 -- a batch whose journal was empty before
-pub serves_in_time : {E : Type 0} (manager : Saying) (file : JobFile) (old new : ShelfState) (entropy spent : EntropyState) (before after shown : List JournalLine) (clock ticked : Option Moments)
+pub serves_in_time : {E : Type 0} (manager : Saying) (file : JobFile) (old new : Option Files) (entropy spent : EntropyState) (before after shown : List JournalLine) (clock ticked : ClockState)
     (limits : Option LimitsValue) (r : Result (List JobLine) E) → before ≡ [] → shown ≡ after → limits ≡ file.cache → KeepsWithin limits shown → ReadsClock clock ticked before after
     → IfOk r (RunsBatch manager file 0 old new entropy spent before after) → IfOk r (ServesInTime file clock ticked)
 serves_in_time manager file old new entropy spent before after shown clock ticked limits (Err error) none is_shown is within reads runs = tt
@@ -36,11 +36,11 @@ serves_in_time manager file old new entropy spent before after shown clock ticke
 
 -- ---- a run of `batch`, as its command ends it
 
-pub ages_kept : (name other : List ℕ) (shelf : ShelfState) (output put : SinkState) (clock ticked : Option Moments) (code : ℕ) → other ≡ name
+pub ages_kept : (name other : List ℕ) (shelf : ShelfState) (output put : SinkState) (clock ticked : ClockState) (code : ℕ) → other ≡ name
     → ShowsAges other shelf output put clock ticked → KeepsAges name shelf output put clock ticked code
 ages_kept name other shelf output put clock ticked code same shows = λ reported. subst (λ (n : List ℕ). ShowsAges n shelf output put clock ticked) same shows
 
-pub no_ages : (name : List ℕ) (shelf : ShelfState) (output put report reported : SinkState) (clock ticked : Option Moments) (code : ℕ) (failure : Failure) → Reports failure code report reported
+pub no_ages : (name : List ℕ) (shelf : ShelfState) (output put report reported : SinkState) (clock ticked : ClockState) (code : ℕ) (failure : Failure) → Reports failure code report reported
     → KeepsAges name shelf output put clock ticked code
 no_ages name shelf output put report reported clock ticked code failure said (inl zero) = absurd (not_done failure code report reported said zero)
 no_ages name shelf output put report reported clock ticked code failure said (inr seven) = absurd (not_seven failure code report reported said seven)

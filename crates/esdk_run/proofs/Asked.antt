@@ -42,7 +42,7 @@ migrate_asked : (trees : Trees) (words : Result Request WordsFault) (asked : Mig
 migrate_asked trees words asked before after unchanged code is runs =
     (subst (λ (w : Result Request WordsFault). RunsAs trees w before after unchanged code) is runs).1
 
-batch_asked : (trees : Trees) (words : Result Request WordsFault) (name : List ℕ) (before after : Objects) (unchanged : Unchanged) (code : ℕ)
+pub batch_asked : (trees : Trees) (words : Result Request WordsFault) (name : List ℕ) (before after : Objects) (unchanged : Unchanged) (code : ℕ)
     → words ≡ Ok (requests.Batch name) → RunsAs trees words before after unchanged code → BatchRuns trees name before after unchanged code
 batch_asked trees words name before after unchanged code is runs =
     subst (λ (w : Result Request WordsFault). RunsAs trees w before after unchanged code) is runs

@@ -182,13 +182,13 @@ all_come_more from to before after (job ∷ jobs) (drawn ∷ draws) (line ∷ li
 )
 all_come_more from to before after jobs drawn lines admits all = absurd all
 
-pub runs_more : {from to : Saying} {file : JobFile} {last : ℕ} {old new : ShelfState} {entropy spent : EntropyState} {before after : List JournalLine} {lines : List JobLine}
+pub runs_more : {from to : Saying} {file : JobFile} {last : ℕ} {old new : Option Files} {entropy spent : EntropyState} {before after : List JournalLine} {lines : List JobLine}
     → Admits to from → RunsBatch from file last old new entropy spent before after lines → RunsBatch to file last old new entropy spent before after lines
 runs_more {from} {to} {file} {old = old} {new = new} {lines = lines} admits runs = record {
   draws = runs.draws;
   gained = runs.gained;
   journal = runs.journal;
-  jobs = all_come_more from to old.files new.files file.jobs runs.draws lines admits runs.jobs;
+  jobs = all_come_more from to old new file.jobs runs.draws lines admits runs.jobs;
   others = runs.others;
   drawn = runs.drawn;
   served = runs.served;

@@ -79,7 +79,7 @@ run_changes {new = new} runs = record {
   file = runs.file;
   between = runs.has.between;
   jobs = runs.has.jobs;
-  others = subst (λ (files : Option Files). OnlyWritten runs.file.jobs files new.files) runs.has.stay runs.runs.runs.others;
+  others = subst (λ (files : Option Files). OnlyWritten runs.file.jobs files new.files) runs.has.stay runs.others;
   told = runs.told ∙ ap is_some runs.has.stay;
 }
 

@@ -171,7 +171,7 @@ jobs_done trees name before after code runs nothing =
       lines = runs.lines;
       gained = runs.writes.gained;
       done = subst (λ (files : Option Files). AllZip (DoesJob all.file.cache all.tree files) all.file.jobs runs.lines) all.has.stay
-          (each_done all.file.cache all.tree all.left stayed all.file.jobs all.read.files after.shelf.files ran.others all.file.jobs ran.draws runs.lines kept.given kept.unread
+          (each_done all.file.cache all.tree all.left stayed all.file.jobs all.read.files after.shelf.files all.others all.file.jobs ran.draws runs.lines kept.given kept.unread
           (none_rose _ _ _ all.failures.entropy nothing.drawing) (none_rose _ _ _ all.failures.keyring stayed) (none_rose _ _ _ all.failures.shelf reading) ran.jobs);
     }
 

@@ -23,7 +23,7 @@ use Rattle.esdk_decrypt.proofs.Readers.{answers_unlocking}
 use Rattle.extract_core.specs.declared.errors.ExtractError.{ExtractError}
 use Rattle.extract_core.specs.declared.errors.ExtractError.TheVariants as errors
 use Rattle.extract_core.specs.Extracted.{ByteRange, Extraction, extracted}
-use Rattle.extract_core.specs.Extract.{ExtractEnds, Extracts, UnlessMemory, most_read, most_taken}
+use Rattle.extract_core.specs.Extract.{ExtractEnds, Extracts, most_read, most_taken}
 use Rattle.extract_core.specs.Laws.{EndsAsItBegins, ExtractsOfWhole}
 use Rattle.extract_core.proofs.Judged.{extracts_whole}
 use Rattle.extract_core.proofs.Allowed.{extract_ends_allowed, extracts_allowed}
@@ -68,19 +68,16 @@ extraction_fails trees asked before after unchanged errors.Memory fails = inr fa
 pub extraction_ran : (trees : Trees) (asked : ExtractWords) (before after : Objects) (unchanged : Unchanged) (code : ℕ) (r : Result ℕ ExtractError) (t : HasTreeFor trees asked before after)
     → IfOk r (Extracts (extract_asked asked t.given t.tree t.left) (range_asked asked) t.middle after.shelf asked.from before.output after.output)
     → IfErr r (ExtractEnds (extract_asked asked t.given t.tree t.left) (range_asked asked) t.middle after.shelf asked.from before.output after.output unchanged.output)
-    → IfOk r (λ written. after.shelf.faults ≡ t.middle.faults) → Grows t.middle.calls after.shelf.calls → UnlessMemory r (ReadsOfFile asked t.middle after.shelf)
+    → IfOk r (λ written. after.shelf.faults ≡ t.middle.faults) → Grows t.middle.calls after.shelf.calls → ReadsOfFile asked t.middle after.shelf
     → OnOk r (IsDone code before.report after.report) → IfErr r (λ error. Reports (extraction_failure error) code before.report after.report)
     → ExtractRuns trees asked before after unchanged code
 extraction_ran trees asked before after unchanged code (Ok written) t done ends faults grown reads is said =
     inl (is, record { tree_for = t; written = written; done = done; faults = faults; grown = grown; reads = reads })
 extraction_ran trees asked before after unchanged code (Err error) t done ends faults grown reads is said = inr (record {
   failure = extraction_failure error;
-  because = extraction_fails trees asked before after unchanged error (record { tree_for = t; ended = ends; grown = grown; reads = error_reads error (ReadsOfFile asked t.middle after.shelf) reads });
+  because = extraction_fails trees asked before after unchanged error (record { tree_for = t; ended = ends; grown = grown; reads = reads });
   said = said;
 })
-  where
-    error_reads : (error : ExtractError) (so : Type 0) → UnlessMemory {T = ℕ} (Err error) so → UnlessMemory {T = ℕ} (Err error) so
-    error_reads error so reads = reads
 
 -- ---- a run that read a tree
 

@@ -1,4 +1,4 @@
--- What `extract` and `audit` made of the files that came.
+-- What `extract`, `audit` and `batch` made of the files that came.
 use Rattle.std.proofs.Common.{◌≡◌, ◌∙◌, ℕ, ◌+◌, ◌≤◌, List, ◌++◌, length, map, Bool, false, true, None, Some, inl, inr, refl, sym, ap, subst, arith}
 use Rattle.std.proofs.lemmas.List.{append_cancel_left}
 use Rattle.std.specs.Io.KnownBytes.{Appends}
@@ -6,11 +6,15 @@ use Rattle.esdk_args.specs.declared.request.DecryptWords.{DecryptWords}
 use Rattle.esdk_args.specs.declared.request.EncryptWords.{EncryptWords}
 use Rattle.esdk_args.specs.declared.request.ExtractWords.{ExtractWords}
 use Rattle.esdk_fields.specs.Counts.{Stayed}
-use Rattle.esdk_base.specs.Streams.{ShelfState}
+use Rattle.esdk_base.specs.Shelf.{Files}
+use Rattle.esdk_base.specs.Streams.{EntropyState, ShelfState}
 use Rattle.context_codec.specs.Context.{KeyValue}
 use Rattle.keyring_trait.specs.Keyring.{KeyringMeaning}
+use Rattle.keyring_trait.specs.Saying.{Saying}
 use Rattle.keyring_trait.specs.Wrapping.{WrapKeyValue}
 use Rattle.multi_keyring.specs.Tree.{all_faults}
+use Rattle.job_file.specs.JobFile.{JobFile}
+use Rattle.batch_report.specs.declared.job_lines.JobLine.{JobLine}
 use Rattle.audit_core.specs.Lines.{audit_lines}
 use Rattle.audit_core.specs.Messages.{audited}
 use Rattle.audit_core.proofs.Came.{finds_what_came}
@@ -27,15 +31,17 @@ use Rattle.esdk_report.specs.declared.failure.Failure.{Failure}
 use Rattle.esdk_report.specs.declared.failure.Failure.TheVariants as failures
 use Rattle.esdk_run.specs.ArmouredMessage.{form_of, output_gains}
 use Rattle.esdk_run.specs.Audit.{WritesAudit, audit_status}
+use Rattle.esdk_run.specs.Batch.{RunsWithin}
 use Rattle.esdk_run.specs.Decrypt.{DecryptsInput, decrypt_asked, reader_of}
 use Rattle.esdk_run.specs.Encrypt.{EncryptsInput, encrypt_asked, refusal_asked, run_writer}
 use Rattle.esdk_run.specs.Extract.{ExtractFails, ExtractionFails, HasTreeFor, extract_asked, extract_reader}
 use Rattle.esdk_run.specs.Objects.{Objects, Unchanged}
 use Rattle.esdk_run.specs.Read.{ReadsWhole, SaysWhatIsReadAs}
-use Rattle.esdk_run.specs.Run.{AuditRuns, DecryptRuns, EncryptRuns, ExtractRuns, TellsOrLacksMemory}
+use Rattle.esdk_run.specs.Run.{AuditRuns, BatchRuns, DecryptRuns, EncryptRuns, ExtractRuns, RunsAllJobs, TellsOrLacksMemory}
+use Rattle.esdk_run.specs.Serving.{managing_over}
 use Rattle.esdk_run.specs.Trees.{TreeIs, Trees}
 use Rattle.esdk_run.specs.UnarmouredDecrypt.{DecryptsAs}
-use Rattle.esdk_run.specs.FilesCame.{AuditedWhatCame, AuditsIfDone, ExtractsIfDone, NamesIfFault, ReadsOfWhatCame, ShowsWhatCame}
+use Rattle.esdk_run.specs.FilesCame.{AuditedWhatCame, AuditsIfDone, BatchedWhatCame, BatchesIfRun, ComeToWhatIsShown, ExtractsIfDone, NamesIfFault, ReadsOfWhatCame, ShowsWhatCame}
 use Rattle.esdk_run.proofs.WhatCame.{tree_came}
 use Rattle.esdk_run.proofs.Auditing.{told_many}
 use Rattle.esdk_run.proofs.Decryption.{reader_ends}
@@ -126,3 +132,36 @@ pub audits_if_done : (trees : Trees) (name : List ℕ) (before after : Objects) 
 audits_if_done trees name before after unchanged code (inl done) ended = audited_files trees name before after code done.0
 audits_if_done trees name before after unchanged code (inr fails) (inl zero) = absurd (not_done fails.failure code before.report after.report fails.said zero)
 audits_if_done trees name before after unchanged code (inr fails) (inr seven) = absurd (not_seven fails.failure code before.report after.report fails.said seven)
+
+-- ---- `batch`
+
+shown_to_come : (manager : Saying) (file : JobFile) (old new : ShelfState) (entropy spent : EntropyState) (lines : List JobLine) → RunsWithin manager file old new entropy spent lines
+    → (held : Files) → ComeToWhatIsShown manager file.jobs old new entropy spent held lines
+shown_to_come manager file old new entropy spent lines within held =
+    let ran = within.shown held in record { draws = ran.draws; drawn = ran.drawn.came; come = ran.jobs }
+
+batched_files : (trees : Trees) (name : List ℕ) (before after : Objects) (code : ℕ) → RunsAllJobs trees name before after code → BatchedWhatCame trees name before after code
+batched_files trees name before after code all =
+    let runs = all.runs in
+    record {
+      bytes = runs.has.jobs.read.bytes;
+      file = runs.file;
+      between = runs.has.between;
+      read = runs.has.jobs.read.file.read;
+      is = runs.has.jobs.read.is;
+      tree = runs.tree;
+      left = runs.left;
+      middle = runs.read;
+      keyring = tree_came trees runs.file.keyring runs.has.between runs.read runs.tree runs.has.keyring;
+      lines = all.lines;
+      jobs = shown_to_come (managing_over runs.file.cache runs.tree runs.left) runs.file runs.read after.shelf before.entropy after.entropy all.lines runs.runs;
+      finished = runs.finished;
+      gained = all.writes.gained;
+      status = all.writes.status;
+    }
+
+pub batches_if_run : (trees : Trees) (name : List ℕ) (before after : Objects) (unchanged : Unchanged) (code : ℕ) → BatchRuns trees name before after unchanged code
+    → BatchesIfRun trees name before after code
+batches_if_run trees name before after unchanged code (inl all) ended = batched_files trees name before after code all
+batches_if_run trees name before after unchanged code (inr fails) (inl zero) = absurd (not_done fails.failure code before.report after.report fails.said zero)
+batches_if_run trees name before after unchanged code (inr fails) (inr seven) = absurd (not_seven fails.failure code before.report after.report fails.said seven)

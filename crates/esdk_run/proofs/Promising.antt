@@ -13,16 +13,18 @@ use Rattle.esdk_run.specs.Objects.{Objects, Unchanged, same_streams, without_ent
 use Rattle.esdk_run.specs.Promises.{Promises, Ticks, Words}
 use Rattle.esdk_run.specs.Run.{RunsAs}
 use Rattle.esdk_run.specs.Trees.{IsUntouched, Trees}
+use Rattle.esdk_list.specs.List.{HasNoMemory}
 use Rattle.esdk_run.specs.UnarmouredList.{ListEndsAs}
-use Rattle.esdk_run.proofs.Asked.{audit_asked, audited_asked, decrypt_asked, done_asked, encrypt_asked, extract_asked, judgement_asked, judgements_asked, jobs_asked, limits_asked, line_asked, migration_asked, openers_asked, others_asked, reads_asked, reseal_asked, round_trip_asked, whole_asked}
+use Rattle.esdk_run.proofs.Asked.{audit_asked, audited_asked, batch_asked, decrypt_asked, done_asked, encrypt_asked, extract_asked, judgement_asked, judgements_asked, jobs_asked, limits_asked, line_asked, migration_asked, openers_asked, others_asked, reads_asked, reseal_asked, round_trip_asked, whole_asked}
 use Rattle.esdk_run.proofs.EarlyEnds.{leaves_a_front}
 use Rattle.esdk_run.proofs.Encryption.{encrypt_comes_back, encrypts_what_fits, writes_the_message}
 use Rattle.esdk_run.proofs.Extraction.{extract_comes_back, extracts_of_content, extracts_sound_ranges, reads_no_more, says_what_it_extracts}
 use Rattle.esdk_run.proofs.Keeping.{Keeps}
 use Rattle.esdk_run.proofs.ResealTold.{gives_back_first, reseals_whole_messages, rotates_what_is_written, says_what_it_reseals}
 use Rattle.esdk_run.proofs.TreesBack.{decrypt_comes_back, none_is_some}
+use Rattle.esdk_run.proofs.UnarmouredListing.{lists_nothing}
 use Rattle.esdk_run.proofs.Unarmouring.{unread_text}
-use Rattle.esdk_run.proofs.FilesCame.{audits_if_done, extracts_if_done, names_if_fault}
+use Rattle.esdk_run.proofs.FilesCame.{audits_if_done, batches_if_run, extracts_if_done, names_if_fault}
 use Rattle.esdk_run.proofs.WhatCame.{opens_if_done, seals_if_done}
 
 pub promised : (trees : Trees) (words : Words) (before after : Objects) (unchanged : Unchanged) (time : Ticks) (code : ℕ)
@@ -50,6 +52,7 @@ promised trees words before after unchanged time code same unread runs keeps = r
   migration = λ asked is. migration_asked trees words asked before after unchanged code is runs;
   limits = λ name is. limits_asked trees words name before after unchanged code is runs;
   ages = keeps.ages;
+  batched = λ name is. batches_if_run trees name before after unchanged code (batch_asked trees words name before after unchanged code is runs);
   others = λ name is. others_asked trees words name before after unchanged code is runs;
   batch = λ name is. jobs_asked trees words name before after unchanged code is runs;
   judgements = λ name is. judgements_asked trees words name before after unchanged code is runs;
@@ -89,10 +92,11 @@ fault_runs trees words fault before after unchanged code is untouched said =
 -- Nothing is listed of an input that wasn't read.
 unlisted : (armour uncommitted : Bool) (before after : SourceState) (output put : SinkState) (unwritten : Type 0) → after ≡ before → unwritten
     → ListEndsAs armour uncommitted before after output put unwritten failures.Memory
-unlisted false uncommitted before after output put unwritten is same = (tt, same)
+unlisted false uncommitted before after output put unwritten is same =
+    (subst (λ (taken : SourceState). HasNoMemory uncommitted before taken) (sym is) (lists_nothing uncommitted before), same)
 unlisted true uncommitted before after output put unwritten is same =
     subst (λ (taken : SourceState). ListEndsAs true uncommitted before taken output put unwritten failures.Memory) (sym is)
-    (unread_text before _ (λ seen. (tt, same)))
+    (unread_text before _ (λ seen. (lists_nothing uncommitted seen, same)))
 
 -- of words that memory didn't suffice to read
 memory_runs : (trees : Trees) (words : Words) (before after : Objects) (unchanged : Unchanged) (code : ℕ)

@@ -3,6 +3,7 @@ use Rattle.std.proofs.Common.{◌≡◌, ◌∙◌, ℕ, List, true, false, true
 use Rattle.std.specs.Prelude.{IfOk, IfSome, ◌&&◌, is_none}
 use Rattle.std.specs.declared.option.Option.{Option}
 use Rattle.std.specs.declared.result.Result.{Result}
+use Rattle.esdk_base.specs.Shelf.{Files}
 use Rattle.esdk_base.specs.Streams.{EntropyState, ShelfState}
 use Rattle.esdk_fields.specs.declared.faults.Fault.{Fault}
 use Rattle.esdk_fields.specs.declared.faults.Fault.TheVariants as faults
@@ -26,6 +27,7 @@ use Rattle.job_file.specs.declared.job.Job.{Job}
 use Rattle.job_file.specs.JobFile.{JobFile}
 use Rattle.batch_report.specs.declared.job_lines.JobLine.{JobLine}
 use Rattle.esdk_batch.specs.Batch.{RunsBatch}
+use Rattle.esdk_batch.specs.Watching.{shown_files}
 use Rattle.esdk_batch.specs.Failures.{CountsFailures, tally_of}
 use Rattle.esdk_encrypt.specs.Told.{NoneFor}
 use Rattle.esdk_run.specs.Batch.{RunsWithin}
@@ -187,22 +189,28 @@ said_over meaning v w = said_between (cached v.1 (meaning v.0)) (cached w.1 (mea
 pub runs_over : {N E : Type 0} (meaning : N → KeyringMeaning) (inner tree left : N) (made first last : N × Option Store) (file : JobFile) (old new : ShelfState) (entropy spent : EntropyState)
     (before after shown : List JournalLine) (r : Result (List JobLine) E) → first ≡ made → made.0 ≡ inner → inner ≡ tree → left ≡ last.0
     → Begins file.cache made.1 (meaning inner) → before ≡ [] → shown ≡ after → KeepsWithin (limits_of first.1) shown
-    → IfOk r (RunsBatch (said_over meaning first last) file 0 old new entropy spent before after)
+    → IfOk r (RunsBatch (said_over meaning first last) file 0 old.files new.files entropy spent before after)
+    → ((held : Files) → IfOk r (RunsBatch (said_over meaning first last) file 0 (Some held) (shown_files held old new) entropy spent before after))
     → IfOk r (RunsWithin (managing_over file.cache (meaning tree) (meaning left)) file old new entropy spent)
-runs_over meaning inner tree left made first last file old new entropy spent before after shown (Err error) is_first is_made is_inner is_left begins none is_shown within runs = tt
-runs_over {N} meaning inner tree left made first last file old new entropy spent before after shown (Ok lines) is_first is_made is_inner is_left begins none is_shown within runs =
+runs_over meaning inner tree left made first last file old new entropy spent before after shown (Err error) is_first is_made is_inner is_left begins none is_shown within runs shown_so = tt
+runs_over {N} meaning inner tree left made first last file old new entropy spent before after shown (Ok lines) is_first is_made is_inner is_left begins none is_shown within runs shown_so =
     let is : first ≡ (tree, made.1) = is_first ∙ ap (λ (n : N). (n, made.1)) (is_made ∙ is_inner) in
     let begun : Begins file.cache made.1 (meaning tree) = subst (λ (n : N). Begins file.cache made.1 (meaning n)) is_inner begins in
-    let ran : RunsBatch (said_over meaning (tree, made.1) last) file 0 old new entropy spent before after lines =
-    subst (λ (v : N × Option Store). RunsBatch (said_over meaning v last) file 0 old new entropy spent before after lines) is runs in
-    let more : RunsBatch (managing_over file.cache (meaning tree) (meaning last.0)) file 0 old new entropy spent before after lines =
+    let over : (was now : Option Files) → RunsBatch (said_over meaning first last) file 0 was now entropy spent before after lines
+    → RunsBatch (managing_over file.cache (meaning tree) (meaning left)) file 0 was now entropy spent [] after lines =
+    λ was now said.
+    (let ran : RunsBatch (said_over meaning (tree, made.1) last) file 0 was now entropy spent before after lines =
+    subst (λ (v : N × Option Store). RunsBatch (said_over meaning v last) file 0 was now entropy spent before after lines) is said in
+    let more : RunsBatch (managing_over file.cache (meaning tree) (meaning last.0)) file 0 was now entropy spent before after lines =
     runs_more (tree_admits file.cache made.1 last.1 (meaning tree) (meaning last.0) begun) ran in
-    let from_none : RunsBatch (managing_over file.cache (meaning tree) (meaning last.0)) file 0 old new entropy spent [] after lines =
-    subst (λ (b : List JournalLine). RunsBatch (managing_over file.cache (meaning tree) (meaning last.0)) file 0 old new entropy spent b after lines) none more in
+    let from_none : RunsBatch (managing_over file.cache (meaning tree) (meaning last.0)) file 0 was now entropy spent [] after lines =
+    subst (λ (b : List JournalLine). RunsBatch (managing_over file.cache (meaning tree) (meaning last.0)) file 0 was now entropy spent b after lines) none more in
+    subst (λ (l : N). RunsBatch (managing_over file.cache (meaning tree) (meaning l)) file 0 was now entropy spent [] after lines) (sym is_left) from_none) in
     let limits : limits_of first.1 ≡ file.cache = ap (λ (v : N × Option Store). limits_of v.1) is ∙ begins.limits in
     record {
       journal = after;
-      runs = subst (λ (l : N). RunsBatch (managing_over file.cache (meaning tree) (meaning l)) file 0 old new entropy spent [] after lines) (sym is_left) from_none;
+      runs = over old.files new.files runs;
+      shown = λ held. over (Some held) (shown_files held old new) (shown_so held);
       within = subst (λ (j : List JournalLine). KeepsWithin file.cache j) is_shown (subst (λ (l : Option LimitsValue). KeepsWithin l shown) limits within);
     }
 

@@ -1,17 +1,20 @@
 -- What `list` comes to of an input that is read as armour text, by how the listing of what the text
 -- gives ended, and by the text's end.
-use Rattle.std.proofs.Common.{◌≡◌, ◌∙◌, ℕ, Bool, true, false, List, Option, Some, None, Ok, Err, refl, sym, ap, subst, arith, inl, inr}
+use Rattle.std.proofs.Common.{◌≡◌, ◌∙◌, ℕ, Bool, true, false, List, [], Option, Some, None, Ok, Err, refl, sym, ap, subst, arith, inl, inr}
 use Rattle.std.specs.Prelude.{IfErr, OnOk, ◌≢◌}
 use Rattle.std.specs.declared.result.Result.{Result}
 use Rattle.esdk_fields.specs.declared.faults.Fault.{Fault}
 use Rattle.esdk_fields.specs.declared.faults.Fault.TheVariants.{BadArmour, Truncated}
 use Rattle.esdk_fields.specs.declared.refusals.Outside.TheVariants.{InputTooLong, SourceFault}
 use Rattle.esdk_fields.specs.Place.{start}
+use Rattle.esdk_fields.specs.Reading.{Wanting}
 use Rattle.esdk_base.specs.Streams.{OnTold, SinkState, SourceState}
 use Rattle.header_codec.specs.Header.{HeaderValue}
+use Rattle.header_codec.specs.Table.{header, opening}
 use Rattle.header_input.specs.Taking.{EndCame}
 use Rattle.esdk_decrypt.specs.declared.errors.DecryptError.{DecryptError}
-use Rattle.esdk_list.specs.List.{BeginsWithHeader, HasFault, IsListCause, LeavesOutput, Lists, fault_at_end, input_fault, limits_of}
+use Rattle.whole_input.proofs.Coming.{came_none}
+use Rattle.esdk_list.specs.List.{BeginsWithHeader, HasFault, HasNoMemory, IsListCause, LeavesOutput, Lists, fault_at_end, input_fault, limits_of}
 use Rattle.esdk_report.specs.declared.failure.Failure.{Failure}
 use Rattle.esdk_report.specs.declared.failure.Failure.TheVariants as failures
 use Rattle.esdk_run.specs.Failures.{decryption_failure}
@@ -26,6 +29,20 @@ use Rattle.esdk_run.proofs.Unarmouring.{IsOfBytes, ReadsOver, judged_sound, of_t
 
 never_format : (fault : Fault) (f : Fault) → is_format fault ≡ false → f ≡ fault → is_format f ≡ true → ⊥
 never_format fault f kind same is = let both : false ≡ true = sym kind ∙ subst (λ (g : Fault). is_format g ≡ true) same is in cc both
+
+-- before the first byte, bytes are wanted
+wanting_first : (uncommitted : Bool) → header (limits_of uncommitted) (start []) ≡ Wanting
+unfolding header opening
+wanting_first uncommitted = refl
+
+-- Nothing came, and memory ran out.
+pub lists_nothing : (uncommitted : Bool) (input : SourceState) → HasNoMemory uncommitted input input
+lists_nothing uncommitted input = inl (record {
+  bytes = [];
+  came = came_none input;
+  last = record { before = []; piece = []; all = refl; few = omega arith; was = wanting_first uncommitted };
+  faults = refl;
+})
 
 -- M10 is that the input ended
 cut_came : (uncommitted : Bool) (seen read : SourceState) → HasFault uncommitted Truncated seen read → EndCame (limits_of uncommitted) seen read

@@ -1,8 +1,7 @@
 -- The ages of the entries of a batch's cache: they are those of the clock.
-use Rattle.std.specs.Prelude.{◌≡◌, ◌⊎◌, ℕ, List, [], length, Option}
+use Rattle.std.specs.Prelude.{◌≡◌, ◌⊎◌, ℕ, List, [], length}
 use Rattle.std.specs.Io.KnownBytes.{Appends}
-use Rattle.esdk_base.specs.Clock.{Moments}
-use Rattle.esdk_base.specs.Streams.{ShelfState, SinkState}
+use Rattle.esdk_base.specs.Streams.{ClockState, ShelfState, SinkState}
 use Rattle.keyring_trait.specs.declared.journal.JournalLine.{JournalLine}
 use Rattle.cmm_caching.specs.Journal.{KeepsWithin}
 use Rattle.job_file.specs.JobFile.{JobFile}
@@ -15,7 +14,7 @@ use Rattle.esdk_run.specs.Batch.{JobsAre}
 -- The report has a line for each job, and there is a journal of what was served. It is within the
 -- limits of the file's cache; its answers are those of the report's lines, each once; and the
 -- moments of its lines are, in order, among those that the clock gave.
-pub record ServesInTime (file : JobFile) (clock ticked : Option Moments) (lines : List JobLine)
+pub record ServesInTime (file : JobFile) (clock ticked : ClockState) (lines : List JobLine)
     : Type 0 where
   pub each : length lines ≡ length file.jobs
   pub journal : List JournalLine
@@ -24,7 +23,7 @@ pub record ServesInTime (file : JobFile) (clock ticked : Option Moments) (lines 
   pub moments : ReadsClock clock ticked [] journal
 
 -- So the jobs were served of the file of this name.
-pub record ServesFileInTime (name : List ℕ) (shelf : ShelfState) (clock ticked : Option Moments)
+pub record ServesFileInTime (name : List ℕ) (shelf : ShelfState) (clock ticked : ClockState)
     (lines : List JobLine) : Type 0 where
   pub file : JobFile
   pub between : ShelfState
@@ -33,13 +32,13 @@ pub record ServesFileInTime (name : List ℕ) (shelf : ShelfState) (clock ticked
 
 -- The output gained the report of jobs that were served so.
 pub record ShowsAges (name : List ℕ) (shelf : ShelfState) (output put : SinkState)
-    (clock ticked : Option Moments) : Type 0 where
+    (clock ticked : ClockState) : Type 0 where
   pub lines : List JobLine
   pub gained : Appends output.written put.written (report_of lines)
   pub serves : ServesFileInTime name shelf clock ticked lines
 
 -- so it is, where the batch was run and reported
-abbrev pub KeepsAges : List ℕ → ShelfState → SinkState → SinkState → Option Moments
-    → Option Moments → ℕ → Type 0
+abbrev pub KeepsAges : List ℕ → ShelfState → SinkState → SinkState → ClockState
+    → ClockState → ℕ → Type 0
 KeepsAges name shelf output put clock ticked code =
     (code ≡ 0) ⊎ (code ≡ 7) → ShowsAges name shelf output put clock ticked

@@ -3,6 +3,7 @@ use Rattle.std.specs.Prelude.{◌≡◌, ◌⊎◌, ℕ, List, [], Some, is_some
 use Rattle.std.specs.List.{list_all}
 use Rattle.std.specs.Io.KnownBytes.{Appends}
 use Rattle.esdk_base.specs.Receiver.{SinkFails}
+use Rattle.esdk_base.specs.Shelf.{Files}
 use Rattle.esdk_base.specs.Streams.{EntropyState, ShelfState, SinkState}
 use Rattle.esdk_fields.specs.declared.refusals.FileRefusal.{FileRefusal}
 use Rattle.esdk_fields.specs.declared.refusals.Outside.TheVariants as outsides
@@ -15,6 +16,8 @@ use Rattle.batch_report.specs.declared.job_lines.JobLine.{JobLine}
 use Rattle.batch_report.specs.BatchReport.{is_done, report_of}
 use Rattle.esdk_batch.specs.Batch.{OnlyWritten, RunsBatch}
 use Rattle.esdk_batch.specs.Failures.{CountsFailures, tally_of}
+use Rattle.esdk_batch.specs.ShelfCalls.{AreFinished}
+use Rattle.esdk_batch.specs.Watching.{shown_files}
 use Rattle.keyring_trait.specs.Saying.{Saying}
 use Rattle.esdk_report.specs.declared.failure.Failure.{Failure}
 use Rattle.esdk_report.specs.declared.failure.Failure.TheVariants as failures
@@ -58,17 +61,21 @@ pub record HasNoJobs (trees : Trees) (name : List ℕ) (old new : ShelfState) (f
 
 -- ---- what is run
 
--- The jobs had their turns over this manager, and this is said of them. The journal of what it
--- served is within the limits of the file's cache.
+-- The jobs had their turns over this manager, and this is said of them: of the files that the shelf
+-- tells; and of any files as its calls show them, where each read agrees with them. The journal of
+-- what it served is within the limits of the file's cache.
 pub record RunsWithin (manager : Saying) (file : JobFile) (old new : ShelfState) (entropy spent : EntropyState) (lines : List JobLine) : Type 0 where
   pub journal : List JournalLine
-  pub runs : RunsBatch manager file 0 old new entropy spent [] journal lines
+  pub runs : RunsBatch manager file 0 old.files new.files entropy spent [] journal lines
+  pub shown : (held : Files) → RunsBatch manager file 0 (Some held) (shown_files held old new)
+      entropy spent [] journal lines
   pub within : KeepsWithin file.cache journal
 
 -- The job file and the keyring file were read, what is left of the tree is given back, and the jobs
 -- had their turns over it. `read` is the shelf once both files were read; it tells its files at the
 -- end where it did then. Each line that says that the shelf, the entropy or a keyring failed is a
--- failure more that it counted, but where the shelf tells that the job's file isn't there.
+-- failure more that it counted, but where the shelf tells that the job's file isn't there. The file
+-- of each job was finished, unless the shelf failed and the job isn't done.
 pub record RunsJobFile (trees : Trees) (name : List ℕ) (old new : ShelfState) (entropy spent : EntropyState) (lines : List JobLine) : Type 0 where
   pub file : JobFile
   pub tree : KeyringMeaning
@@ -78,7 +85,9 @@ pub record RunsJobFile (trees : Trees) (name : List ℕ) (old new : ShelfState) 
   pub kept : trees.kept ≡ Some left
   pub goes : TreeOutlasts file.cache tree left
   pub runs : RunsWithin (managing_over file.cache tree left) file read new entropy spent lines
+  pub others : OnlyWritten file.jobs read.files new.files
   pub told : is_some new.files ≡ is_some read.files
+  pub finished : AreFinished file.jobs read new lines
   pub failures : CountsFailures file.jobs (tally_of read entropy.faults tree.faults) (tally_of new spent.faults left.faults) lines
 
 -- The keyring file was read as a tree, of which this is left.

@@ -1,5 +1,5 @@
 -- What the command `extract` comes to.
-use Rattle.std.specs.Prelude.{◌≡◌, ◌⊎◌, ℕ, ◌≤◌, ◌+◌, List, false, None, Err}
+use Rattle.std.specs.Prelude.{◌≡◌, ◌⊎◌, ℕ, ◌≤◌, ◌+◌, List, false, None}
 use Rattle.esdk_args.specs.declared.request.DecryptWords.{DecryptWords}
 use Rattle.esdk_args.specs.declared.request.ExtractWords.{ExtractWords}
 use Rattle.esdk_base.specs.Streams.{ShelfState}
@@ -14,7 +14,7 @@ use Rattle.whole_input.specs.FileReads.{Grows}
 use Rattle.extract_core.specs.declared.errors.ExtractError.{ExtractError}
 use Rattle.extract_core.specs.declared.errors.ExtractError.TheVariants as errors
 use Rattle.extract_core.specs.Extracted.{ByteRange}
-use Rattle.extract_core.specs.Extract.{ExtractEnds, Extracts, OnFile, UnlessMemory, most_read, range_of}
+use Rattle.extract_core.specs.Extract.{ExtractEnds, Extracts, OnFile, most_read, range_of}
 use Rattle.esdk_report.specs.declared.failure.Failure.{Failure}
 use Rattle.esdk_report.specs.declared.failure.Failure.TheVariants as failures
 use Rattle.esdk_run.specs.Decrypt.{decrypt_asked, reader_of}
@@ -83,7 +83,7 @@ pub record ExtractionFails (trees : Trees) (asked : ExtractWords) (before after 
   pub ended : ExtractEnds (extract_asked asked tree_for.given tree_for.tree tree_for.left) (range_asked asked)
       tree_for.middle after.shelf asked.from before.output after.output unwritten error
   pub grown : Grows tree_for.middle.calls after.shelf.calls
-  pub reads : UnlessMemory {T = ℕ} (Err error) (ReadsOfFile asked tree_for.middle after.shelf)
+  pub reads : ReadsOfFile asked tree_for.middle after.shelf
 
 -- Why a range wasn't extracted, and what that left. Want of memory is free.
 abbrev pub ExtractFails : Trees → ExtractWords → Objects → Objects → Unchanged → Failure → Type 0

@@ -1,25 +1,40 @@
--- What `extract` and `audit` made of the files that came, once they are done. The shelf's calls
--- tell what its reads gave, so that this is said of real files as of those in memory: a file that
--- is changed while it is read is what was read.
-use Rattle.std.specs.Prelude.{◌≡◌, ◌⊎◌, ℕ, List, Some, Ok, true}
+-- What `extract`, `audit` and `batch` made of the files that came, once they are done. The calls of
+-- the shelf tell what its reads gave, so that this is said of real files as of those in memory: a
+-- file that is changed while it is read is what was read, and where two reads don't agree nothing is
+-- said.
+use Rattle.std.specs.Prelude.{◌≡◌, ◌⊎◌, ℕ, List, ◌++◌, Some, Ok, true}
+use Rattle.std.specs.List.{concat}
 use Rattle.esdk_args.specs.declared.request.ExtractWords.{ExtractWords}
 use Rattle.esdk_fields.specs.Counts.{Stayed}
-use Rattle.esdk_base.specs.Streams.{ShelfState}
+use Rattle.std.specs.Io.KnownBytes.{Appends}
+use Rattle.esdk_base.specs.Shelf.{Files}
+use Rattle.esdk_base.specs.Streams.{EntropyState, ShelfState}
 use Rattle.context_codec.specs.Context.{KeyValue}
 use Rattle.keyring_trait.specs.Keyring.{KeyringMeaning}
+use Rattle.keyring_trait.specs.Saying.{Saying}
 use Rattle.keyring_trait.specs.Wrapping.{WrapKeyValue}
 use Rattle.job_file.specs.AuditFile.{AuditFile}
 use Rattle.job_file.specs.Audit.{audit_of}
+use Rattle.job_file.specs.declared.job.Job.{Job}
+use Rattle.job_file.specs.JobFile.{JobFile}
+use Rattle.job_file.specs.Jobs.{jobs_of}
 use Rattle.whole_input.specs.FileReads.{Grows, IsReadAs, ReadsWhole}
 use Rattle.audit_core.specs.Laws.{told_by}
 use Rattle.audit_core.specs.MessageFiles.{HaveCome}
 use Rattle.audit_core.specs.Messages.{Message}
+use Rattle.batch_report.specs.declared.job_lines.JobLine.{JobLine}
+use Rattle.batch_report.specs.BatchReport.{report_of}
+use Rattle.esdk_batch.specs.Batch.{AllCome}
+use Rattle.esdk_batch.specs.ShelfCalls.{AreFinished}
+use Rattle.esdk_batch.specs.Watching.{shown_files}
 use Rattle.esdk_decrypt.specs.Told.{Reader}
 use Rattle.esdk_run.specs.AuditTold.{ShowsOpeners}
+use Rattle.esdk_run.specs.Batch.{status_of}
 use Rattle.esdk_run.specs.Extract.{extract_reader}
 use Rattle.esdk_run.specs.ExtractTold.{GainsRange, NamesExtractFault}
 use Rattle.esdk_run.specs.Objects.{Objects}
 use Rattle.esdk_run.specs.Pairs.{context_in}
+use Rattle.esdk_run.specs.Serving.{managing_over}
 use Rattle.esdk_run.specs.Trees.{Trees}
 use Rattle.esdk_run.specs.WhatCame.{TreeCame}
 
@@ -90,3 +105,43 @@ pub record AuditedWhatCame (trees : Trees) (name : List ℕ) (before after : Obj
 abbrev pub AuditsIfDone : Trees → (name : List ℕ) → Objects → Objects → ℕ → Type 0
 AuditsIfDone trees name before after code =
     (code ≡ 0) ⊎ (code ≡ 7) → AuditedWhatCame trees name before after code
+
+-- ---- `batch`
+
+-- Where the reads between two moments of the shelf agree with these files, each job comes to what
+-- is said of it: what it reads is what they hold, what it writes is what the calls made of it, and
+-- what the jobs drew, one behind another, is just what was drawn.
+pub record ComeToWhatIsShown (manager : Saying) (jobs : List Job) (old new : ShelfState)
+    (entropy spent : EntropyState) (held : Files) (lines : List JobLine) : Type 0 where
+  pub draws : List (List ℕ)
+  pub drawn : spent.drawn ≡ entropy.drawn ++ concat draws
+  pub come : AllCome manager (Some held) (shown_files held old new) jobs draws lines
+
+-- The calls of the shelf read the job file, and then the keyring file that it names. From then on
+-- each call read what a job reads, or made what a job writes, appended to it or finished it; and
+-- the file of each job was finished once, for those who may read it, behind all that was written
+-- into it, or the shelf failed while the jobs ran and the job isn't done. Of any files that agree
+-- with what each of these reads gave, each job comes to what is said of it, its own file being what
+-- was appended to it since it was made. The output gained the report of these lines.
+pub record BatchedWhatCame (trees : Trees) (name : List ℕ) (before after : Objects) (code : ℕ)
+    : Type 0 where
+  pub bytes : List ℕ
+  pub file : JobFile
+  pub between : ShelfState
+  pub read : ReadsWhole name before.shelf.calls between.calls bytes
+  pub is : jobs_of bytes name ≡ Ok file
+  pub tree : KeyringMeaning
+  pub left : KeyringMeaning
+  pub middle : ShelfState
+  pub keyring : TreeCame trees file.keyring between middle tree
+  pub lines : List JobLine
+  pub jobs : (held : Files) → ComeToWhatIsShown (managing_over file.cache tree left) file.jobs
+      middle after.shelf before.entropy after.entropy held lines
+  pub finished : AreFinished file.jobs middle after.shelf lines
+  pub gained : Appends before.output.written after.output.written (report_of lines)
+  pub status : code ≡ status_of lines
+
+-- `batch` that is reported, at status 0 or 7, ran the jobs that came.
+abbrev pub BatchesIfRun : Trees → (name : List ℕ) → Objects → Objects → ℕ → Type 0
+BatchesIfRun trees name before after code =
+    (code ≡ 0) ⊎ (code ≡ 7) → BatchedWhatCame trees name before after code

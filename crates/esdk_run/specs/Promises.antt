@@ -1,15 +1,14 @@
 -- What a run of the program promises, command by command. The whole course of a run, with each
 -- failure and what it leaves, is `RunsAs` of Run.antt; what stands here follows from that and says
 -- it in a user's words.
-use Rattle.std.specs.Prelude.{◌≡◌, ℕ, ◌+◌, ◌≤◌, ◌^◌, false, Option, Result, Ok}
+use Rattle.std.specs.Prelude.{◌≡◌, ℕ, ◌+◌, ◌≤◌, ◌^◌, false, Result, Ok}
 use Rattle.esdk_args.specs.declared.request.Request.{Request}
 use Rattle.esdk_args.specs.declared.request.Request.TheVariants as requests
 use Rattle.esdk_args.specs.declared.request.WordsFault.{WordsFault}
-use Rattle.esdk_base.specs.Clock.{Moments}
-use Rattle.esdk_base.specs.Streams.{OnTold}
+use Rattle.esdk_base.specs.Streams.{ClockState, OnTold}
 use Rattle.esdk_list.specs.List.{input_fault}
 use Rattle.esdk_run.specs.Ages.{KeepsAges}
-use Rattle.esdk_run.specs.FilesCame.{AuditsIfDone, ExtractsIfDone, NamesIfFault}
+use Rattle.esdk_run.specs.FilesCame.{AuditsIfDone, BatchesIfRun, ExtractsIfDone, NamesIfFault}
 use Rattle.esdk_run.specs.ExtractTold.{ExtractsOfContent, ExtractsSoundRanges, ReadsNoMore}
 use Rattle.esdk_run.specs.ExtractTold.{SaysWhatItExtracts}
 use Rattle.esdk_run.specs.AuditTold.{AuditsWhatIsHeld, SaysTheOpeners}
@@ -36,15 +35,14 @@ Words = Result Request WordsFault
 abbrev pub On : {A : Type 0} → (A → Request) → Words → (A → Type 0) → Type 0
 On {A} command words So = (asked : A) → words ≡ Ok (command asked) → So asked
 
--- The clock of a run: the moments that it tells before and after, and what says that it is as
--- before.
+-- The clock of a run: what it tells before and after, and what says that it is as before.
 pub record Ticks : Type 1 where
-  pub before : Option Moments
-  pub after : Option Moments
+  pub before : ClockState
+  pub after : ClockState
   pub same : Type 0
 
 -- of these
-abbrev pub ticks : Option Moments → Option Moments → Type 0 → Ticks
+abbrev pub ticks : ClockState → ClockState → Type 0 → Ticks
 ticks before after same = record { before = before; after = after; same = same }
 
 -- What a run with these words promises, which began with these objects, left those, and ended with
@@ -115,6 +113,11 @@ pub record Promises (trees : Trees) (words : Words) (before after : Objects)
   -- are, in order, among those that the clock gave.
   pub ages : On requests.Batch words (λ name.
       KeepsAges name before.shelf before.output after.output time.before time.after code)
+  -- `batch`: over any objects, once it is reported, of any files that agree with what the reads gave
+  -- each job comes to what is said of it. Behind the job file and the keyring file the shelf was
+  -- called for the files of the jobs alone; the file of each job was finished once, for those who may
+  -- read it, behind all that was written into it, or the shelf failed and the job isn't done.
+  pub batched : On requests.Batch words (λ name. BatchesIfRun trees name before after code)
   -- `batch`: however it ends, no file changed but those that jobs write.
   pub others : On requests.Batch words (λ name. KeepsOtherFiles name before.shelf after.shelf)
   -- `batch`: jobs that the shelf tells are run and reported, unless memory runs out or an object

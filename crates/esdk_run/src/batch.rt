@@ -4,6 +4,7 @@ ghost use Rattle.esdk_base.specs.Streams.{SinkState, SourceState};
 ghost use Rattle.batch_report.specs.BatchReport.{report_of};
 ghost use Rattle.esdk_batch.specs.Batch.{OnlyWritten};
 ghost use Rattle.esdk_batch.specs.Failures.{CountsFailures, tally_of};
+ghost use Rattle.esdk_batch.specs.ShelfCalls.{AreFinished};
 ghost use Rattle.esdk_run.specs.Ages.{KeepsAges, ServesFileInTime, ServesInTime, ShowsAges};
 ghost use Rattle.esdk_run.specs.Batch.{BatchFails, JobsAre, JobsFail, RunsJobFile, RunsWithin, WritesReport, jobs_in, status_of};
 ghost use Rattle.esdk_run.specs.FileReading.{FileFails, ReadCause};
@@ -58,7 +59,7 @@ pub fn run_batch<P: Keyring, O: Sink, R: Sink, F: Shelf, W: Entropy, C: Clock>(
         (as_before ⊤ (output.new ≡ output.old) (shelf.new ≡ shelf.old) (entropy.new ≡ entropy.old))
         result.status.code }
     ensures ages { KeepsAges name.now (F.state shelf.old) (O.state output.old) (O.state output.new)
-        (C.moments clock.old) (C.moments clock.new) result.status.code }
+        (C.state clock.old) (C.state clock.new) result.status.code }
 {
     let Outcome { ended, tree } = batch_jobs(
         alloc,
@@ -103,7 +104,7 @@ fn batch_jobs<P: Keyring, O: Sink, F: Shelf, W: Entropy, C: Clock>(
         (objects input (O.state output.new) (F.state shelf.new) (W.state entropy.new) reported)
         (output.new ≡ output.old) (entropy.new ≡ entropy.old)) }
     ensures ages { IfOk result.ended (λ _. ShowsAges name.now (F.state shelf.old)
-        (O.state output.old) (O.state output.new) (C.moments clock.old) (C.moments clock.new)) }
+        (O.state output.old) (O.state output.new) (C.state clock.old) (C.state clock.new)) }
 {
     let Outcome { ended, tree } = run_job_file(alloc, name, shelf, entropy, clock, plugs);
     let report = match ended {
@@ -165,7 +166,7 @@ fn run_job_file<P: Keyring, F: Shelf, W: Entropy, C: Clock>(
         (JobsFail (trees_of P.meaning plugs.items result.tree) name.now
         (F.state shelf.old) (F.state shelf.new) (entropy.new ≡ entropy.old)) }
     ensures ages { IfOk result.ended (ServesFileInTime name.now (F.state shelf.old)
-        (C.moments clock.old) (C.moments clock.new)) }
+        (C.state clock.old) (C.state clock.new)) }
 {
     let jobs = match read_job_file(alloc, shelf, name) {
         Ok(jobs) => jobs,
@@ -229,13 +230,15 @@ fn run_over<K: Keyring, F: Shelf, W: Entropy, C: Clock>(
         (managing_over jobs.now.cache (K.meaning tree) (K.meaning outcome.tree)) jobs.now
         (F.state shelf.old) (F.state shelf.new) (W.state entropy.old) (W.state entropy.new))) }
     ensures ages { IfOk result (λ outcome. IfOk outcome.ended
-        (ServesInTime jobs.now (C.moments clock.old) (C.moments clock.new))) }
+        (ServesInTime jobs.now (C.state clock.old) (C.state clock.new))) }
     ensures goes { IfOk result (λ outcome.
         TreeOutlasts jobs.now.cache (K.meaning tree) (K.meaning outcome.tree)) }
     ensures failures { IfOk result (λ outcome. IfOk outcome.ended (CountsFailures jobs.now.jobs
         (tally_of (F.state shelf.old) (W.state entropy.old).faults (K.meaning tree).faults)
         (tally_of (F.state shelf.new) (W.state entropy.new).faults
         (K.meaning outcome.tree).faults))) }
+    ensures finished { IfOk result (λ outcome. IfOk outcome.ended
+        (AreFinished jobs.now.jobs (F.state shelf.old) (F.state shelf.new))) }
     ensures others { OnlyWritten jobs.now.jobs (F.state shelf.old).files (F.state shelf.new).files }
     ensures told { is_some (F.state shelf.new).files ≡ is_some (F.state shelf.old).files }
 {

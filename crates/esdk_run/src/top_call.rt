@@ -81,7 +81,7 @@ pub fn run<P: Keyring, S: Source, O: Sink, R: Sink, F: Shelf, W: Entropy, C: Clo
         (W.state entropy.new) (R.state report.new))
         (as_before (input.new ≡ input.old) (output.new ≡ output.old)
         (shelf.new ≡ shelf.old) (entropy.new ≡ entropy.old))
-        (ticks (C.moments clock.old) (C.moments clock.new) (clock.new ≡ clock.old))
+        (ticks (C.state clock.old) (C.state clock.new) (clock.new ≡ clock.old))
         result.status.code }
 {
     match read_words(alloc, words) {

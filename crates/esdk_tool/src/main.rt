@@ -8,13 +8,13 @@
 //! ones, calls it, and ends with its status.
 #![tactic(auto)]
 
-ghost use Rattle.std.specs.Prelude.{◌≡◌, ◌<◌, ◌^◌, length, IfOk, None};
+ghost use Rattle.std.specs.Prelude.{◌≡◌, ◌<◌, ◌^◌, length, IfOk};
 ghost use Rattle.esdk_args.specs.Words.{words_of};
 ghost use Rattle.esdk_run.specs.Objects.{as_before};
 ghost use Rattle.esdk_run.specs.Promises.{Promises, ticks};
 ghost use Rattle.esdk_run.specs.Run.{RunsAs};
 ghost use Rattle.esdk_run.specs.Trees.{trees_of};
-ghost use Rattle.esdk_tool.specs.RealObjects.{real_objects};
+ghost use Rattle.esdk_tool.specs.RealObjects.{real_clock, real_objects};
 
 use esdk_base::{Shelf, Sink};
 use esdk_fields::{Outside, Text};
@@ -88,8 +88,9 @@ fn run_words<R: Sink>(rt: HostRuntime, report: &mut R) -> Result<Status, Failure
 }
 
 /// Runs the program over the real objects. Its clauses are those of `run` over just their types:
-/// what it made of the bytes that standard input gave, of those that the reads of files gave, and
-/// of those that the generator gave, on what standard output took.
+/// what it made of the bytes that standard input gave, of those that the reads of files gave, of
+/// those that the generator gave, and of the moments that the clock gave, on what standard output
+/// took and in the calls of the shelf.
 fn run_over<P: Keyring, R: Sink>(
     alloc: Global,
     words: &[Text],
@@ -112,7 +113,7 @@ fn run_over<P: Keyring, R: Sink>(
         (real_objects input.new output.new shelf.new entropy.new (R.state report.new))
         (as_before (input.new ≡ input.old) (output.new ≡ output.old)
         (shelf.new ≡ shelf.old) (entropy.new ≡ entropy.old))
-        (ticks None None (clock.new ≡ clock.old)) result.status.code }
+        (ticks (real_clock clock.old) (real_clock clock.new) (clock.new ≡ clock.old)) result.status.code }
 {
     run(
         alloc, words, input, output, report, shelf, entropy, clock, plugs,

@@ -23,11 +23,12 @@ returns-clause-runs g c =
     c.new-desk.ensures.stands.journal c.journal-journal.ensures.journal
     (c.run_batch-ended.ensures.went.limits c.journal-journal.result.now (c.journal-journal.ensures.within (c.run_batch-ended.ensures.bears c.new-desk.ensures.bears)))
     (c.run_batch-ended.ensures.runs empty_desk c.new-desk.ensures.stands)
+    (λ held. c.run_batch-ended.ensures.shown held empty_desk c.new-desk.ensures.stands)
 
 pub returns-clause-ages : goal.returns-clause-ages
 returns-clause-ages g c =
-    serves_in_time _ c.args.jobs.now (g.F.Shelf.state c.args.shelf.now) (g.F.Shelf.state c.run_batch-ended.new.shelf) (g.W.Entropy.state c.args.entropy.now) (g.W.Entropy.state c.run_batch-ended.new.entropy)
-    c.new-desk.result.journal.items c.run_batch-ended.new.desk.journal.items c.journal-journal.result.now (g.C.Clock.moments c.args.clock.now) (g.C.Clock.moments c.run_batch-ended.new.clock)
+    serves_in_time _ c.args.jobs.now (g.F.Shelf.state c.args.shelf.now).files (g.F.Shelf.state c.run_batch-ended.new.shelf).files (g.W.Entropy.state c.args.entropy.now) (g.W.Entropy.state c.run_batch-ended.new.entropy)
+    c.new-desk.result.journal.items c.run_batch-ended.new.desk.journal.items c.journal-journal.result.now (g.C.Clock.state c.args.clock.now) (g.C.Clock.state c.run_batch-ended.new.clock)
     (limits_of c.new-desk.result.manager.1) c.run_batch-ended.result c.new-desk.ensures.stands.journal c.journal-journal.ensures.journal
     (ap (λ (v : g.row.K.Denot × Option Store). limits_of v.1) c.new-desk.ensures.manager ∙ c.in_ok-manager.ensures.limits ∙ c.cache.ensures)
     (c.run_batch-ended.ensures.went.limits c.journal-journal.result.now (c.journal-journal.ensures.within (c.run_batch-ended.ensures.bears c.new-desk.ensures.bears)))

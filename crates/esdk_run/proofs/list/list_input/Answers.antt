@@ -1,7 +1,7 @@
 -- The input is read as armour text, and its end is judged where its bytes end within a header.
 use Rattle.std.proofs.Common.{◌∙◌, ap, refl, sym}
 use Rattle.esdk_run.specs.UnarmouredList.{wants_header}
-use Rattle.esdk_run.proofs.UnarmouredListing.{listed_text, text_refused, text_undone}
+use Rattle.esdk_run.proofs.UnarmouredListing.{listed_text, lists_nothing, text_refused, text_undone}
 use Rattle.esdk_run.proofs.Unarmouring.{reads_over, unread_text}
 use Rattle.esdk_run.proofs.list.list_input.Goals as goal
 
@@ -9,7 +9,7 @@ use Rattle.esdk_run.proofs.list.list_input.Goals as goal
 
 pub returns-in_default-clause-ends : goal.returns-in_default-clause-ends
 returns-in_default-clause-ends g c =
-    rw c.if-not-armour.false (unread_text (g.S.Source.state c.args.input.now) _ (λ seen. (tt, refl)))
+    rw c.if-not-armour.false (unread_text (g.S.Source.state c.args.input.now) _ (λ seen. (lists_nothing c.args.uncommitted seen, refl)))
 
 -- ---- the text's end says nothing else
 
