@@ -1,7 +1,7 @@
 /* esdk.h: a sealer and opener of the AWS Encryption SDK message format, for callers of another
- * language. Messages of format 2.0 are sealed and opened, messages of format 1.0 opened. The
- * sessions below the exports are proved; which exports are, and which are tested alone, stands in
- * docs/PROOFS.md.
+ * language. Messages of format 2.0 are sealed and opened, messages of format 1.0 opened. What each
+ * export answers is proved (docs/PROOFS.md); this page, its inline functions and what a caller owes
+ * are not.
  *
  *     esdk_handle handle = ESDK_INIT;
  *     esdk_new(&handle, file, file_len);              the keyring file's bytes
@@ -37,11 +37,12 @@
  * bytes. A room is never too small: what has no room in it waits.
  *
  * WHAT COUNTS. Text of a message that is opened is handed out once its frame's tag was found right,
- * and before the end of the message was seen. So it counts only once esdk_finish answered ESDK_OK:
- * throw away what was handed out where any call before answered an error. Compare the context
- * (esdk_pair_key, esdk_pair_value) with what you expect before you use the text: a message of
- * another context under the same key opens as well. What is handed out while a message is sealed
- * is a message only once esdk_finish answered ESDK_OK and nothing waits any more.
+ * and before the end of the message was seen. So it counts only once esdk_finish or esdk_whole
+ * answered ESDK_OK: throw away what was handed out where any call before answered an error
+ * (esdk_whole hands nothing out at one). Compare the context (esdk_pair_key, esdk_pair_value) with
+ * what you expect before you use the text: a message of another context under the same key opens as
+ * well. What is handed out while a message is sealed is a message only once esdk_finish or
+ * esdk_whole answered ESDK_OK and nothing waits any more.
  *
  * CODES. 0 is done. A code is family * 1000 + number. The families are the exit statuses of the
  * program `esdk`, and the numbers those of its lines:
@@ -184,7 +185,8 @@ int32_t esdk_open(esdk_handle *handle, uint16_t max_keys, uint64_t max_unit, boo
  *
  * Each of these calls hands out, into the room, as many of the bytes that wait as it has room for,
  * in order. *written is how many these are, and *waits how many still wait behind them, in memory
- * of the library. At a code of family 2 *written is 0, and *waits is how many wait. */
+ * of the library. At a code of family 2 nothing is handed out: *written is 0, the room is as it was,
+ * and *waits is how many wait. */
 
 /* Takes the whole piece, of any length. Of a message that is sealed, a frame is handed out once more
  * bytes come than it has room for; of one that is opened, a frame's text once its last byte came and
@@ -206,6 +208,16 @@ int32_t esdk_feed(esdk_handle *handle, const uint8_t *piece, size_t piece_len, u
  * ESDK_NO_SESSION; ESDK_ENDED; ESDK_NOT_NOW as esdk_feed. 1010: more bytes are wanted. ESDK_MEMORY. */
 int32_t esdk_finish(esdk_handle *handle, uint8_t *room, size_t room_len, size_t *written,
                     size_t *waits);
+
+/* The rest of a message at once: esdk_feed with all of it, and then esdk_finish. At ESDK_OK it hands
+ * out, and all is there where *waits is 0. At any other code it hands nothing out: the room is as it
+ * was, *written is 0, and what the calls would have handed out waits, which esdk_take hands out;
+ * none of it counts. Text has no room of more than its message's length; a message of n bytes of
+ * text has at the most its header and 40 bytes for each frame.
+ *
+ * The codes of esdk_feed and of esdk_finish. */
+int32_t esdk_whole(esdk_handle *handle, const uint8_t *rest, size_t rest_len, uint8_t *room,
+                   size_t room_len, size_t *written, size_t *waits);
 
 /* Hands out of what waits. Takes nothing, and may be called in any state, as often as one likes.
  *
@@ -272,20 +284,6 @@ ESDK_LINKAGE int32_t esdk_seal(esdk_handle *handle, uint32_t frame_length, uint6
     }
     code = esdk_seal_with(handle, frame_length, length, max_keys, random, count);
     for (at = 0; at < sizeof random; at++) wiped[at] = 0;
-    return code;
-}
-
-/* The rest of a message at once: esdk_feed with all of it, and esdk_finish. *written counts at
- * ESDK_OK alone, and all is there where *waits is 0 then. Text has no room of more than its message's
- * length; a message of n bytes of text has at the most its header and 40 bytes for each frame. */
-ESDK_LINKAGE int32_t esdk_whole(esdk_handle *handle, const uint8_t *input, size_t input_len,
-                                uint8_t *room, size_t room_len, size_t *written, size_t *waits) {
-    size_t more = 0;
-    int32_t code = esdk_feed(handle, input, input_len, room, room_len, written, waits);
-    if (code == ESDK_OK) {
-        code = esdk_finish(handle, room + *written, room_len - *written, &more, waits);
-        *written += more;
-    }
     return code;
 }
 

@@ -1,3 +1,5 @@
+mod Contexts
 mod Openings
 mod Sealings
 mod Sessions
+mod Wholes

@@ -1,6 +1,7 @@
 -- A session over the tree of a keyring file, and what its calls come to.
-use Rattle.std.specs.Prelude.{◌≡◌, ◌⊎◌, ◌≤◌, ◌<◌, ℕ, ◌+◌, ◌*◌, List, [], ◌∷◌, length, Option, Some, None, Ok, Err, ⊤}
+use Rattle.std.specs.Prelude.{◌≡◌, ◌⊎◌, ◌≤◌, ◌<◌, ℕ, ◌+◌, ◌*◌, List, [], ◌∷◌, length, Option, Some, None, Ok, Err, ⊤, slice_get}
 use Rattle.esdk_fields.specs.declared.refusals.FileRefusal.TheVariants.{FileTooLong}
+use Rattle.context_codec.specs.Context.{KeyValue}
 use Rattle.cmm_default.specs.DefaultCmm.{default_now}
 use Rattle.keyring_file.specs.Found.{wraps_of}
 use Rattle.keyring_file.specs.KeyFile.{tree_of}
@@ -18,7 +19,7 @@ use Rattle.c_session.specs.declared.reason.Reason.{Reason}
 use Rattle.c_session.specs.declared.reason.Reason.TheVariants as reasons
 use Rattle.c_session.specs.declared.session.Session.{Session}
 use Rattle.c_session.specs.Reason.{code_of}
-use Rattle.c_session.specs.Session.{HandsOutOf, IsFresh}
+use Rattle.c_session.specs.Session.{HandsOutOf, IsFresh, TellsContext}
 
 -- the tree of raw keys that a file describes
 abbrev pub Tree : Type 0
@@ -91,3 +92,21 @@ drawn_by (kepts.Read s) = 64 + 12 * (file_state s.manager.0).meaning.wraps
 abbrev pub first_answer : Kept → Answer
 first_answer (kepts.Refused reason) = answers.Failed
 first_answer (kepts.Read s) = answers.Done
+
+-- ---- the whole context
+
+-- this is the whole context, where a message is opened and its header was unlocked
+abbrev pub ShowsContext : Kept → Option (List KeyValue) → Type 0
+ShowsContext (kepts.Refused reason) context = context ≡ None
+ShowsContext (kepts.Read s) context = TellsContext s.machine context
+
+-- It is told of the whole context.
+pub record OfContext (kept : Kept) (tells : Option (List KeyValue) → Type 0) : Type 0 where
+  pub context : Option (List KeyValue)
+  pub shows : ShowsContext kept context
+  pub told : tells context
+
+-- the pair of this number, where there is one
+abbrev pub pair_at : Option (List KeyValue) → ℕ → Option KeyValue
+pair_at None index = None
+pair_at (Some pairs) index = slice_get pairs index

@@ -1,4 +1,6 @@
+pub mod Answer
 pub mod Beginning
+pub mod Limits
 pub mod Machine
 pub mod Opening
 pub mod Reason

@@ -1,5 +1,5 @@
 -- A session: one message after another, over one materials manager.
-use Rattle.std.specs.Prelude.{◌≡◌, ◌≢◌, ℕ, ◌+◌, ◌*◌, List, [], ◌++◌, length, take, drop, Bool, true, false, Option, Some, None, Result, Ok, Err}
+use Rattle.std.specs.Prelude.{◌≡◌, ◌≢◌, ◌⊎◌, ℕ, ◌+◌, ◌*◌, List, [], ◌++◌, length, take, drop, Bool, true, false, Option, Some, None, Result, Ok, Err}
 use Rattle.context_codec.specs.Context.{KeyValue}
 use Rattle.std.specs.BTreeMap.{insert_entry}
 use Rattle.std.specs.Cmp.Lexicographic.{slice_cmp}
@@ -11,11 +11,14 @@ use Rattle.keyring_trait.specs.Manager.{ManagerNow}
 use Rattle.keyring_trait.specs.Requests.{EncRequestValue}
 use Rattle.keyring_trait.specs.Saying.{said_last}
 use Rattle.stream_open.specs.declared.session.Opener.{Opener}
+use Rattle.stream_open.specs.Session.{OpeningValue, whole_context}
+use Rattle.stream_open.specs.Stands.{Stands}
 use Rattle.stream_seal.specs.declared.session.Sealer.{Sealer}
 use Rattle.body_format.specs.declared.verdicts.Verdict.TheVariants.{Whole}
 use Rattle.stream_seal.specs.Feeding.{fed}
 use Rattle.stream_seal.specs.Laws.{IsSameMessage}
 use Rattle.stream_seal.specs.Session.{SealingValue}
+use Rattle.stream_seal.specs.Start.{message_of}
 use Rattle.c_session.specs.declared.answer.Answer.{Answer}
 use Rattle.c_session.specs.declared.answer.Answer.TheVariants as answers
 use Rattle.c_session.specs.declared.machine.Machine.{Machine}
@@ -252,6 +255,42 @@ pub record Ends {M : Type 0} (state : M → ManagerNow) (old new : Session M) (a
         → OpensLast state new begun settings pairs taken given answer
     pub refused : (a : Answer) → going_answer old ≡ Some a → (answer ≡ a) × (new ≡ old)
 
+-- ---- the rest of a message at once
+
+-- What was given and what waits is the message of all of the text; or no more text was taken, or
+-- the message wasn't ended, for a reason.
+abbrev pub SealsRest : {M : Type 0} → Session M → SealingValue → List ℕ → List ℕ → Answer → Type 0
+SealsRest new v rest given answers.Done = (new.ended ≡ true)
+    × (given ++ new.waiting ≡ message_of v.materials v.size v.id (v.taken ++ rest))
+SealsRest new v rest given answers.Failed = Stopped new (λ reason.
+    ((sealer : Sealer) × SealsPiece {T = Unit {0}} v rest given sealer new.waiting (Err reason))
+    ⊎ SealsEnd {T = Unit {0}} (fed v rest) given new.waiting (Err reason))
+SealsRest new v rest given answer = ⊥
+
+-- The bytes taken and these are a whole message, and what was given and what waits is its text; or
+-- they aren't, or can't be judged, for a reason.
+abbrev pub OpensRest : {M : Type 0} → (M → ManagerNow) → Session M → M × List (List ℕ) → Settings
+    → List KeyValue → List ℕ → List ℕ → List ℕ → Answer → Type 0
+OpensRest state new begun settings pairs taken rest given answers.Done = (new.ended ≡ true)
+    × Releases (asked state) begun new.manager new.waiting settings pairs (taken ++ rest) given
+    Whole
+OpensRest state new begun settings pairs taken rest given answers.Failed = Stopped new (λ reason.
+    ((opener : Opener) × OpensPiece {T = Unit {0}} (asked state) begun new.manager opener
+    new.waiting settings pairs taken rest given (Err reason))
+    ⊎ OpensEnd {T = Unit {0}} (asked state) begun new.manager new.waiting settings pairs
+    (taken ++ rest) given (Err reason))
+OpensRest state new begun settings pairs taken rest given answer = ⊥
+
+-- The rest was fed, and then the message was ended.
+pub record EndsWith {M : Type 0} (state : M → ManagerNow) (old new : Session M) (rest : List ℕ)
+    (answer : Answer) : Type 0 where
+  pub seals : (v : SealingValue) (given : List ℕ) → SealsNow old v given
+      → SealsRest new v rest given answer
+  pub opens : (begun : M × List (List ℕ)) (settings : Settings) (pairs : List KeyValue)
+      (taken given : List ℕ) → OpensNow state old begun settings pairs taken given
+      → OpensRest state new begun settings pairs taken rest given answer
+  pub refused : (a : Answer) → going_answer old ≡ Some a → (answer ≡ a) × (new ≡ old)
+
 -- ---- what waits
 
 -- So many of the bytes that wait were handed out, to the front of the room; nothing else changed.
@@ -266,3 +305,13 @@ pub record HandsOutOf {M : Type 0} (state : M → ManagerNow) (old : Session M) 
   pub opens : (begun : M × List (List ℕ)) (settings : Settings) (pairs : List KeyValue)
       (taken given : List ℕ) → OpensNow state old begun settings pairs taken given
       → OpensNow state new begun settings pairs taken (given ++ take count old.waiting)
+
+-- ---- the whole context
+
+-- This is the whole context of the message that the opener opens, once its header was unlocked. A
+-- machine that opens none has none.
+abbrev pub TellsContext : Machine → Option (List KeyValue) → Type 0
+TellsContext machines.SetUp context = context ≡ None
+TellsContext (machines.Sealing sealer) context = context ≡ None
+TellsContext (machines.Opening opener) context =
+    (v : OpeningValue) → Stands opener v → context ≡ whole_context v

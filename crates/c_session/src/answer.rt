@@ -1,5 +1,8 @@
 //! What a call answers.
 
+ghost use Rattle.std.specs.Prelude.{◌≡◌};
+ghost use Rattle.c_session.specs.Answer.{is_callers, is_done};
+
 /// What a call of a session answers.
 #[derive(Clone, Copy)]
 pub enum Answer {
@@ -21,7 +24,16 @@ pub enum Answer {
 
 impl Answer {
     /// Whether it says that the caller may not call so, and nothing was changed.
-    pub fn is_callers(self) -> bool {
+    pub fn is_callers(self) -> bool
+        ensures { result ≡ is_callers self }
+    {
         !matches!(self, Answer::Done | Answer::Failed)
+    }
+
+    /// Whether it says that it is done.
+    pub fn is_done(self) -> bool
+        ensures { result ≡ is_done self }
+    {
+        matches!(self, Answer::Done)
     }
 }

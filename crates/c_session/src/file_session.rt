@@ -1,16 +1,19 @@
 //! A session over the tree of a keyring file: what stands behind a handle of another language.
 
-ghost use Rattle.std.specs.Prelude.{◌≡◌, ◌≤◌, length};
-ghost use Rattle.std.specs.Option.{option_copied};
-ghost use Rattle.c_session.specs.Session.{BeginsOpening, BeginsSealing, Ends, Feeds, PairsAs, RequiresAs};
-ghost use Rattle.c_session.specs.FileSession.{Again, KeepsRead, ReadsFile, TakesKept, answer_code, drawn_by, file_state, first_answer, kept_code, reason_kept, waiting_in};
+ghost use Rattle.std.specs.Prelude.{◌≡◌, ◌≤◌, IfSome, length};
+ghost use Rattle.std.specs.Option.{option_copied, option_map};
+ghost use Rattle.context_codec.specs.Fitting.{IsSized};
+ghost use Rattle.c_session.specs.Reason.{name_of};
+ghost use Rattle.c_session.specs.Telling.{ShowsIf, ShowsLine, ShowsSome};
+ghost use Rattle.c_session.specs.Session.{BeginsOpening, BeginsSealing, Ends, EndsWith, Feeds, PairsAs, RequiresAs};
+ghost use Rattle.c_session.specs.FileSession.{Again, KeepsRead, OfContext, ReadsFile, ShowsContext, TakesKept, answer_code, drawn_by, file_state, first_answer, kept_code, pair_at, reason_kept, waiting_in};
 
 use crate::answer::Answer;
 use crate::reason::Reason;
 use crate::session::Session;
 use crate::telling::show;
 use cmm_default::DefaultCmm;
-use context_codec::Context;
+use context_codec::{Context, Pair};
 use esdk_fields::FileRefusal;
 use header_codec::Settings;
 use keyring_file::{TreeError, read_tree};
@@ -167,6 +170,18 @@ impl FileSession {
         }
     }
 
+    /// Takes the rest of a text or of a message, and says that no byte follows. What that gives
+    /// waits.
+    pub fn whole(&mut self, alloc: Global, rest: &[u8]) -> Answer
+        ensures { KeepsRead self.old.kept self.new.kept result
+            (λ old new. EndsWith file_state old new rest.now result) }
+    {
+        match &mut self.kept {
+            Kept::Refused(_) => Answer::Ended,
+            Kept::Read(session) => session.whole(alloc, rest),
+        }
+    }
+
     /// Hands out of what waits, to the front of the room, and answers how many bytes.
     pub fn take(&mut self, room: &mut [u8]) -> usize
         ensures { TakesKept self.old.kept room.old result self.new.kept room.new }
@@ -209,7 +224,9 @@ impl FileSession {
 
     /// Shows the line of the reason, or its name where memory runs out; nothing where there is
     /// none.
-    pub fn show_line(&self, alloc: Global, room: &mut [u8]) -> usize {
+    pub fn show_line(&self, alloc: Global, room: &mut [u8]) -> usize
+        ensures { ShowsLine (reason_kept self.now.kept) room.old result room.new }
+    {
         let Some(reason) = self.reason() else {
             return 0;
         };
@@ -220,7 +237,10 @@ impl FileSession {
     }
 
     /// Shows the name of the reason; nothing where there is none.
-    pub fn show_name(&self, room: &mut [u8]) -> usize {
+    pub fn show_name(&self, room: &mut [u8]) -> usize
+        ensures { ShowsIf (option_map name_of (reason_kept self.now.kept)) room.old result
+            room.new }
+    {
         match self.reason() {
             Some(reason) => show(reason.name().as_bytes(), room),
             None => 0,
@@ -228,24 +248,48 @@ impl FileSession {
     }
 
     /// How many pairs the whole context has, where it is known.
-    pub fn pair_count(&self) -> Option<usize> {
+    pub fn pair_count(&self) -> Option<usize>
+        ensures counts { OfContext self.now.kept (λ context. result ≡ option_map length context) }
+        ensures few { IfSome result (λ count. count ≤ 65535) }
+    {
         Some(self.context()?.pairs().len())
     }
 
     /// Shows the key of the pair of this number, where there is one.
-    pub fn show_key(&self, index: usize, room: &mut [u8]) -> Option<usize> {
-        let pair = self.context()?.pairs().get(index)?;
+    pub fn show_key(&self, index: usize, room: &mut [u8]) -> Option<usize>
+        ensures shows { OfContext self.now.kept (λ context.
+            ShowsSome (option_map (λ pair. pair.0) (pair_at context index)) room.old result
+            room.new) }
+        ensures few { IfSome result (λ count. count ≤ 65535) }
+    {
+        let pair = self.pair_at(index)?;
         Some(show(pair.key().as_bytes(), room))
     }
 
     /// Shows the value of the pair of this number, where there is one.
-    pub fn show_value(&self, index: usize, room: &mut [u8]) -> Option<usize> {
-        let pair = self.context()?.pairs().get(index)?;
+    pub fn show_value(&self, index: usize, room: &mut [u8]) -> Option<usize>
+        ensures shows { OfContext self.now.kept (λ context.
+            ShowsSome (option_map (λ pair. pair.1) (pair_at context index)) room.old result
+            room.new) }
+        ensures few { IfSome result (λ count. count ≤ 65535) }
+    {
+        let pair = self.pair_at(index)?;
         Some(show(pair.value().as_bytes(), room))
     }
 
+    /// The pair of this number, where there is one.
+    fn pair_at(&self, index: usize) -> Option<&Pair>
+        ensures pair { OfContext self.now.kept (λ context.
+            option_copied result ≡ pair_at context index) }
+        ensures sized { IfSome result (λ pair. IsSized pair.now) }
+    {
+        self.context()?.pairs().get(index)
+    }
+
     /// The whole context of the message that is opened, once its header was unlocked.
-    pub fn context(&self) -> Option<&Context> {
+    pub fn context(&self) -> Option<&Context>
+        ensures { ShowsContext self.now.kept (option_copied result) }
+    {
         match &self.kept {
             Kept::Refused(_) => None,
             Kept::Read(session) => session.context(),
@@ -305,14 +349,5 @@ fn read(alloc: Global, file: &[u8]) -> Kept
         Ok(tree) => Kept::Read(Session::new(alloc, DefaultCmm::new(tree))),
         Err(TreeError::File(refusal)) => Kept::Refused(Reason::File(refusal)),
         Err(TreeError::Memory) => Kept::Refused(Reason::Memory),
-    }
-}
-
-/// The limits of a reader, of which 0 sets none.
-pub fn settings(max_keys: u16, max_unit: u64, uncommitted: bool) -> Settings {
-    Settings {
-        max_keys: if max_keys == 0 { None } else { Some(max_keys) },
-        max_unit: if max_unit == 0 { None } else { Some(max_unit) },
-        uncommitted,
     }
 }

@@ -5,6 +5,7 @@
 mod answer;
 mod beginning;
 mod file_session;
+mod limits;
 mod machine;
 mod opening;
 mod reason;
@@ -14,7 +15,8 @@ mod telling;
 mod waiting;
 
 pub use answer::Answer;
-pub use file_session::{FileSession, settings};
+pub use file_session::FileSession;
+pub use limits::{keys_limit, settings};
 pub use reason::Reason;
 pub use session::Session;
 pub use telling::show;

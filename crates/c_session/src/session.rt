@@ -2,12 +2,8 @@
 
 ghost use Rattle.std.specs.Prelude.{◌≡◌, ◌≤◌, ◌+◌, ◌*◌, [], length, false, None};
 ghost use Rattle.std.specs.Option.{option_copied};
-ghost use Rattle.stream_open.specs.Session.{OpeningValue, whole_context};
-ghost use Rattle.stream_open.specs.Stands.{Stands};
-ghost use Rattle.stream_open.specs.declared.session.Opener.{Opener};
-ghost use Rattle.c_session.specs.declared.machine.Machine.TheVariants.{Opening};
 ghost use Rattle.c_session.specs.declared.answer.Answer.TheVariants.{Failed};
-ghost use Rattle.c_session.specs.Session.{BeginsOpening, BeginsSealing, Ends, Feeds, HandsOutOf, IsFresh, OpensNow, PairsAs, RequiresAs, SealsFrom, ended_for, going_answer, settled, setting_answer, settled_answer};
+ghost use Rattle.c_session.specs.Session.{BeginsOpening, BeginsSealing, Ends, EndsWith, Feeds, HandsOutOf, IsFresh, OpensNow, PairsAs, RequiresAs, SealsFrom, TellsContext, ended_for, going_answer, settled, setting_answer, settled_answer};
 
 use crate::answer::Answer;
 use crate::beginning::begin_message;
@@ -281,6 +277,17 @@ impl<M: Manager> Session<M> {
         self.settle(ended)
     }
 
+    /// Takes the rest of a text or of a message, and says that no byte follows. What that gives
+    /// waits.
+    pub fn whole(&mut self, alloc: Global, rest: &[u8]) -> Answer
+        ensures { EndsWith M.state self.old self.new rest.now result }
+    {
+        match self.feed(alloc, rest) {
+            Answer::Done => self.finish(),
+            answer => answer,
+        }
+    }
+
     /// Hands out of what waits, to the front of the room, and answers how many bytes.
     pub fn take(&mut self, room: &mut [u8]) -> usize
         ensures { HandsOutOf M.state self.old room.old result self.new room.new }
@@ -304,12 +311,12 @@ impl<M: Manager> Session<M> {
 
     /// The whole context of the message that is opened, once its header was unlocked.
     pub fn context(&self) -> Option<&Context>
-        ensures { (opener : Opener) (v : OpeningValue) → self.now.machine ≡ Opening opener
-            → Stands opener v → option_copied result ≡ whole_context v }
+        ensures { TellsContext self.now.machine (option_copied result) }
     {
         match &self.machine {
+            Machine::SetUp => None,
+            Machine::Sealing(_) => None,
             Machine::Opening(opener) => opener.context(),
-            _ => None,
         }
     }
 }

@@ -1,7 +1,16 @@
 //! The calls that go on with a message.
 
+ghost use Rattle.std.specs.Prelude.{◌≡◌, false, not, pos};
+ghost use Rattle.c_session.specs.declared.answer.Answer.TheVariants.{Done};
+ghost use Rattle.c_session.specs.Answer.{is_callers, is_done};
+ghost use Rattle.c_session.specs.FileSession.{KeepsRead, file_state};
+ghost use Rattle.c_session.specs.Session.{Ends, EndsWith, Feeds};
+ghost use Rattle.esdk_c.specs.Calls.{CalledSo, CallsSession, GoesOn, HandsNothing, HandsOutBy};
+ghost use Rattle.esdk_c.specs.Handle.{HoldsNone};
+
 use crate::handle::Handle;
 use crate::taking::{NO_SESSION, give_back};
+use c_session::{Answer, FileSession};
 use std::alloc::Global;
 
 /// Takes a piece, and hands out of what waits.
@@ -13,18 +22,20 @@ pub extern "C" fn esdk_feed(
     room: &mut [u8],
     written: &mut usize,
     waits: &mut usize,
-) -> i32 {
-    *written = 0;
-    *waits = 0;
+) -> i32
+    ensures feeds { CallsSession handle.old handle.new result (λ answer old new.
+        GoesOn (λ between. KeepsRead old between answer (λ s t.
+        Feeds file_state s t piece.now answer)) (is_callers answer) new room.old written.new waits.new
+        room.new) }
+    ensures closed { handle.old.live ≡ false
+        → HandsNothing room.old written.new waits.new room.new }
+{
     let Some(mut session) = handle.take() else {
-        return NO_SESSION;
+        return no_session(written, waits);
     };
     let answer = session.feed(alloc, piece);
-    if !answer.is_callers() {
-        *written = session.take(room);
-    }
-    *waits = session.waits();
-    give_back(alloc, handle, session, answer)
+    let silent = answer.is_callers();
+    hand_out(alloc, handle, session, answer, silent, room, written, waits)
 }
 
 /// Says that no byte follows, and hands out of what waits.
@@ -35,18 +46,45 @@ pub extern "C" fn esdk_finish(
     room: &mut [u8],
     written: &mut usize,
     waits: &mut usize,
-) -> i32 {
-    *written = 0;
-    *waits = 0;
+) -> i32
+    ensures ends { CallsSession handle.old handle.new result (λ answer old new.
+        GoesOn (λ between. KeepsRead old between answer (λ s t. Ends file_state s t answer))
+        (is_callers answer) new room.old written.new waits.new room.new) }
+    ensures closed { handle.old.live ≡ false
+        → HandsNothing room.old written.new waits.new room.new }
+{
     let Some(mut session) = handle.take() else {
-        return NO_SESSION;
+        return no_session(written, waits);
     };
     let answer = session.finish();
-    if !answer.is_callers() {
-        *written = session.take(room);
-    }
-    *waits = session.waits();
-    give_back(alloc, handle, session, answer)
+    let silent = answer.is_callers();
+    hand_out(alloc, handle, session, answer, silent, room, written, waits)
+}
+
+/// Takes the rest of a text or of a message, says that no byte follows, and hands out of what waits
+/// where that is done; else nothing.
+#[unsafe(no_mangle)]
+pub extern "C" fn esdk_whole(
+    alloc: Global,
+    handle: &mut Handle,
+    rest: &[u8],
+    room: &mut [u8],
+    written: &mut usize,
+    waits: &mut usize,
+) -> i32
+    ensures ends { CallsSession handle.old handle.new result (λ answer old new.
+        GoesOn (λ between. KeepsRead old between answer (λ s t.
+        EndsWith file_state s t rest.now answer)) (not (is_done answer)) new room.old written.new
+        waits.new room.new) }
+    ensures closed { handle.old.live ≡ false
+        → HandsNothing room.old written.new waits.new room.new }
+{
+    let Some(mut session) = handle.take() else {
+        return no_session(written, waits);
+    };
+    let answer = session.whole(alloc, rest);
+    let silent = !answer.is_done();
+    hand_out(alloc, handle, session, answer, silent, room, written, waits)
 }
 
 /// Hands out of what waits.
@@ -57,14 +95,57 @@ pub extern "C" fn esdk_take(
     room: &mut [u8],
     written: &mut usize,
     waits: &mut usize,
-) -> i32 {
+) -> i32
+    ensures takes { CallsSession handle.old handle.new result (λ answer old new. (answer ≡ Done)
+        × HandsOutBy false old new room.old written.new waits.new room.new) }
+    ensures closed { handle.old.live ≡ false
+        → HandsNothing room.old written.new waits.new room.new }
+{
+    let Some(session) = handle.take() else {
+        return no_session(written, waits);
+    };
+    hand_out(
+        alloc,
+        handle,
+        session,
+        Answer::Done,
+        false,
+        room,
+        written,
+        waits,
+    )
+}
+
+/// There is no session: nothing is handed out, and nothing waits.
+fn no_session(written: &mut usize, waits: &mut usize) -> i32
+    ensures code { result ≡ pos 2001 }
+    ensures written { written.new ≡ 0 }
+    ensures waits { waits.new ≡ 0 }
+{
     *written = 0;
     *waits = 0;
-    let Some(mut session) = handle.take() else {
-        return NO_SESSION;
-    };
-    *written = session.take(room);
+    NO_SESSION
+}
+
+/// Hands out of what waits, unless nothing is to be handed out, and puts the session back.
+fn hand_out(
+    alloc: Global,
+    handle: &mut Handle,
+    mut session: Box<FileSession>,
+    answer: Answer,
+    silent: bool,
+    room: &mut [u8],
+    written: &mut usize,
+    waits: &mut usize,
+) -> i32
+    requires { HoldsNone handle.old }
+    ensures { CalledSo handle.new result (λ given old new. (given ≡ answer)
+        × HandsOutBy silent old new room.old written.new waits.new room.new) session.value }
+{
+    *written = 0;
+    if !silent {
+        *written = session.take(room);
+    }
     *waits = session.waits();
-    handle.put(alloc, session);
-    0
+    give_back(alloc, handle, session, answer)
 }

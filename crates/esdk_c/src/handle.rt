@@ -1,6 +1,6 @@
 //! A handle, as C has it.
 
-ghost use Rattle.std.specs.Prelude.{◌≡◌, true, IsSome};
+ghost use Rattle.std.specs.Prelude.{◌≡◌, is_some};
 
 use crate::held::Held;
 use std::alloc::Global;
@@ -12,5 +12,5 @@ pub struct Handle {
     pub(crate) held: Held,
     pub(crate) live: bool,
     pub(crate) alloc: Global,
-    ghost full: { live ≡ true → IsSome held.home },
+    ghost full: { live ≡ is_some held.home },
 }

@@ -1,13 +1,15 @@
 //! The calls that set a session up, and begin a message.
 
 ghost use Rattle.std.specs.Prelude.{◌≡◌, ◌-◌, ◌^◌};
-ghost use Rattle.c_session.specs.FileSession.{Again, KeepsRead, file_state};
-ghost use Rattle.c_session.specs.Session.{BeginsSealing, PairsAs, RequiresAs};
-ghost use Rattle.esdk_c.specs.Calls.{CallsSession, some_unless};
+ghost use Rattle.c_session.specs.FileSession.{Again, KeepsRead, drawn_by, file_state};
+ghost use Rattle.c_session.specs.Limits.{limits_of, some_unless};
+ghost use Rattle.c_session.specs.Session.{BeginsOpening, BeginsSealing, PairsAs, RequiresAs};
+ghost use Rattle.esdk_c.specs.Calls.{CallsSession, MakesSession, Tells};
+ghost use Rattle.esdk_c.specs.Handle.{HoldsNone};
 
 use crate::handle::Handle;
 use crate::taking::{NO_SESSION, give_back};
-use c_session::{FileSession, settings};
+use c_session::{FileSession, keys_limit, settings};
 use std::alloc::Global;
 
 /// No session was made, since memory ran out.
@@ -16,15 +18,19 @@ const NO_MEMORY: i32 = 5000;
 /// No length is declared.
 const ANY_LENGTH: u64 = 0xffff_ffff_ffff_ffff;
 
-/// Raised with each change of the header.
+/// Raised with each change of the header that a compiled caller could notice.
 #[unsafe(no_mangle)]
-pub extern "C" fn esdk_abi() -> u32 {
+pub extern "C" fn esdk_abi() -> u32
+    ensures { result ≡ 1 }
+{
     1
 }
 
 /// Makes a session over the tree of the keyring file in these bytes.
 #[unsafe(no_mangle)]
-pub extern "C" fn esdk_new(alloc: Global, handle: &mut Handle, file: &[u8]) -> i32 {
+pub extern "C" fn esdk_new(alloc: Global, handle: &mut Handle, file: &[u8]) -> i32
+    ensures { MakesSession file.now handle.new result }
+{
     esdk_close(alloc, handle);
     let session = FileSession::new(alloc, file);
     let answer = session.first_answer();
@@ -36,7 +42,9 @@ pub extern "C" fn esdk_new(alloc: Global, handle: &mut Handle, file: &[u8]) -> i
 
 /// Frees what the handle holds.
 #[unsafe(no_mangle)]
-pub extern "C" fn esdk_close(_alloc: Global, handle: &mut Handle) {
+pub extern "C" fn esdk_close(_alloc: Global, handle: &mut Handle)
+    ensures { HoldsNone handle.new }
+{
     let _session = handle.take();
 }
 
@@ -81,7 +89,9 @@ pub extern "C" fn esdk_require(alloc: Global, handle: &mut Handle, key: &[u8]) -
 
 /// How many random bytes a message takes that is sealed.
 #[unsafe(no_mangle)]
-pub extern "C" fn esdk_draws(alloc: Global, handle: &mut Handle) -> u32 {
+pub extern "C" fn esdk_draws(alloc: Global, handle: &mut Handle) -> u32
+    ensures { Tells handle.old handle.new (λ kept. result ≡ drawn_by kept) (result ≡ 0) }
+{
     let Some(session) = handle.take() else {
         return 0;
     };
@@ -108,7 +118,7 @@ pub extern "C" fn esdk_seal_with(
         return NO_SESSION;
     };
     let declared = length_of(length);
-    let max_keys = limit_of(max_keys);
+    let max_keys = keys_limit(max_keys);
     let answer = session.seal(alloc, frame_length, declared, max_keys, random);
     give_back(alloc, handle, session, answer)
 }
@@ -121,7 +131,11 @@ pub extern "C" fn esdk_open(
     max_keys: u16,
     max_unit: u64,
     uncommitted: bool,
-) -> i32 {
+) -> i32
+    ensures { CallsSession handle.old handle.new result (λ answer old new.
+        KeepsRead old new answer (λ s t. BeginsOpening file_state s t
+        (limits_of max_keys max_unit uncommitted) answer)) }
+{
     let Some(mut session) = handle.take() else {
         return NO_SESSION;
     };
@@ -138,11 +152,4 @@ fn length_of(length: u64) -> Option<u64>
     } else {
         Some(length)
     }
-}
-
-/// The limit that is set, if one is.
-fn limit_of(limit: u16) -> Option<u16>
-    ensures { result ≡ some_unless 0 limit }
-{
-    if limit == 0 { None } else { Some(limit) }
 }

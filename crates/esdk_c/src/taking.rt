@@ -2,7 +2,7 @@
 
 ghost use Rattle.std.specs.Prelude.{◌≡◌, pos};
 ghost use Rattle.c_session.specs.FileSession.{answer_code, reason_kept};
-ghost use Rattle.esdk_c.specs.Handle.{Holds, Takes};
+ghost use Rattle.esdk_c.specs.Handle.{Holds, HoldsNone, Takes};
 
 use crate::handle::Handle;
 use crate::held::Held;
@@ -32,6 +32,7 @@ impl Handle {
 
     /// The handle holds this session. It held none before.
     pub(crate) fn put(&mut self, alloc: Global, session: Box<FileSession>)
+        requires { HoldsNone self.old }
         ensures { Holds self.new session.value }
     {
         *self = Handle {
@@ -49,6 +50,7 @@ pub(crate) fn give_back(
     session: Box<FileSession>,
     answer: Answer,
 ) -> i32
+    requires { HoldsNone handle.old }
     ensures holds { Holds handle.new session.value }
     ensures code { result ≡ pos (answer_code answer (reason_kept session.value.kept)) }
 {
