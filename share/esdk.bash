@@ -31,7 +31,7 @@ _esdk_options() {
 # In the checkout `esdk` is the script, which has more words.
 _esdk_commands() {
     echo encrypt decrypt extract list batch audit gen migrate reseal
-    [ "$1" != ./esdk ] || echo help version build built install package try
+    [ "$1" != ./esdk ] || echo help version build built install library package try
 }
 
 _esdk() {
@@ -48,7 +48,7 @@ _esdk() {
     case $before in
         --keyring | --to-keyring | --from | --jobs) _esdk_files "$word" ;;
         --frame | --max-keys | --max-unit | --at | --count | --seed | --size | --retire) ;;
-        install | package) _esdk_folders "$word" ;;
+        install | library | package) _esdk_folders "$word" ;;
         try) _esdk_words "$word" "encrypt decrypt extract list gen migrate reseal" ;;
         *) case $word in -*) _esdk_words "$word" "$(_esdk_options "${COMP_WORDS[at]}")" ;; esac ;;
     esac

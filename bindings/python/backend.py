@@ -1,11 +1,13 @@
-"""Makes the wheel, as `pip wheel` asks for it; it needs nothing but Python.
+"""Makes the wheel and the source archive, as `pip` and `build` ask for them; it needs nothing but Python.
 
 The variable ESDK_LIBRARY names the folder with libesdk.so.1, which is put into the wheel. Without it the wheel has none,
-and loads the one of the system.
+and loads the one of the system. The same files give the same bytes.
 """
 
 import base64
+import gzip
 import hashlib
+import io
 import os
 import pathlib
 import re
@@ -15,8 +17,10 @@ import zipfile
 
 HERE = pathlib.Path(__file__).resolve().parent
 LIBRARY = "libesdk.so.1"
+LICENCE = "LICENSE"
 # All files of a wheel or a source archive get this time, so that the same files give the same bytes.
 MOMENT = (1980, 1, 1, 0, 0, 0)
+SECONDS = 315532800
 
 
 def project():
@@ -36,14 +40,23 @@ def tag(bytes_):
     return f"py3-none-manylinux_2_{newest}_x86_64"
 
 
+def licence():
+    """Of the source archive, or of the checkout."""
+    for folder in (HERE, HERE.parents[1]):
+        if (folder / LICENCE).is_file():
+            return (folder / LICENCE).read_bytes()
+    raise FileNotFoundError(f"neither {HERE} nor the checkout around it has the file {LICENCE}")
+
+
 def metadata():
     words = project()
     lines = [
-        "Metadata-Version: 2.1",
+        "Metadata-Version: 2.4",
         f"Name: {words['name']}",
         f"Version: {words['version']}",
         f"Summary: {words['description']}",
-        f"License: {words['license']}",
+        f"License-Expression: {words['license']}",
+        f"License-File: {LICENCE}",
         f"Requires-Python: {words['requires-python']}",
         "Description-Content-Type: text/markdown",
         "",
@@ -60,6 +73,7 @@ def files(bytes_, dist):
     if bytes_ is not None:
         yield f"esdk/{LIBRARY}", bytes_
     yield f"{dist}/METADATA", metadata()
+    yield f"{dist}/licenses/{LICENCE}", licence()
     pure = "true" if bytes_ is None else "false"
     yield f"{dist}/WHEEL", f"Wheel-Version: 1.0\nGenerator: esdk\nRoot-Is-Purelib: {pure}\nTag: {tag(bytes_)}\n".encode()
 
@@ -84,10 +98,24 @@ def build_wheel(wheel_directory, config_settings=None, metadata_directory=None):
     return wheel
 
 
+def sources():
+    """The names in the source archive and what they hold."""
+    yield "PKG-INFO", metadata()
+    yield LICENCE, licence()
+    for name in ("README.md", "backend.py", "pyproject.toml"):
+        yield name, (HERE / name).read_bytes()
+    for path in sorted((HERE / "esdk").iterdir()):
+        if path.suffix == ".py" or path.name == "py.typed":
+            yield f"esdk/{path.name}", path.read_bytes()
+
+
 def build_sdist(sdist_directory, config_settings=None):
-    words = project()
+    words, room = project(), io.BytesIO()
     base = f"{words['name']}-{words['version']}"
-    with tarfile.open(pathlib.Path(sdist_directory) / f"{base}.tar.gz", "w:gz") as archive:
-        for name in ("pyproject.toml", "backend.py", "README.md", "esdk", "tests"):
-            archive.add(HERE / name, f"{base}/{name}", filter=lambda entry: None if "__pycache__" in entry.name else entry)
+    with tarfile.open(fileobj=room, mode="w", format=tarfile.PAX_FORMAT) as archive:
+        for name, held in sources():
+            entry = tarfile.TarInfo(f"{base}/{name}")
+            entry.size, entry.mode, entry.mtime = len(held), 0o644, SECONDS
+            archive.addfile(entry, io.BytesIO(held))
+    (pathlib.Path(sdist_directory) / f"{base}.tar.gz").write_bytes(gzip.compress(room.getvalue(), mtime=0))
     return f"{base}.tar.gz"

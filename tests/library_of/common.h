@@ -59,16 +59,25 @@ struct way {
     bool lazy;
 };
 
-/* What a call handed out goes into `out`. A room is memory of its own, which ends where the room ends. */
+/* So many bytes stand behind a room where nothing else would see that the library writes there: 0 where valgrind or a
+ * sanitizer looks, to which a room is memory of its own that ends where the room ends. */
+#ifndef GUARD
+#define GUARD 0
+#endif
+
+/* What a call handed out goes into `out`. */
 static inline int32_t one_call(esdk_handle *handle, int what, const uint8_t *piece, size_t len, size_t size, struct bytes *out,
                                size_t *waits) {
-    uint8_t *room = exactly(size);
+    uint8_t *room = memset(exactly(size + GUARD), 0x5a, size + GUARD);
     size_t written = 12345;
     int32_t code = what == 'f'   ? esdk_feed(handle, piece, len, room, size, &written, waits)
                    : what == 'e' ? esdk_finish(handle, room, size, &written, waits)
                                  : esdk_take(handle, room, size, &written, waits);
     if (written > size) stop("more was written than has room");
     if (written < size && *waits > 0) stop("bytes wait, and the room has room");
+    for (size_t at = size; at < size + GUARD; at++) {
+        if (room[at] != 0x5a) stop("what stands behind the room was written");
+    }
     add(out, room, written);
     free(room);
     return code;

@@ -58,6 +58,7 @@ static void calls_in(enum state state) {
     static const int setting[STATES] = {2001, 2003, 0, 2002, 2002, 2003, 2003, 2003, 2001};
     static const int going[STATES] = {2001, 2003, 2002, 0, 0, 2003, 2003, 2003, 2001};
     static const int finishing[STATES] = {2001, 2003, 2002, 0, 1010, 2003, 2003, 2003, 2001};
+    static const int whole[STATES] = {2001, 2003, 2002, 0, 1010, 2003, 2003, 2003, 2001};
     static const int taking[STATES] = {2001, 0, 0, 0, 0, 0, 0, 0, 2001};
     static const int again[STATES] = {2001, 2003, 0, 0, 0, 0, 0, 0, 2001};
     static const int pairs[STATES] = {-1, -1, -1, -1, -1, -1, 1, -2, -1};
@@ -101,6 +102,8 @@ static void calls_in(enum state state) {
     want_going(state, "esdk_feed of nothing", esdk_feed(&handle, ESDK_NOTHING, 0, room, 0, &written, &waits), going[state]);
     reach(&handle, state);
     want_going(state, "esdk_finish", esdk_finish(&handle, room, sizeof room, &written, &waits), finishing[state]);
+    reach(&handle, state);
+    want_going(state, "esdk_whole", esdk_whole(&handle, message, 1, room, sizeof room, &written, &waits), whole[state]);
     reach(&handle, state);
     want(name, "esdk_again", esdk_again(&handle), again[state]);
     if (again[state] == 0) {
@@ -178,6 +181,43 @@ static void behind_an_error(void) {
     esdk_close(&handle);
 }
 
+/* A message of two frames, and its length. */
+static size_t two_frames(uint8_t *to, size_t size) {
+    esdk_handle handle = ESDK_INIT;
+    size_t len = 0;
+    esdk_new(&handle, text_of(key_line), strlen(key_line));
+    esdk_seal(&handle, 4, ESDK_ANY_LENGTH, 0);
+    want("two frames", "esdk_whole", esdk_whole(&handle, text_of("hello"), 5, to, size, &len, &waits), 0);
+    esdk_close(&handle);
+    return len;
+}
+
+/* esdk_whole hands out a text that is whole, and nothing of another one; what has no room waits. */
+static void all_or_nothing(void) {
+    static uint8_t two[1024];
+    esdk_handle handle = ESDK_INIT;
+    size_t len = two_frames(two, sizeof two);
+    const char *name = "esdk_whole";
+    esdk_new(&handle, text_of(key_line), strlen(key_line));
+    esdk_open(&handle, 0, 0, false);
+    memset(room, 7, sizeof room);
+    want(name, "a message that is cut", esdk_whole(&handle, two, len - 1, room, sizeof room, &written, &waits), ESDK_TRUNCATED);
+    want(name, "what it handed out", (long long)written, 0);
+    want(name, "the room", room[0] == 7 && memcmp(room, room + 1, 9) == 0, 1);
+    want(name, "the first frame's text waits", (long long)waits, 4);
+    want(name, "esdk_take", esdk_take(&handle, room, sizeof room, &written, &waits), 0);
+    want(name, "what it gives", written == 4 && memcmp(room, "hell", 4) == 0, 1);
+    esdk_again(&handle);
+    esdk_open(&handle, 0, 0, false);
+    want(name, "room for a byte", esdk_whole(&handle, two, len, room, 1, &written, &waits), 0);
+    want(name, "a byte comes, and the others wait", (long long)(written * 10 + waits), 14);
+    want(name, "the others", esdk_take(&handle, room + 1, sizeof room - 1, &written, &waits), 0);
+    want(name, "the text", written == 4 && memcmp(room, "hello", 5) == 0, 1);
+    want(name, "and again", esdk_whole(&handle, two, len, room, sizeof room, &written, &waits), ESDK_ENDED);
+    want(name, "what it handed out then", (long long)written, 0);
+    esdk_close(&handle);
+}
+
 int main(void) {
     esdk_handle handle = ESDK_INIT;
     want("the library", "esdk_abi", esdk_abi(), ESDK_ABI);
@@ -190,6 +230,7 @@ int main(void) {
     for (int state = NEVER; state < STATES; state++) calls_in((enum state)state);
     nothing_is_changed();
     behind_an_error();
+    all_or_nothing();
     printf("%d tried, %d wrong\n", tried, wrong);
     return wrong ? 1 : 0;
 }

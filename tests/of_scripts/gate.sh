@@ -12,20 +12,27 @@ END
     chmod +x "gate/$1"
 }
 
+# The same of what makes the library, whose end the file `ends/made` says.
+make_library_maker() {
+    make_check tools/library
+    sed -i 's,ends/library,ends/made,' gate/tools/library
+}
+
 make_gate() {
     mkdir -p gate/.ci gate/crates/esdk_tool/out with-gate ends
     cp "$top/.ci/run" gate/.ci
     make_check tools/checks
     cp "$top/tools/checks" gate/tools
-    for check in tests/scripts tests/outside docs/try_pages vectors/make.py docs/pictures/make docs/trusted with-tools/shellcheck with-tools/mandoc; do
+    for check in tests/scripts tests/outside tests/library docs/try_pages vectors/make.py docs/pictures/make docs/trusted with-tools/shellcheck with-tools/mandoc; do
         make_check "$check"
     done
+    make_library_maker
     cat >with-gate/rt <<END
 #!/bin/sh
 echo "rt \$*" >>"$work/checked"
 . "$work/gate-does"
 END
-    for tool in strace cc jq python3; do
+    for tool in strace cc gcc objcopy jq python3; do
         printf '#!/bin/sh\nexit 0\n' >"gate/with-tools/$tool"
     done
     chmod +x with-gate/rt gate/with-tools/*
@@ -42,11 +49,11 @@ exit $1
 END
 }
 
-# Runs the gate with an `rt` that does so: gate STATUS LINE
+# Runs the gate with an `rt` that does so, and with the library: gate STATUS LINE
 gate() {
     : >checked
     gate_says "$@"
-    run env -u ESDK PATH="$work/with-gate:$work/gate/with-tools:$PATH" gate/.ci/run
+    run env -u ESDK -u ESDK_LIBRARY BEHIND_CI=1 PATH="$work/with-gate:$work/gate/with-tools:$PATH" gate/.ci/run
 }
 
 # The last line is this one: last LINE
@@ -56,14 +63,14 @@ gate_runs() {
     make_gate
     gate 0 '5 passed, 0 failed'
     ended "the gate" 0
-    want "the gate counts the checks" last '13 passed, 0 failed'
+    want "the gate counts the checks" last '14 passed, 0 failed'
     want "the gate shows what rt said" grep -qx 'rt: something proved' output
     want "rt ci, with no more words, comes first" [ "$(head -n 1 checked)" = 'rt ci' ]
     want "each check is run over the program that was built" [ "$(cut -d ' ' -f 1,2 checked | tr -s ' \n' ' ')" = \
-        "rt ci tests/scripts tests/outside docs/try_pages vectors/make.py --check docs/pictures/make --check docs/trusted --check with-tools/shellcheck esdk with-tools/mandoc -T " ]
-    want "over that program alone" [ "$(grep -c " $work/gate/crates/esdk_tool/out/esdk_tool\$" checked)" -eq 8 ]
+        "rt ci tests/scripts tests/outside tools/library --behind-ci tests/library docs/try_pages vectors/make.py --check docs/pictures/make --check docs/trusted --check with-tools/shellcheck esdk with-tools/mandoc -T " ]
+    want "over that program alone" [ "$(grep -c " $work/gate/crates/esdk_tool/out/esdk_tool\$" checked)" -eq 10 ]
     want "the program is newer than its sources then" [ gate/crates/esdk_tool/out/esdk_tool -nt gate/.ci/run ]
-    want "each check stands under its name" [ "$(grep -c '^== ' output)" -eq 8 ]
+    want "each check stands under its name" [ "$(grep -c '^== ' output)" -eq 9 ]
     for status in 1 2 130; do
         gate "$status" '4 passed, 1 failed'
         ended "the gate where rt ci fails" "$status"
@@ -72,29 +79,49 @@ gate_runs() {
     done
 }
 
+# A library that isn't made is a failure of the check that is over it. Where nobody asks for one, none is made.
+library_unmade() {
+    echo 70 >ends/made
+    gate 0 '5 passed, 0 failed'
+    rm ends/made
+    ended "the gate without a library" 1
+    want "the gate without a library names the check" grep -qx "FAILED: tests/library" output
+    want "the gate without a library counts it" last '13 passed, 1 failed'
+    want "the gate without a library tries none, and all else" [ "$(grep -c '^tests/library' checked)/$(wc -l <checked)" = 0/10 ]
+    : >checked
+    run env -u ESDK -u ESDK_LIBRARY -u BEHIND_CI PATH="$work/with-gate:$work/gate/with-tools:$PATH" gate/.ci/run
+    ended "the gate that isn't asked for a library" 0
+    want "the gate that isn't asked for a library says so" grep -qx 'skipped: tests/library: no library' output
+    want "the gate that isn't asked for a library makes none" [ "$(grep -c '^t[a-z]*/library' checked)" -eq 0 ]
+    want "the gate that isn't asked for a library counts the others" last '13 passed, 0 failed'
+    run env -u BEHIND_CI ESDK_LIBRARY=here ESDK="$work/gate/crates/esdk_tool/out/esdk_tool" PATH="$work/gate/with-tools:$PATH" gate/tools/checks
+    want "the checks by hand try the library that is named" [ "$(grep -o '^t[a-z]*/library' checked)" = tests/library ]
+}
+
 # Each check, failing alone: the others are run, and it is named.
 failing_checks() {
-    for check in tests/scripts tests/outside docs/try_pages vectors/make.py docs/pictures/make docs/trusted shellcheck; do
+    for check in tests/scripts tests/outside tests/library docs/try_pages vectors/make.py docs/pictures/make docs/trusted shellcheck; do
         echo 3 >"ends/$(basename "$check")"
         gate 0 '5 passed, 0 failed'
         rm "ends/$(basename "$check")"
         ended "the gate where $check fails" 1
-        want "the gate where $check fails: the others are run" [ "$(wc -l <checked)" -eq 9 ]
+        want "the gate where $check fails: the others are run" [ "$(wc -l <checked)" -eq 11 ]
         want "the gate where $check fails: it is named" grep -qx "FAILED: $check" output
-        want "the gate where $check fails: it is counted" last '12 passed, 1 failed'
+        want "the gate where $check fails: it is counted" last '13 passed, 1 failed'
     done
+    library_unmade
     printf '#!/bin/sh\necho "mandoc: %s/docs/esdk.1:1:2: STYLE: referenced manual not found: Xr esdk-into 1"\nexit 1\n' "$work" >gate/with-tools/mandoc
     gate 0 '5 passed, 0 failed'
     ended "the gate where a page names one that isn't installed" 0
     printf '#!/bin/sh\necho "mandoc: %s/docs/esdk.1:1:2: WARNING: missing section"\nexit 2\n' "$work" >gate/with-tools/mandoc
     gate 0 '5 passed, 0 failed'
     ended "the gate where a page has a fault" 1
-    want "the gate where a page has a fault: it is counted" last '12 passed, 1 failed'
+    want "the gate where a page has a fault: it is counted" last '13 passed, 1 failed'
     make_check with-tools/mandoc
     for said in 'no count' '5 passed, 0 failed (low and the crates below alone: not the gate)'; do
         gate 0 "$said"
         ended "the gate where rt gives no count: $said" 1
-        want "the gate where rt gives no count: $said: that is a failure" last '8 passed, 1 failed'
+        want "the gate where rt gives no count: $said: that is a failure" last '9 passed, 1 failed'
     done
 }
 
@@ -105,22 +132,22 @@ lacking_tools() {
     for name in bash sh env cat tee tail grep sed awk mktemp rm touch chmod dirname basename readlink; do
         ln -s "$(command -v "$name")" few/
     done
-    for tool in strace cc jq python3 shellcheck mandoc; do
+    for tool in strace cc gcc objcopy jq python3 shellcheck mandoc; do
         mv "gate/with-tools/$tool" gate/lacking
         : >checked
-        run env -u ESDK PATH="$work/with-gate:$work/gate/with-tools:$work/few" gate/.ci/run
+        run env -u ESDK -u ESDK_LIBRARY BEHIND_CI=1 PATH="$work/with-gate:$work/gate/with-tools:$work/few" gate/.ci/run
         ended "the gate without $tool" 0
         want "the gate without $tool says so" grep -q "^skipped: .*: no $tool\$" output
         want "the gate without $tool counts what was skipped" grep -q '^[1-9] skipped: ' output
-        want "the gate without $tool counts all others" last "$((5 + 8 - $(grep -c '^skipped: ' output))) passed, 0 failed"
+        want "the gate without $tool counts all others" last "$((5 + 9 - $(grep -c '^skipped: ' output))) passed, 0 failed"
         mv gate/lacking "gate/with-tools/$tool"
     done
     printf '#!/bin/sh\n[ "$1" != -c ]\n' >gate/with-tools/python3
-    run env -u ESDK PATH="$work/with-gate:$work/gate/with-tools:$PATH" gate/.ci/run
-    want "the gate without Python's package says so" [ "$(grep -c '^skipped: .*: no cryptography$' output)" -eq 2 ]
+    run env -u ESDK -u ESDK_LIBRARY BEHIND_CI=1 PATH="$work/with-gate:$work/gate/with-tools:$PATH" gate/.ci/run
+    want "the gate without Python's package says so" [ "$(grep -c '^skipped: .*: no cryptography$' output)" -eq 3 ]
     printf 'echo "5 passed, 0 failed"\n' >gate-does
     rm gate/crates/esdk_tool/out/esdk_tool
-    run env -u ESDK PATH="$work/with-gate:$work/gate/with-tools:$PATH" gate/.ci/run
+    run env -u ESDK -u ESDK_LIBRARY -u BEHIND_CI PATH="$work/with-gate:$work/gate/with-tools:$PATH" gate/.ci/run
     ended "the gate without a program" 1
     want "the gate without a program fails" last '5 passed, 1 failed'
 }

@@ -32,17 +32,60 @@ package_over_links() {
     want "package leaves nothing" [ -z "$(find three -name '.esdk.??????')" ]
 }
 
+# A stand-in of what tools/library makes: its packages hold the bytes that are there, whatever they are.
+make_library() {
+    mkdir library
+    cp "$top/include/esdk.h" library
+    echo 'an archive' >library/libesdk.a
+    echo 'a shared library of GLIBC_2.4 and GLIBC_2.25' >library/libesdk.so.1
+    printf '%s\n' 'libdir=${pcfiledir}' 'includedir=${pcfiledir}' >library/libesdk.pc
+}
+
+# The library's packages hold it. tests/library installs those of a real one.
+package_library() {
+    for name in libesdk1 libesdk-dev; do
+        dpkg-deb -x "one/${name}_${version}_amd64.deb" "two/$name"
+        want "all of $name is root's" sh -c 'dpkg-deb -c "$1" | awk "\$2 != \"root/root\" { exit 1 }"' sh "one/${name}_${version}_amd64.deb"
+        want "$name has its papers" [ -f "two/$name/usr/share/doc/$name/copyright" ]
+    done
+    want "libesdk1 has the library" cmp library/libesdk.so.1 two/libesdk1/usr/lib/x86_64-linux-gnu/libesdk.so.1
+    want "libesdk1 wants the C library that this one names" [ "$(dpkg-deb -f "one/libesdk1_${version}_amd64.deb" Depends)" = 'libc6 (>= 2.25)' ]
+    want "libesdk-dev has the archive" cmp library/libesdk.a two/libesdk-dev/usr/lib/x86_64-linux-gnu/libesdk.a
+    want "libesdk-dev has the header" cmp library/esdk.h two/libesdk-dev/usr/include/esdk.h
+    want "libesdk-dev wants the library of its version" sh -c 'dpkg-deb -f "$1" Depends | grep -q "^libesdk1 (= $2),"' sh "one/libesdk-dev_${version}_amd64.deb" "$version"
+    want "libesdk-dev's pages: links that lead nowhere" [ -z "$(links two/libesdk-dev/usr/share/doc | while read -r file; do [ -e "$file" ] || echo "$file"; done)" ]
+    rm library/libesdk.a
+    run checkout/esdk package four
+    ended "package with a library that lacks a file" 70
+    want "it makes nothing then" [ -z "$(ls four)" ]
+    run env -u ESDK_LIBRARY PATH="$work/no-rt" checkout/esdk package four
+    ended "package without a library" 0
+    want "package without a library says so" grep -q '^esdk: left out the packages of the library' report
+    want "package without a library makes the program's alone" [ "$(cd four && echo ./*)" = "./SHA256SUMS ./$archive.tar.gz ./esdk_${version}_amd64.deb" ]
+}
+
+# Every command of this machine but rt.
+without_rt() {
+    mkdir no-rt
+    echo "$PATH" | tr : '\n' | while read -r folder; do
+        cp -sn "$folder"/* no-rt/ 2>/dev/null || true
+    done
+    rm -f no-rt/rt
+}
+
 packages() {
     command -v dpkg-deb >/dev/null || { echo "packages: not tried, since there is no dpkg-deb"; return 0; }
     version=$(cat "$top/VERSION")
     archive=esdk-$version-x86_64-linux
-    mkdir one two
+    mkdir one two four
+    make_library
+    export ESDK_LIBRARY="$work/library"
     SOURCE_DATE_EPOCH=1700000000 run checkout/esdk package one
     ended "package" 0
     touch checkout/docs/* checkout/share/*
     SOURCE_DATE_EPOCH=1700000000 run sh -c 'umask 077; sleep 1; exec checkout/esdk package two'
     want "two packages are the same bytes" diff -r one two
-    want "three files are made" [ "$(find one -type f | wc -l)" -eq 3 ]
+    want "five files are made" [ "$(find one -type f | wc -l)" -eq 5 ]
     run sh -c 'cd one && sha256sum -c SHA256SUMS'
     ended "the packages' checksums" 0
     tar -C two -xzf "one/$archive.tar.gz"
@@ -67,7 +110,10 @@ packages() {
     want "each page that its man pages name is there" [ -z "$(while read -r file; do [ -f "two/debian$file" ] || echo "$file"; done <named)" ]
     want "all of it is root's" sh -c 'dpkg-deb -c "$1" | awk "\$2 != \"root/root\" { exit 1 }"' sh "one/esdk_${version}_amd64.deb"
     package_over_links
+    without_rt
+    package_library
+    unset ESDK_LIBRARY
     rm checkout/LICENSE
-    run checkout/esdk package one
+    run env PATH="$work/no-rt" checkout/esdk package one
     ended "package without a licence" 70
 }

@@ -12,10 +12,15 @@ import json
 import os
 import pathlib
 import sys
+import tempfile
 import threading
+import time
+import tracemalloc
 import unittest
 
 import esdk
+from esdk._library import Lent
+from esdk._session import ANY_LENGTH, Session
 
 VECTORS = pathlib.Path(__file__).resolve().parents[3] / "vectors"
 sys.dont_write_bytecode = True
@@ -235,6 +240,43 @@ class Streams(unittest.TestCase):
         stream.close()
         source.append(1)
 
+    def test_neither_source_nor_room_is_copied(self):
+        """Python's own requests of memory are counted, and a copy of a text or a message would be one."""
+        room = bytearray(1 << 16)
+        for mode, source in (("e", bytes(1 << 23)), ("d", sealed(bytes(1 << 23)))):
+            with esdk.stream(mode=mode, source=source, keyring=RING) as stream:
+                tracemalloc.start()
+                try:
+                    while stream.readinto(room):
+                        pass
+                    self.assertLess(tracemalloc.get_traced_memory()[1], 1 << 15)
+                finally:
+                    tracemalloc.stop()
+
+    def test_other_threads_go_on_while_the_library_works(self):
+        """Python would hand its lock on after a thousand seconds only, where the call doesn't let it go."""
+        session, text, seen, done = Session(RING._file), bytes(1 << 25), [], threading.Event()
+        session.seal(4096, ANY_LENGTH, 0)
+
+        def look():
+            while not done.is_set():
+                seen.append(time.monotonic())
+                time.sleep(0.0005)
+
+        every, thread = sys.getswitchinterval(), threading.Thread(target=look)
+        sys.setswitchinterval(1000)
+        try:
+            thread.start()
+            with Lent(text) as lent:
+                begun = time.monotonic()
+                session.feed(*lent)
+                ended = time.monotonic()
+        finally:
+            done.set()
+            sys.setswitchinterval(every)
+            thread.join()
+        self.assertTrue(any(begun < at < ended for at in seen))
+
     def test_the_room_may_be_the_source(self):
         text = self.text[:60000]
         place = bytearray(text)
@@ -367,6 +409,19 @@ class Streams(unittest.TestCase):
         gc.collect()
         held = int(pathlib.Path("/proc/self/statm").read_text().split()[1]) * os.sysconf("SC_PAGE_SIZE")
         self.assertLess(held, 1 << 29)
+
+    def test_a_keyring_of_a_file(self):
+        with tempfile.TemporaryDirectory() as folder:
+            path = pathlib.Path(folder, "a.key")
+            self.assertRaises(FileNotFoundError, esdk.Keyring.from_file, path)
+            path.write_bytes(RING._file)
+            for name in (path, str(path)):
+                text, _ = esdk.decrypt(source=sealed(b"hello"), keyring=esdk.Keyring.from_file(name))
+                self.assertEqual(text, b"hello")
+            path.write_bytes(b"a b")
+            with self.assertRaises(esdk.KeyringError) as caught:
+                esdk.Keyring.from_file(path)
+            self.assertEqual((caught.exception.code, caught.exception.line), (3002, "K2 BadShape 1"))
 
     def test_a_keyring_shows_no_key(self):
         self.assertNotIn(KEY.hex(), repr(RING) + str(RING))
