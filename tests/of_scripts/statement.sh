@@ -3,8 +3,10 @@
 
 make_statement() {
     mkdir statement
-    (cd "$top" && tar -cf - crates.txt docs/trusted docs/statement docs/PROOFS.md docs/TRUSTED.md crates/*/specs crates/*/src) |
+    (cd "$top" && tar -cf - crates.txt docs/trusted docs/statement docs/AUDIT.md docs/PROOFS.md docs/TRUSTED.md crates/*/specs crates/*/src) |
         tar -xf - -C statement
+    # The guide counts the lines of the file that is changed here.
+    sed -i 's/Aes.antt` ([0-9]*)/Aes.antt`/' statement/docs/AUDIT.md
     changed=statement/crates/cipher_spec/specs/Aes.antt
     cp "$changed" unchanged
     run statement/docs/trusted --write
@@ -63,6 +65,16 @@ stale_statements() {
     run statement/docs/trusted --check
     ended "other counts in docs/PROOFS.md" 1
     want "other counts in docs/PROOFS.md: they are named" holds output "docs/PROOFS.md isn't current: docs/trusted --write writes it anew"
+    run statement/docs/trusted --write
+    sed -i '0,/([0-9]* lines)/s//(1 lines)/' statement/docs/AUDIT.md
+    run statement/docs/trusted --check
+    ended "other counts in docs/AUDIT.md" 1
+    want "other counts in docs/AUDIT.md: they are named" holds output "docs/AUDIT.md isn't current: docs/trusted --write writes it anew"
+    run statement/docs/trusted --write
+    sed -i 's/^lock_fault h only key =$/lock_fault h key only =/' statement/docs/AUDIT.md
+    run statement/docs/trusted --check
+    ended "what docs/AUDIT.md quotes and no source has" 1
+    want "what docs/AUDIT.md quotes and no source has is said" grep -q 'docs/AUDIT.md quotes what no file of specs/ has' report
     cp statement/docs/TRUSTED.md page
     says "a name that nothing defines" 'rcon i = xtimes (nowhere i) 1 ∷ []' ''
     run statement/docs/trusted --write
