@@ -1,13 +1,15 @@
 -- The key that the front of a file shows.
-use Rattle.std.proofs.Common.{◌≡◌, ◌≢◌, ℕ, ◌<◌, ◌≤◌, Bool, true, false, List, length, take, Option, Some, None, inl, inr, refl, sym, ap, subst, ◌∙◌, arith, eq-eqb}
-use Rattle.std.specs.Prelude.{IfSome, is_none, if◌then◌else◌, Ok}
+use Rattle.std.proofs.Common.{◌≡◌, ◌≢◌, ◌⊎◌, ℕ, ◌<◌, ◌≤◌, Bool, true, false, List, length, take, Option, Some, None, inl, inr, refl, sym, ap, subst, ◌∙◌, arith, eq-eqb}
+use Rattle.std.specs.Prelude.{IfSome, OnErr, is_none, if◌then◌else◌, Result, Ok, Err}
 use Rattle.std.specs.Option.{option_and_then}
 use Rattle.std.specs.FinMap.{get}
 use Rattle.std.proofs.lemmas.List.{length-take-le, length-take, take_all}
 use Rattle.std.proofs.lemmas.Bool.Decides.{eqb_tells}
+use Rattle.esdk_fields.specs.Counts.{Rose}
 use Rattle.esdk_base.specs.Shelf.{Files, HasCauseOrMissing, is_missing}
 use Rattle.esdk_base.specs.Streams.{ShelfState}
-use Rattle.keydir_keyring.specs.Reading.{Gave, IsFront, IsNoKey, ReadsKey, key_in, told_key}
+use Rattle.whole_input.specs.FileReads.{ReadsWhole}
+use Rattle.keydir_keyring.specs.Reading.{Gave, HasNoKey, IsFront, IsNoKey, ReadsFewer, ReadsFront, ReadsKey, key_in, told_key}
 
 -- bytes that are a key, and bytes that are none
 key_in_is : (bytes : List ℕ) → length bytes ≡ 32 → key_in bytes ≡ Some bytes
@@ -56,11 +58,15 @@ pub is_there : {T E : Type 0} (told : Option Files) (file : List ℕ) (old new :
 is_there told file old new x cause = there_by (is_missing told file) old new x cause
 
 -- what 32 bytes with room behind them come to
-pub key_read : {E : Type 0} (old new : ShelfState) (file room key : List ℕ) (n : ℕ) → length room ≡ 33 → n ≡ 32 → IsFront old.files file room n → Gave old new n
-    → HasCauseOrMissing {T = ℕ} {E = E} (is_missing old.files file) old.faults new.faults (Ok n) → key ≡ take 32 room → ReadsKey old new file (Some key)
-key_read old new file room key n long whole front gave cause is =
+pub key_read : {E : Type 0} (old new : ShelfState) (file room key : List ℕ) (n : ℕ) → length room ≡ 33 → n ≡ 32 → IsFront old.files file room n
+    → ReadsFront old.calls new.calls file room n → Gave old new n → HasCauseOrMissing {T = ℕ} {E = E} (is_missing old.files file) old.faults new.faults (Ok n) → key ≡ take 32 room
+    → ReadsKey old new file (Some key)
+key_read old new file room key n long whole front reads gave cause is =
     let front_32 : IsFront old.files file room 32 = subst (λ (n : ℕ). IsFront old.files file room n) whole front in
+    let same : take n room ≡ key = ap (λ (n : ℕ). take n room) whole ∙ sym is in
     record {
+      read = subst (λ (b : List ℕ). ReadsWhole file old.calls new.calls b) same (reads.whole (omega (arith, long, whole)));
+      long = ap length is ∙ length-take-le 32 room (omega (arith, long));
       gave = subst (λ (n : ℕ). Gave old new n) whole gave;
       told =
           subst (λ (k : List ℕ). IfSome old.files (λ _. told_key old.files file ≡ Some k)) (sym is)
@@ -68,5 +74,26 @@ key_read old new file room key n long whole front gave cause is =
     }
 
 -- and more or fewer
-pub none_read : (old new : ShelfState) (file room : List ℕ) (n : ℕ) → length room ≡ 33 → n ≢ 32 → IsFront old.files file room n → Gave old new n → IsNoKey old new file
-none_read old new file room n long other front gave = record { count = n; other = other; gave = gave; none = none_is_told old.files file room n long other front }
+pub none_read : (old new : ShelfState) (file room : List ℕ) (n : ℕ) → length room ≡ 33 → n ≢ 32 → IsFront old.files file room n → ReadsFront old.calls new.calls file room n
+    → Gave old new n → IsNoKey old new file
+none_read old new file room n long other front reads gave =
+    let so : length (take n room) ≡ n = length-take-le n room front.filled.fits in
+    record {
+      bytes = take n room;
+      read = reads.row;
+      other = λ is. other (sym so ∙ is);
+      ended = λ few. reads.whole (omega (arith, few, so, long));
+      gave = subst (λ (n : ℕ). Gave old new n) (sym so) gave;
+      none = none_is_told old.files file room n long other front;
+    }
+
+-- why a read fails
+fails_by : {T E : Type 0} (missing : Bool) (old new : ℕ) (e : E) → HasCauseOrMissing {T = T} {E = E} missing old new (Err e) → Rose old new ⊎ ((missing ≡ true) × (new ≡ old))
+fails_by true old new e cause = inr (refl, cause.uncounted refl)
+fails_by false old new e cause = inl (cause.failed refl)
+
+-- a read that failed shows none
+pub unread : {T E : Type 0} (old new : ShelfState) (file : List ℕ) (result : Result T E) → ((x : T) → result ≡ Ok x → ⊥) → HasCauseOrMissing (is_missing old.files file) old.faults new.faults result
+    → OnErr result (ReadsFewer old.calls new.calls file 33) → HasNoKey old new file
+unread old new file (Ok x) not_ok cause fewer = absurd (not_ok x refl)
+unread old new file (Err e) not_ok cause fewer = inl (record { cause = fails_by (is_missing old.files file) old.faults new.faults e cause; read = fewer })

@@ -1,11 +1,16 @@
--- When a call of the keyring fails, and what it leaves.
-use Rattle.std.specs.Prelude.{◌≡◌, ◌+◌, ◌≤◌, IfSome, IsSome, Result, MatchResult}
+-- What a call of the keyring answers, when it fails, and what it leaves.
+use Rattle.std.specs.Prelude.{◌≡◌, ℕ, ◌+◌, ◌≤◌, List, [], ◌∷◌, Option, Result, MatchResult}
 use Rattle.esdk_fields.specs.Counts.{counted}
+use Rattle.context_codec.specs.Context.{KeyValue}
+use Rattle.edk_codec.specs.Entry.{Entry}
 use Rattle.esdk_base.specs.Streams.{ShelfState}
 use Rattle.keyring_trait.specs.declared.ring_refusals.RingError.{RingError}
 use Rattle.keyring_trait.specs.declared.ring_refusals.RingError.TheVariants.{Refused, KeyringFault, Memory}
-use Rattle.keydir_keyring.specs.Keydir.{KeydirValue}
-use Rattle.keydir_keyring.specs.Reading.{Gave, HasNoKey, told_key}
+use Rattle.keyring_trait.specs.Keyring.{WrappedValue, Wraps}
+use Rattle.keyring_trait.specs.Wrapping.{WrapKeyValue, unwrapped}
+use Rattle.raw_aes_keyring.specs.Keyring.{raw_meaning}
+use Rattle.keydir_keyring.specs.Keydir.{KeydirValue, wrap_key}
+use Rattle.keydir_keyring.specs.Reading.{HasNoKey, IsKey}
 
 -- A call keeps the shelf's files, of which it is given no more than 33 bytes, and all of the
 -- keyring but its shelf and its count, which never falls.
@@ -17,11 +22,11 @@ pub record Keeps {S : Type 0} (state : S → ShelfState) (old new : KeydirValue 
   pub name : new.name ≡ old.name
   pub later : old.faults ≤ new.faults
 
--- There was a key to read: no read failed, and the file gave just 32 bytes, which are all that it
--- has, where the files are told. The keyring's count stays.
-pub record HadKey {S : Type 0} (state : S → ShelfState) (old new : KeydirValue S) : Type 0 where
-  pub gave : Gave (state old.shelf) (state new.shelf) 32
-  pub key : IfSome (state old.shelf).files (λ _. IsSome (told_key (state old.shelf).files old.file))
+-- There was a key to read: the shelf's calls gave just these 32 bytes for the keyring's file. The
+-- keyring's count stays.
+pub record HadKey {S : Type 0} (state : S → ShelfState) (old new : KeydirValue S) (key : List ℕ)
+    : Type 0 where
+  pub read : IsKey (state old.shelf) (state new.shelf) old.file key
   pub count : new.faults ≡ old.faults
 
 -- There was no key to read: a read failed, or the file gave more or fewer than 32 bytes. The
@@ -36,10 +41,28 @@ abbrev pub Fails : {S : Type 0} → (S → ShelfState) → KeydirValue S → Key
     → Type 0
 Fails state old new (Refused r) = ⊥
 Fails state old new KeyringFault = HadNone state old new
-Fails state old new Memory = HadKey state old new
+Fails state old new Memory = (key : List ℕ) × HadKey state old new key
 
--- what a call answers, by what there was to read
+-- what a call answers: what the key that there was to read gives, or why it fails
 abbrev pub KeydirAnswers : {S T : Type 0} → (S → ShelfState) → KeydirValue S → KeydirValue S
-    → Result T RingError → Type 0
-KeydirAnswers state old new result = MatchResult result (λ _. HadKey state old new)
+    → (List ℕ → T → Type 0) → Result T RingError → Type 0
+KeydirAnswers state old new gives result =
+    MatchResult result (λ x. (key : List ℕ) × HadKey state old new key × gives key x)
     (λ e. Fails state old new e)
+
+-- ---- what a key of these bytes gives
+
+-- the raw AES keyring of the key
+abbrev pub IsRawOf : {S : Type 0} → KeydirValue S → List ℕ → WrapKeyValue → Type 0
+IsRawOf k key keyring = keyring ≡ wrap_key k key
+
+-- what that keyring wraps
+abbrev pub WrapsAsRaw : {S : Type 0} → KeydirValue S → List KeyValue → List ℕ → Option (List ℕ)
+    → List ℕ → WrappedValue → Type 0
+WrapsAsRaw k c random handed key wrapped =
+    Wraps (raw_meaning (wrap_key k key)) c random handed wrapped
+
+-- what it finds
+abbrev pub FindsAsRaw : {S : Type 0} → KeydirValue S → List KeyValue → List Entry → List ℕ
+    → Option (List ℕ) → Type 0
+FindsAsRaw k c entries key found = found ≡ unwrapped (wrap_key k key ∷ []) entries c

@@ -1,9 +1,11 @@
 -- What is read of a file that holds a key.
-use Rattle.std.specs.Prelude.{◌≡◌, ◌≢◌, ◌⊎◌, ℕ, ◌+◌, ◌<◌, ◌≤◌, ◌==◌, List, length, take, Option, Some, None, IfSome, if◌then◌else◌}
+use Rattle.std.specs.Prelude.{◌≡◌, ◌≢◌, ◌⊎◌, ℕ, ◌+◌, ◌<◌, ◌≤◌, ◌==◌, List, [], ◌∷◌, ◌++◌, length, take, Option, Some, None, IfSome, Result, MatchResult, if◌then◌else◌}
 use Rattle.std.specs.Option.{option_and_then}
 use Rattle.esdk_fields.specs.Counts.{RoseBy}
+use Rattle.esdk_seen.specs.Calls.{ShelfCall, reads}
 use Rattle.esdk_base.specs.Shelf.{Files, file_of, Holds}
 use Rattle.esdk_base.specs.Streams.{FailsToRead, ShelfState}
+use Rattle.whole_input.specs.FileReads.{ReadsRow, ReadsWhole}
 
 -- the bytes, where there are just 32
 abbrev pub key_in : List ℕ → Option (List ℕ)
@@ -29,21 +31,63 @@ pub record Gave (old new : ShelfState) (n : ℕ) : Type 0 where
   pub most : new.given ≤ old.given + n
   pub faults : new.faults ≡ old.faults
 
--- The file gave just 32 bytes, and these are all that it has, where the files are told.
+-- ---- the calls that read it
+
+-- One read of the file gave so many bytes, from this offset on, and put them behind the first ones
+-- of the room, which are as many as the offset says.
+pub record ReadsOnce (old new : List ShelfCall) (file before after : List ℕ) (at more : ℕ)
+    : Type 0 where
+  pub piece : List ℕ
+  pub long : length piece ≡ more
+  pub call : new ≡ old ++ reads file at piece ∷ []
+  pub room : take (at + more) after ≡ take at before ++ piece
+
+-- what a read comes to: it gave so many bytes, or failed, which no call tells
+abbrev pub ReadsMore : {E : Type 0} → List ShelfCall → List ShelfCall → List ℕ → List ℕ → List ℕ
+    → ℕ → Result ℕ E → Type 0
+ReadsMore old new file before after at result =
+    MatchResult result (ReadsOnce old new file before after at) (λ _. new ≡ old)
+
+-- The calls read the file in a row from its front, and gave the first n bytes of the room; where
+-- room is left behind them, the last read gave nothing.
+pub record ReadsFront (old new : List ShelfCall) (file room : List ℕ) (n : ℕ) : Type 0 where
+  pub row : ReadsRow file 0 old new (take n room)
+  pub whole : n < length room → ReadsWhole file old new (take n room)
+
+-- The calls read the file in a row from its front, and gave fewer bytes than that.
+pub record ReadsFewer (old new : List ShelfCall) (file : List ℕ) (limit : ℕ) : Type 0 where
+  pub bytes : List ℕ
+  pub row : ReadsRow file 0 old new bytes
+  pub few : length bytes < limit
+
+-- ---- a key, or none
+
+-- The calls read the file from its front to its end, and gave just these 32 bytes; they are the key
+-- that it holds, where the files are told. No read failed.
 pub record IsKey (old new : ShelfState) (file key : List ℕ) : Type 0 where
+  pub read : ReadsWhole file old.calls new.calls key
+  pub long : length key ≡ 32
   pub gave : Gave old new 32
   pub told : IfSome old.files (λ _. told_key old.files file ≡ Some key)
 
--- The file gave more or fewer than 32 bytes, and no key is told.
+-- The calls read the file in a row from its front, and gave these bytes, which are more than 32, or
+-- are fewer and all up to its end. No read failed, and no key is told.
 pub record IsNoKey (old new : ShelfState) (file : List ℕ) : Type 0 where
-  pub count : ℕ
-  pub other : count ≢ 32
-  pub gave : Gave old new count
+  pub bytes : List ℕ
+  pub read : ReadsRow file 0 old.calls new.calls bytes
+  pub other : length bytes ≢ 32
+  pub ended : length bytes < 32 → ReadsWhole file old.calls new.calls bytes
+  pub gave : Gave old new (length bytes)
   pub none : told_key old.files file ≡ None
+
+-- A read failed, behind reads of the file in a row from its front, which gave at most 32 bytes.
+pub record IsUnread (old new : ShelfState) (file : List ℕ) : Type 0 where
+  pub cause : FailsToRead old new file
+  pub read : ReadsFewer old.calls new.calls file 33
 
 -- why there is no key: a read failed, or the file has more or fewer than 32 bytes
 abbrev pub HasNoKey : ShelfState → ShelfState → List ℕ → Type 0
-HasNoKey old new file = FailsToRead old new file ⊎ IsNoKey old new file
+HasNoKey old new file = IsUnread old new file ⊎ IsNoKey old new file
 
 -- what reading the key comes to
 abbrev pub ReadsKey : ShelfState → ShelfState → List ℕ → Option (List ℕ) → Type 0

@@ -4,7 +4,7 @@
 ghost use Rattle.std.specs.Prelude.{◌≡◌, ◌∷◌, [], false, None, length, is_some, IfOk, IfErr, IfSome, OnOk};
 ghost use Rattle.std.specs.Option.{option_copied};
 ghost use Rattle.keyring_trait.specs.Keyring.{KeyringGoes, Opens, UnwrapCause, WrapCause, Wraps, refusal_with, wanted};
-ghost use Rattle.keydir_keyring.specs.Answers.{KeydirAnswers, Keeps};
+ghost use Rattle.keydir_keyring.specs.Answers.{FindsAsRaw, IsRawOf, KeydirAnswers, Keeps, WrapsAsRaw};
 ghost use Rattle.keydir_keyring.specs.Keydir.{keydir_meaning};
 
 use crate::keydir::KeydirKeyring;
@@ -17,7 +17,9 @@ use raw_aes_keyring::{RawAes, RawError};
 use std::alloc::Global;
 
 /// Reads the file at each of its two calls, and then does what a raw AES keyring of its 32 bytes
-/// does. It makes one entry and refuses nothing.
+/// does. It makes one entry and refuses nothing. The bytes are those that the shelf gave in that
+/// very call, as its calls tell, whether it tells its files or not: they read the file in a row,
+/// from its front to its end, and nothing else.
 ///
 /// `KeyringFault` comes wherever a read of the file failed, and wherever the file doesn't have just
 /// 32 bytes; only where the shelf's count of faults rose in the call, or the file isn't there, or
@@ -52,7 +54,8 @@ impl<S: Shelf + Drop> Keyring for KeydirKeyring<S> {
         ensures cause { IfErr result (WrapCause (refusal_with (is_some key.entry)
             (keydir_meaning S.state self.old)) self.old.faults self.new.faults) }
         ensures keeps { Keeps S.state self.old self.new }
-        ensures answers { KeydirAnswers S.state self.old self.new result }
+        ensures answers { KeydirAnswers S.state self.old self.new
+            (WrapsAsRaw self.old context.now random.now (option_copied key.entry)) result }
     {
         let mut keyring = self.read(alloc)?;
         keyring.on_encrypt(alloc, context, random, key)
@@ -70,7 +73,8 @@ impl<S: Shelf + Drop> Keyring for KeydirKeyring<S> {
             (keydir_meaning S.state self.new) context.now entries.now) }
         ensures cause { IfErr result (UnwrapCause self.old.faults self.new.faults) }
         ensures keeps { Keeps S.state self.old self.new }
-        ensures answers { KeydirAnswers S.state self.old self.new result }
+        ensures answers { KeydirAnswers S.state self.old self.new
+            (FindsAsRaw self.old context.now entries.now) result }
     {
         let mut keyring = self.read(alloc)?;
         keyring.on_decrypt(alloc, context, entries)
@@ -84,7 +88,7 @@ impl<S: Shelf> KeydirKeyring<S> {
             (λ keys. keys ≡ keyring ∷ [])) }
         ensures active { IfOk result (λ keyring. keyring.retired ≡ false) }
         ensures keeps { Keeps S.state self.old self.new }
-        ensures answers { KeydirAnswers S.state self.old self.new result }
+        ensures answers { KeydirAnswers S.state self.old self.new (IsRawOf self.old) result }
     {
         let Some(key) = read_key(&mut self.shelf, self.file.as_str()) else {
             self.faults = self.faults.saturating_add(1);

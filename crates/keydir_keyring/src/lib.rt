@@ -2,7 +2,8 @@
 //! call. AWS Encryption SDK Specification, "Raw AES Keyring".
 //!
 //! The definitions stand in `specs/`: `Reading` says what is read of the file, `Keydir` what the
-//! keyring means to its callers, and `Answers` when a call fails and what it leaves.
+//! keyring means to its callers, and `Answers` what a call answers, when it fails and what it
+//! leaves.
 #![tactic(auto)]
 
 mod keydir;

@@ -1,9 +1,9 @@
 //! Reading a key from a file.
 
-ghost use Rattle.std.specs.Prelude.{◌≡◌, ◌<◌, ◌≤◌, ◌+◌, List, ℕ, [], length, take, drop, IfOk};
+ghost use Rattle.std.specs.Prelude.{◌≡◌, ◌<◌, ◌≤◌, ◌+◌, List, ℕ, [], length, take, drop, IfOk, OnErr};
 ghost use Rattle.esdk_fields.specs.Counts.{CountsGiven};
 ghost use Rattle.esdk_base.specs.Shelf.{HasCauseOrMissing, Holds, is_missing};
-ghost use Rattle.keydir_keyring.specs.Reading.{Gave, IsFilled, IsFront, ReadsKey};
+ghost use Rattle.keydir_keyring.specs.Reading.{Gave, IsFilled, IsFront, ReadsFewer, ReadsFront, ReadsKey, ReadsMore};
 
 use esdk_base::{Failed, Shelf};
 use esdk_fields::array_of;
@@ -12,7 +12,7 @@ use esdk_fields::array_of;
 const KEY_LENGTH: usize = 32;
 
 /// The bytes of the file, where it has just 32. None where a read of it failed, or where it has
-/// more or fewer. No more than 33 of its bytes are read.
+/// more or fewer. It is read in a row from its front, and no more than 33 of its bytes are.
 pub(crate) fn read_key<S: Shelf>(shelf: &mut S, file: &str) -> Option<[u8; 32]>
     ensures files { (S.state shelf.new).files ≡ (S.state shelf.old).files }
     ensures later { (S.state shelf.old).faults ≤ (S.state shelf.new).faults }
@@ -43,6 +43,10 @@ fn key_of(bytes: &[u8]) -> [u8; 32]
 fn read_front<S: Shelf>(shelf: &mut S, file: &str, room: &mut [u8]) -> Result<usize, Failed>
     requires { 0 < length room.old }
     ensures front { IfOk result (IsFront (S.state shelf.old).files file.now room.new) }
+    ensures read { IfOk result (ReadsFront (S.state shelf.old).calls (S.state shelf.new).calls
+        file.now room.new) }
+    ensures unread { OnErr result (ReadsFewer (S.state shelf.old).calls (S.state shelf.new).calls
+        file.now (length room.old)) }
     ensures gave { IfOk result (Gave (S.state shelf.old) (S.state shelf.new)) }
     ensures most { (S.state shelf.new).given ≤ (S.state shelf.old).given + length room.old }
     ensures cause { HasCauseOrMissing (is_missing (S.state shelf.old).files file.now)
@@ -72,6 +76,8 @@ fn read_more<S: Shelf>(
         → IsFilled (S.state shelf.old).files file.now room.new (count + more)) }
     ensures end { IfOk result (λ more. (bytes : List ℕ)
         → Holds (S.state shelf.old).files file.now bytes → more ≡ 0 → drop count bytes ≡ []) }
+    ensures read { ReadsMore (S.state shelf.old).calls (S.state shelf.new).calls
+        file.now room.old room.new count result }
     ensures bound { IfOk result (λ more. count + more ≤ length room.new) }
     ensures given { CountsGiven (S.state shelf.old).given (S.state shelf.new).given result }
     ensures cause { HasCauseOrMissing (is_missing (S.state shelf.old).files file.now)
