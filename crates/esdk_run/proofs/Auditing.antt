@@ -1,5 +1,8 @@
 -- What `audit` comes to, and what it says of files that the shelf tells.
 use Rattle.std.proofs.Common.{◌≡◌, ◌∙◌, ℕ, true, List, [], ◌∷◌, length, map, Option, Some, None, Err, inl, inr, refl, sym, ap, subst, arith, append-nil}
+use Rattle.std.proofs.lemmas.Result.{IfErr-weaker}
+use Rattle.std.specs.Prelude.{IfErr}
+use Rattle.std.specs.declared.result.Result.{Result}
 use Rattle.std.specs.List.{list_all}
 use Rattle.std.specs.Io.KnownBytes.{Appends}
 use Rattle.esdk_fields.specs.Counts.{Stayed}
@@ -31,16 +34,17 @@ use Rattle.audit_core.proofs.Held.{finds_what_is_held}
 use Rattle.esdk_report.specs.Report.{Reports}
 use Rattle.esdk_report.specs.declared.failure.Failure.{Failure}
 use Rattle.esdk_report.specs.declared.failure.Failure.TheVariants as failures
-use Rattle.esdk_run.specs.Audit.{AuditEnds, AuditFails, AuditIs, Audits, FindsAll, FindsNotAll, HasAudit, WritesAudit, audit_status}
+use Rattle.esdk_run.specs.Audit.{AuditEnds, AuditFails, AuditIs, Audits, FindsAll, FindsNotAll, HasAudit, HasNoAudit, WritesAudit, audit_status}
 use Rattle.esdk_run.specs.AuditTold.{HoldsAudit, SaysTheOpeners, ShowsOpeners}
 use Rattle.esdk_run.specs.Failures.{tree_failure}
-use Rattle.esdk_run.specs.FileReading.{ReadCause}
+use Rattle.esdk_run.specs.FileReading.{FileFails, ReadCause}
 use Rattle.esdk_run.specs.Objects.{Objects, Unchanged}
 use Rattle.esdk_run.specs.Run.{AuditRuns, AuditsBy, is_status}
+use Rattle.esdk_run.specs.TextPut.{TextFails}
 use Rattle.esdk_run.specs.Trees.{TreeGoes, TreeHas, Trees, trees_of}
 use Rattle.esdk_run.proofs.Files.{file_is_held}
 use Rattle.esdk_run.proofs.Statuses.{jobs_status, not_done, not_seven}
-use Rattle.esdk_run.proofs.TreesBack.{one_left}
+use Rattle.esdk_run.proofs.Preparing.{by_file}
 
 -- ---- the file
 
@@ -142,13 +146,54 @@ audit_fails trees name old read new file left leaves messages failure audits are
     by_failure (failures.Outside outsides.SourceFault) fails = absurd fails.fails
     by_failure (failures.Outside outsides.SinkFault) fails = absurd fails.fails
     by_failure (failures.Outside outsides.EntropyFault) fails = absurd fails.fails
-    by_failure failures.Memory fails = λ other kept. (file, read, leaves, subst (λ (l : KeyringMeaning). Audits trees name old read file l leaves) (one_left trees left other audits.kept kept) audits)
+    by_failure failures.Memory fails = inr (inl (not_all trees name old read new file left leaves failures.Memory audits fails))
     by_failure failures.NotRead fails = absurd fails.fails
     by_failure (failures.BadNumber option) fails = absurd fails.fails
     by_failure (failures.BadPair place) fails = absurd fails.fails
     by_failure (failures.Fault fault) fails = absurd fails.fails
     by_failure (failures.File refusal) fails = absurd fails.fails
     by_failure (failures.Refusal refusal) fails = absurd fails.fails
+
+-- there is nothing to audit
+no_audit : (trees : Trees) (name : List ℕ) (old new : ShelfState) (failure : Failure) → HasNoAudit trees name old new failure → AuditFails trees name old new failure
+no_audit trees name old new failure none =
+    elim none.cause [
+      | inl fails ↦ by_file audit_of old new name (λ (f : Failure). HasNoAudit trees name old new f → AuditFails trees name old new f) (λ refusal unread. unread) (λ unread. inl unread) (λ lacks. inl lacks) failure fails none
+      | inr has ↦
+          by_file trees.read has.between new has.file.keyring (λ (f : Failure). HasNoAudit trees name old new f → AuditFails trees name old new f) (λ refusal unread. unread) (λ unread. inl unread) (λ lacks. inl lacks) failure
+          has.cause none
+    ]
+
+-- its file gives none
+pub no_audit_file : (trees : Trees) (name : List ℕ) (old new : ShelfState) (failure : Failure) → trees.kept ≡ None → FileFails audit_of old new name failure → AuditFails trees name old new failure
+no_audit_file trees name old new failure kept fails = no_audit trees name old new failure (record { cause = inl fails; none = kept })
+
+-- or its keyring file gives no tree
+pub no_audit_tree : (trees : Trees) (name keyring : List ℕ) (old mid new : ShelfState) (file : AuditFile) (failure : Failure) → trees.kept ≡ None → AuditIs old mid name file → keyring ≡ file.keyring
+    → FileFails trees.read mid new keyring failure → AuditFails trees name old new failure
+no_audit_tree trees name keyring old mid new file failure kept audit named fails =
+    no_audit trees name old new failure
+    (record { cause = inr (record { file = file; between = mid; audit = audit; cause = subst (λ (n : List ℕ). FileFails trees.read mid new n failure) named fails }); none = kept })
+
+-- ---- the lines
+
+-- nothing was written where it wasn't found of each
+pub audit_unwritten : (trees : Trees) (name : List ℕ) (old new : ShelfState) (before after : SinkState) (unwritten : Type 0) (failure : Failure) → unwritten → AuditFails trees name old new failure
+    → AuditEnds trees name old new before after unwritten failure
+audit_unwritten trees name old new before after unwritten (failures.Outside outsides.SinkFault) same fails = absurd fails
+audit_unwritten trees name old new before after unwritten failure same fails = (fails, same)
+
+-- else the output failed, or memory ran out for the lines
+lines_lost : (trees : Trees) (name : List ℕ) (old new : ShelfState) (before after : SinkState) (unwritten : Type 0) (count : ℕ) (found : List Audited) → FindsAll trees name old new count found → (failure : Failure)
+    → TextFails (audit_lines count found) before after unwritten failure → AuditEnds trees name old new before after unwritten failure
+lines_lost trees name old new before after unwritten count found all (failures.Outside outsides.SinkFault) fails = record { count = count; found = found; all = all; front = fails }
+lines_lost trees name old new before after unwritten count found all failures.Memory fails = (inr (inr (count, found, all)), fails)
+lines_lost trees name old new before after unwritten count found all failure fails = absurd fails
+
+pub lines_unwritten : {T : Type 0} (trees : Trees) (name : List ℕ) (old new : ShelfState) (before after : SinkState) (unwritten : Type 0) (count : ℕ) (found : List Audited) (r : Result T Failure)
+    → FindsAll trees name old new count found → IfErr r (TextFails (audit_lines count found) before after unwritten) → IfErr r (AuditEnds trees name old new before after unwritten)
+lines_unwritten trees name old new before after unwritten count found r all fails =
+    IfErr-weaker r (TextFails (audit_lines count found) before after unwritten) (AuditEnds trees name old new before after unwritten) (lines_lost trees name old new before after unwritten count found all) fails
 
 -- ---- what it says of files that the shelf tells
 

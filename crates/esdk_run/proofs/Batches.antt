@@ -1,6 +1,8 @@
 -- What `batch` and `gen` leave, and when they must be done.
 use Rattle.std.proofs.Common.{◌≡◌, ◌⊎◌, ◌∙◌, ℕ, Bool, true, false, List, Ok, inl, inr, refl, sym, ap, subst, arith}
-use Rattle.std.specs.Prelude.{is_some, if◌then◌else◌}
+use Rattle.std.proofs.lemmas.Result.{IfErr-weaker}
+use Rattle.std.specs.Prelude.{IfErr, IfSome, is_some, if◌then◌else◌}
+use Rattle.std.specs.declared.result.Result.{Result}
 use Rattle.std.specs.List.{list_all}
 use Rattle.std.specs.declared.option.Option.{Option}
 use Rattle.esdk_base.specs.Receiver.{SinkFails}
@@ -14,21 +16,25 @@ use Rattle.keyring_trait.specs.Keyring.{KeyringMeaning}
 use Rattle.cmm_caching.specs.Journal.{KeepsWithin}
 use Rattle.job_file.specs.JobFile.{JobFile}
 use Rattle.batch_report.specs.declared.job_lines.JobLine.{JobLine}
-use Rattle.batch_report.specs.BatchReport.{is_done}
+use Rattle.batch_report.specs.BatchReport.{is_done, report_of}
 use Rattle.esdk_batch.specs.Batch.{OnlyWritten}
+use Rattle.esdk_batch.specs.ShelfCalls.{CallsAtMost}
 use Rattle.esdk_gen.specs.Generator.{gen_line}
 use Rattle.esdk_report.specs.declared.failure.Failure.{Failure}
 use Rattle.esdk_report.specs.declared.failure.Failure.TheVariants as failures
 use Rattle.esdk_report.specs.Report.{Reports}
-use Rattle.esdk_run.specs.Batch.{BatchFails, ChangesOnlyWritten, JobsAre, JobsHaveNoTree, RunsJobFile, jobs_in}
+use Rattle.esdk_run.specs.Batch.{BatchFails, ChangesOnlyWritten, HasNoJobs, JobsAre, JobsFail, JobsHaveNoTree, RunsJobFile, RunsSomeTurns, jobs_in}
 use Rattle.esdk_run.specs.FileReading.{FileFails}
 use Rattle.esdk_run.specs.Generate.{GenFails}
 use Rattle.esdk_run.specs.Objects.{Objects, Unchanged}
 use Rattle.esdk_run.specs.Run.{BatchRuns, Fails, GenRuns, RunsAllJobs, is_status}
+use Rattle.esdk_run.specs.Serving.{TreeOutlasts}
+use Rattle.esdk_run.specs.TextPut.{TextFails}
 use Rattle.esdk_run.specs.Served.{Generates, HoldsJobs, KeepsLimits, KeepsOtherFiles, RunsWhatIsHeld, ShowsLimits}
 use Rattle.esdk_run.specs.Told.{HoldsTree, IsDoneOrMemory}
-use Rattle.esdk_run.specs.Trees.{Trees}
+use Rattle.esdk_run.specs.Trees.{IsLawful, IsUntouched, TreeIs, Trees}
 use Rattle.esdk_run.proofs.Files.{file_is_held, held_is_read, held_is_taken, no_read_fails, not_refused}
+use Rattle.esdk_run.proofs.Preparing.{by_file}
 use Rattle.esdk_run.proofs.Showing.{each_has_a_line, shows_limits}
 use Rattle.esdk_run.proofs.Statuses.{jobs_status, memory_status, not_done, not_seven}
 
@@ -48,6 +54,71 @@ pub batch_failed : (trees : Trees) (name other : List ℕ) (before after : Objec
     → RunsAllJobs trees name before after code ⊎ Fails (BatchFails trees name before after unwritten undrawn) code before.report after.report
 batch_failed trees name other before after unwritten undrawn code failure same because said =
     inr (record { failure = failure; because = subst (λ (n : List ℕ). BatchFails trees n before after unwritten undrawn failure) same because; said = said })
+
+-- ---- why the jobs weren't run
+
+-- there are none to run
+no_jobs : (trees : Trees) (name : List ℕ) (old new : ShelfState) (undrawn : Type 0) (failure : Failure) → HasNoJobs trees name old new failure → IsUntouched trees undrawn → JobsFail trees name old new undrawn failure
+no_jobs trees name old new undrawn failure none same =
+    elim none.cause [
+      | inl fails ↦
+          by_file (jobs_in name) old new name (λ (f : Failure). HasNoJobs trees name old new f → JobsFail trees name old new undrawn f) (λ refusal unread. (unread, same)) (λ unread. (unread, same))
+          (λ lacks. inl (lacks, same)) failure fails none
+      | inr has ↦
+          by_file trees.read has.between new has.file.keyring (λ (f : Failure). HasNoJobs trees name old new f → JobsFail trees name old new undrawn f) (λ refusal unread. (unread, same)) (λ unread. (unread, same))
+          (λ lacks. inl (lacks, same)) failure has.cause none
+    ]
+
+-- the job file gives none
+pub no_jobs_file : (trees : Trees) (name : List ℕ) (old new : ShelfState) (undrawn : Type 0) (failure : Failure) → IsUntouched trees undrawn → new.files ≡ old.files
+    → FileFails (jobs_in name) old new name failure → JobsFail trees name old new undrawn failure
+no_jobs_file trees name old new undrawn failure same stay fails = no_jobs trees name old new undrawn failure (record { cause = inl fails; stay = stay }) same
+
+-- or the keyring file gives no tree
+pub no_jobs_tree : (trees : Trees) (name keyring : List ℕ) (old mid new : ShelfState) (undrawn : Type 0) (file : JobFile) (failure : Failure) → IsUntouched trees undrawn → JobsAre old mid name file
+    → keyring ≡ file.keyring → new.files ≡ mid.files → FileFails trees.read mid new keyring failure → JobsFail trees name old new undrawn failure
+no_jobs_tree trees name keyring old mid new undrawn file failure same jobs named stay fails =
+    no_jobs trees name old new undrawn failure (record {
+      cause = inr (record { file = file; between = mid; jobs = jobs; cause = subst (λ (n : List ℕ). FileFails trees.read mid new n failure) named fails });
+      stay = stay ∙ jobs.stay;
+    }) same
+
+-- or memory ran out behind both files
+pub some_turns : (trees : Trees) (name keyring : List ℕ) (old mid read new : ShelfState) (undrawn : Type 0) (file : JobFile) (tree : KeyringMeaning) → JobsAre old mid name file → keyring ≡ file.keyring
+    → TreeIs trees.read mid read keyring tree → IsLawful tree → read.files ≡ mid.files → IfSome trees.kept (TreeOutlasts file.cache tree) → OnlyWritten file.jobs read.files new.files
+    → is_some new.files ≡ is_some read.files → CallsAtMost file.jobs read new → JobsFail trees name old new undrawn failures.Memory
+some_turns trees name keyring old mid read new undrawn file tree jobs named is lawful stay goes others told calls = inr (record {
+  file = file;
+  tree = tree;
+  read = read;
+  has = record { between = mid; jobs = jobs; keyring = subst (λ (n : List ℕ). TreeIs trees.read mid read n tree) named is; lawful = lawful; stay = stay ∙ jobs.stay };
+  goes = goes;
+  others = others;
+  told = told;
+  calls = calls;
+})
+
+-- then nothing was written
+pub jobs_unwritten : (trees : Trees) (name : List ℕ) (before after : Objects) (unwritten undrawn : Type 0) (failure : Failure) → unwritten → JobsFail trees name before.shelf after.shelf undrawn failure
+    → BatchFails trees name before after unwritten undrawn failure
+jobs_unwritten trees name before after unwritten undrawn (failures.Outside outsides.SinkFault) same fails = absurd fails
+jobs_unwritten trees name before after unwritten undrawn failures.Memory same fails = (inl fails, same)
+jobs_unwritten trees name before after unwritten undrawn failure same fails = (fails, same)
+
+-- else the output failed, or memory ran out for the report
+report_lost : (trees : Trees) (name : List ℕ) (before after : Objects) (unwritten undrawn : Type 0) (lines : List JobLine)
+    → RunsJobFile trees name before.shelf after.shelf before.entropy after.entropy lines → (failure : Failure) → TextFails (report_of lines) before.output after.output unwritten failure
+    → BatchFails trees name before after unwritten undrawn failure
+report_lost trees name before after unwritten undrawn lines runs (failures.Outside outsides.SinkFault) fails = record { lines = lines; runs = runs; front = fails }
+report_lost trees name before after unwritten undrawn lines runs failures.Memory fails = (inr (lines, runs), fails)
+report_lost trees name before after unwritten undrawn lines runs failure fails = absurd fails
+
+pub report_unwritten : {T : Type 0} (trees : Trees) (name : List ℕ) (before after : Objects) (unwritten undrawn : Type 0) (lines : List JobLine) (r : Result T Failure)
+    → RunsJobFile trees name before.shelf after.shelf before.entropy after.entropy lines → IfErr r (TextFails (report_of lines) before.output after.output unwritten)
+    → IfErr r (BatchFails trees name before after unwritten undrawn)
+report_unwritten trees name before after unwritten undrawn lines r runs fails =
+    IfErr-weaker r (TextFails (report_of lines) before.output after.output unwritten) (BatchFails trees name before after unwritten undrawn)
+    (report_lost trees name before after unwritten undrawn lines runs) fails
 
 -- ---- the limits
 
@@ -83,6 +154,15 @@ run_changes {new = new} runs = record {
   told = runs.told ∙ ap is_some runs.has.stay;
 }
 
+turns_change : {trees : Trees} {name : List ℕ} {old new : ShelfState} → RunsSomeTurns trees name old new → ChangesOnlyWritten name old new
+turns_change {new = new} turns = record {
+  file = turns.file;
+  between = turns.has.between;
+  jobs = turns.has.jobs;
+  others = subst (λ (files : Option Files). OnlyWritten turns.file.jobs files new.files) turns.has.stay turns.others;
+  told = turns.told ∙ ap is_some turns.has.stay;
+}
+
 failing_keeps : (trees : Trees) (name : List ℕ) (before after : Objects) (unwritten undrawn : Type 0) (failure : Failure)
     → BatchFails trees name before after unwritten undrawn failure → KeepsOtherFiles name before.shelf after.shelf
 failing_keeps trees name before after unwritten undrawn failures.NotRead fails = absurd fails.0
@@ -94,7 +174,9 @@ failing_keeps trees name before after unwritten undrawn (failures.Outside outsid
 failing_keeps trees name before after unwritten undrawn (failures.Outside outsides.ShelfFault) fails = inl fails.0.0.stay
 failing_keeps trees name before after unwritten undrawn (failures.Outside outside) fails = absurd fails.0
 failing_keeps trees name before after unwritten undrawn (failures.Refusal refusal) fails = absurd fails.0
-failing_keeps trees name before after unwritten undrawn failures.Memory fails = fails.0.1
+failing_keeps trees name before after unwritten undrawn failures.Memory (inl (inl none), same) = inl none.0.stay
+failing_keeps trees name before after unwritten undrawn failures.Memory (inl (inr turns), same) = inr (turns_change turns)
+failing_keeps trees name before after unwritten undrawn failures.Memory (inr lacks, same) = inr (run_changes lacks.1)
 
 pub keeps_other_files : (trees : Trees) (name : List ℕ) (before after : Objects) (unchanged : Unchanged) (code : ℕ)
     → BatchRuns trees name before after unchanged code → KeepsOtherFiles name before.shelf after.shelf

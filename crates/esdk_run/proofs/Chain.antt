@@ -1,6 +1,6 @@
 -- The chain of managers over a tree: what it gives and what it finds is what the tree does.
-use Rattle.std.proofs.Common.{◌≡◌, ◌∙◌, List, ℕ, [], length, None, Some, Ok, Err, refl, sym, subst, arith, take, drop}
-use Rattle.std.specs.Prelude.{filter, map, IfErr, IfSome, ⊤}
+use Rattle.std.proofs.Common.{◌≡◌, ◌∙◌, List, ℕ, [], length, None, Some, Ok, Err, refl, sym, ap, subst, arith, take, drop}
+use Rattle.std.specs.Prelude.{filter, map, IfErr, IfSome}
 use Rattle.std.specs.declared.option.Option.{Option}
 use Rattle.std.specs.declared.result.Result.{Result}
 use Rattle.esdk_fields.specs.declared.faults.Fault.{Fault}
@@ -153,24 +153,28 @@ chain_goes {N} meaning p q left is_left went =
     } in
     subst (λ (l : N). TreeGoes (meaning p.0) (meaning l)) (sym is_left) on
 
--- what an encryption leaves of its manager plays no part
-ends_unasked : (asked : Asked) (input taken : SourceState) (gains : Gaining) (entropy spent : EntropyState) (untouched unasked : Type 0) (error : EncryptError)
-    → EncryptEnds asked input taken gains entropy spent untouched unasked error → EncryptEnds asked input taken gains entropy spent untouched ⊤ error
-ends_unasked asked input taken gains entropy spent untouched unasked (errors.Outside outsides.EntropyFault) ends =
-    record { rose = ends.rose; kept = ends.kept; none = ends.none; same = ends.same; manager = tt }
-ends_unasked asked input taken gains entropy spent untouched unasked (errors.Outside outsides.KeyringFault) ends = ends
-ends_unasked asked input taken gains entropy spent untouched unasked (errors.Outside outside) ends = ends
-ends_unasked asked input taken gains entropy spent untouched unasked (errors.Refusal refusals.TooManyFrames) ends = ends
-ends_unasked asked input taken gains entropy spent untouched unasked (errors.Refusal (refusals.TooManyDataKeys n)) ends = ends
-ends_unasked asked input taken gains entropy spent untouched unasked (errors.Refusal (refusals.HeaderTooLong n)) ends = ends
-ends_unasked asked input taken gains entropy spent untouched unasked (errors.Refusal refusal) ends = ends
-ends_unasked asked input taken gains entropy spent untouched unasked errors.Memory ends = ends
+-- what follows of a manager that wasn't asked
+pub ends_unasked : (asked : Asked) (input taken : SourceState) (gains : Gaining) (entropy spent : EntropyState) (untouched unasked still : Type 0) (error : EncryptError) → (unasked → still)
+    → EncryptEnds asked input taken gains entropy spent untouched unasked error → EncryptEnds asked input taken gains entropy spent untouched still error
+ends_unasked asked input taken gains entropy spent untouched unasked still (errors.Outside outsides.EntropyFault) so ends =
+    record { rose = ends.rose; kept = ends.kept; none = ends.none; same = ends.same; manager = so ends.manager }
+ends_unasked asked input taken gains entropy spent untouched unasked still (errors.Outside outsides.KeyringFault) so ends = ends
+ends_unasked asked input taken gains entropy spent untouched unasked still (errors.Outside outside) so ends = ends
+ends_unasked asked input taken gains entropy spent untouched unasked still (errors.Refusal refusals.TooManyFrames) so ends = ends
+ends_unasked asked input taken gains entropy spent untouched unasked still (errors.Refusal (refusals.TooManyDataKeys n)) so ends = ends
+ends_unasked asked input taken gains entropy spent untouched unasked still (errors.Refusal (refusals.HeaderTooLong n)) so ends = ends
+ends_unasked asked input taken gains entropy spent untouched unasked still (errors.Refusal refusal) so ends = ends
+ends_unasked asked input taken gains entropy spent untouched unasked still errors.Memory so ends = ends
 
-pub errs_more : (a b : Asked) (input taken : SourceState) (gains : Gaining) (entropy spent : EntropyState) (untouched unasked : Type 0) (r : Result (Unit {0}) EncryptError) → SaysMore a b
-    → IfErr r (λ error. EncryptEnds a input taken gains entropy spent untouched unasked error) → IfErr r (EncryptEnds b input taken gains entropy spent untouched ⊤)
-errs_more a b input taken gains entropy spent untouched unasked (Ok done) more ends = tt
-errs_more a b input taken gains entropy spent untouched unasked (Err error) more ends =
-    ends_unasked b input taken gains entropy spent untouched unasked error (ends_more a b input taken gains entropy spent untouched unasked error more ends)
+pub errs_more : (a b : Asked) (input taken : SourceState) (gains : Gaining) (entropy spent : EntropyState) (untouched unasked still : Type 0) (r : Result (Unit {0}) EncryptError) → SaysMore a b → (unasked → still)
+    → IfErr r (λ error. EncryptEnds a input taken gains entropy spent untouched unasked error) → IfErr r (EncryptEnds b input taken gains entropy spent untouched still)
+errs_more a b input taken gains entropy spent untouched unasked still (Ok done) more so ends = tt
+errs_more a b input taken gains entropy spent untouched unasked still (Err error) more so ends =
+    ends_unasked b input taken gains entropy spent untouched unasked still error so (ends_more a b input taken gains entropy spent untouched unasked error more ends)
+
+-- of a tree whose manager is as it was, this is left as it was read
+pub left_as_read : {N : Type 0} (meaning : N → KeyringMeaning) (p q : N × List (List ℕ)) (left : N) → left ≡ q.0 → q ≡ p → meaning left ≡ meaning p.0
+left_as_read {N} meaning p q left is same = ap meaning (is ∙ (λ i. (same i).0))
 
 -- ---- materials to decrypt with
 

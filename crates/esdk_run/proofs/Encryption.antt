@@ -23,7 +23,7 @@ use Rattle.esdk_encrypt.proofs.Telling.{encrypts_more}
 use Rattle.esdk_report.specs.declared.failure.Failure.{Failure}
 use Rattle.esdk_report.specs.declared.failure.Failure.TheVariants as failures
 use Rattle.esdk_run.specs.ArmouredMessage.{form_of, output_gains}
-use Rattle.esdk_run.specs.Encrypt.{EncryptFails, encrypt_asked, refusal_asked, run_writer}
+use Rattle.esdk_run.specs.Encrypt.{EncryptFails, EncryptionFails, encrypt_asked, refusal_asked, run_writer}
 use Rattle.esdk_run.specs.Failures.{encryption_failure}
 use Rattle.esdk_run.specs.Giving.{refusal_over}
 use Rattle.esdk_run.specs.Objects.{Objects, Unchanged, same_streams}
@@ -32,6 +32,7 @@ use Rattle.esdk_report.specs.Report.{Reports}
 use Rattle.esdk_run.specs.Run.{EncryptRuns, IsDone}
 use Rattle.esdk_run.specs.Told.{ComesBack, EncryptsWhatFits, GivesTree, HoldsTree, IsDoneOrMemory, NothingFails, WritesTheMessage}
 use Rattle.esdk_run.specs.Trees.{HasTree, Trees}
+use Rattle.esdk_run.proofs.Chain.{ends_unasked}
 use Rattle.esdk_run.proofs.Files.{held_is_read, held_is_taken}
 use Rattle.esdk_run.proofs.Given.{one_context, pairs_not_refused}
 use Rattle.esdk_run.proofs.Keys.{told_says_more, tree_grants}
@@ -54,6 +55,22 @@ pub record HadTree (trees : Trees) (asked : EncryptWords) (before after : Object
   pub has : HasTree trees asked.pairs asked.keyring before.shelf after.shelf context tree left
   pub ended : Ending (encrypt_asked asked context tree left) (output_gains asked.armour before.output after.output) before after untouched code
 
+-- its encryption under that tree ended so
+ended_with : (trees : Trees) (asked : EncryptWords) (before after : Objects) (untouched : Type 0) (code : ℕ) (error : EncryptError)
+    → EncryptionFails trees asked before after untouched error → Reports (encryption_failure error) code before.report after.report → HadTree trees asked before after untouched code
+ended_with trees asked before after untouched code error fails said = record {
+  context = fails.context;
+  tree = fails.tree;
+  left = fails.left;
+  has = fails.has;
+  ended = inr (
+    error,
+    ends_unasked (encrypt_asked asked fails.context fails.tree fails.left) before.input after.input (output_gains asked.armour before.output after.output) before.entropy after.entropy untouched
+        (fails.left ≡ fails.tree) ⊤ error (λ _. tt) fails.ended,
+    said,
+  );
+}
+
 failed_with : (trees : Trees) (asked : EncryptWords) (before after : Objects) (unchanged : Unchanged) (code : ℕ)
     (left : KeyringMeaning) (failure : Failure) → trees.kept ≡ Some left → EncryptFails trees asked before after unchanged failure
     → Reports failure code before.report after.report → HadTree trees asked before after (same_streams unchanged) code
@@ -65,14 +82,14 @@ failed_with trees asked before after unchanged code left (failures.File refusal)
 failed_with trees asked before after unchanged code left (failures.Outside outsides.ShelfFault) kept fails said =
     absurd (none_is_some trees left kept fails.1.none)
 failed_with trees asked before after unchanged code left (failures.Outside outside) kept fails said =
-    record { context = fails.context; tree = fails.tree; left = fails.left; has = fails.has; ended = inr (errors.Outside outside, fails.ended, said) }
+    ended_with trees asked before after (same_streams unchanged) code (errors.Outside outside) fails said
 failed_with trees asked before after unchanged code left (failures.Refusal refusal) kept (inl none) said =
     absurd (none_is_some trees left kept none.1.none)
 failed_with trees asked before after unchanged code left (failures.Refusal refusal) kept (inr fails) said =
-    record { context = fails.context; tree = fails.tree; left = fails.left; has = fails.has; ended = inr (errors.Refusal refusal, fails.ended, said) }
-failed_with trees asked before after unchanged code left failures.Memory kept (inl none) said = absurd (none_is_some trees left kept none.none)
+    ended_with trees asked before after (same_streams unchanged) code (errors.Refusal refusal) fails said
+failed_with trees asked before after unchanged code left failures.Memory kept (inl none) said = absurd (none_is_some trees left kept none.1.none)
 failed_with trees asked before after unchanged code left failures.Memory kept (inr fails) said =
-    record { context = fails.context; tree = fails.tree; left = fails.left; has = fails.has; ended = inr (errors.Memory, fails.ended, said) }
+    ended_with trees asked before after (same_streams unchanged) code errors.Memory fails said
 
 pub had_tree : (trees : Trees) (asked : EncryptWords) (before after : Objects) (unchanged : Unchanged) (code : ℕ)
     (left : KeyringMeaning) → trees.kept ≡ Some left → EncryptRuns trees asked before after unchanged code

@@ -1,6 +1,6 @@
 -- How a command ends once its encryption or its decryption ended.
-use Rattle.std.proofs.Common.{ℕ, List, Ok, Err, inl, inr}
-use Rattle.std.specs.Prelude.{IfErr, IfOk, OnOk, ⊤}
+use Rattle.std.proofs.Common.{◌≡◌, ℕ, List, Ok, Err, inl, inr}
+use Rattle.std.specs.Prelude.{IfErr, IfOk, OnOk}
 use Rattle.std.specs.declared.result.Result.{Result}
 use Rattle.esdk_args.specs.declared.request.DecryptWords.{DecryptWords}
 use Rattle.esdk_args.specs.declared.request.EncryptWords.{EncryptWords}
@@ -39,7 +39,7 @@ pub encryption_ran : (trees : Trees) (asked : EncryptWords) (before after : Obje
     (context : List KeyValue) (tree left : KeyringMeaning) (r : Result (Unit {0}) EncryptError)
     → HasTree trees asked.pairs asked.keyring before.shelf after.shelf context tree left
     → OnOk r (Encrypts (encrypt_asked asked context tree left) before.input after.input (output_gains asked.armour before.output after.output) before.entropy after.entropy)
-    → IfErr r (EncryptEnds (encrypt_asked asked context tree left) before.input after.input (output_gains asked.armour before.output after.output) before.entropy after.entropy (same_streams unchanged) ⊤)
+    → IfErr r (EncryptEnds (encrypt_asked asked context tree left) before.input after.input (output_gains asked.armour before.output after.output) before.entropy after.entropy (same_streams unchanged) (left ≡ tree))
     → OnOk r (IsDone code before.report after.report) → IfErr r (λ error. Reports (encryption_failure error) code before.report after.report)
     → EncryptRuns trees asked before after unchanged code
 encryption_ran trees asked before after unchanged code context tree left (Ok done) has encrypts ends is said =

@@ -56,7 +56,7 @@ pub extract_not_begun : (trees : Trees) (asked : ExtractWords) (before after : O
     → IsNotPrepared trees asked.pairs asked.keyring before.shelf after.shelf unchanged.shelf failure → IsUntouched trees unchanged.output → ExtractFails trees asked before after unchanged failure
 extract_not_begun trees asked before after unchanged failure cause same =
     by_cause trees asked.pairs asked.keyring before.shelf after.shelf unchanged.shelf (ExtractFails trees asked before after unchanged)
-    (λ refusal pairs. (pairs, same)) (λ refusal none. (none, same)) (λ none. inl (none, same)) (inl same) failure cause
+    (λ refusal pairs. (pairs, same)) (λ refusal none. (none, same)) (λ none. inl (none, same)) (λ lacks. inl (lacks, same)) failure cause
 
 extraction_fails : (trees : Trees) (asked : ExtractWords) (before after : Objects) (unchanged : Unchanged) (error : ExtractError)
     → ExtractionFails trees asked before after unchanged.output error → ExtractFails trees asked before after unchanged (extraction_failure error)
@@ -104,7 +104,7 @@ failed_range trees asked before after unchanged code left (failures.Outside outs
     record { tree_for = fails.tree_for; ended = inr (errors.Outside outsides.ShelfFault, (fails.ended, said)) }
 failed_range trees asked before after unchanged code left (failures.Outside outside) kept fails said = record { tree_for = fails.tree_for; ended = inr (errors.Outside outside, (fails.ended, said)) }
 failed_range trees asked before after unchanged code left (failures.Refusal refusal) kept fails said = absurd (none_is_some trees left kept fails.1.none)
-failed_range trees asked before after unchanged code left failures.Memory kept (inl none) said = absurd (none_is_some trees left kept none.none)
+failed_range trees asked before after unchanged code left failures.Memory kept (inl none) said = absurd (none_is_some trees left kept none.1.none)
 failed_range trees asked before after unchanged code left failures.Memory kept (inr fails) said = record { tree_for = fails.tree_for; ended = inr (errors.Memory, (fails.ended, said)) }
 
 had_range : (trees : Trees) (asked : ExtractWords) (before after : Objects) (unchanged : Unchanged) (code : ℕ) (left : KeyringMeaning) → trees.kept ≡ Some left
@@ -339,26 +339,31 @@ both_read trees asked before after bytes t held reads =
     let more = reads bytes (inl (held_then before t.middle asked.from bytes t.files held)) in
     omega (arith, more, t.has.file.file.most, t.has.file.file.few)
 
-failure_reads : (trees : Trees) (asked : ExtractWords) (before after : Objects) (unchanged : Unchanged) (code : ℕ) (bytes : List ℕ) (failure : Failure) → (unchanged.shelf → after.shelf ≡ before.shelf)
-    → Holds before.shelf.files asked.from bytes → (code ≡ 5 → ⊥) → ExtractFails trees asked before after unchanged failure → Reports failure code before.report after.report
+failure_reads : (trees : Trees) (asked : ExtractWords) (before after : Objects) (unchanged : Unchanged) (bytes : List ℕ) (failure : Failure) → (unchanged.shelf → after.shelf ≡ before.shelf)
+    → Holds before.shelf.files asked.from bytes → ExtractFails trees asked before after unchanged failure
     → after.shelf.given ≤ before.shelf.given + most_file + most_piece + most_read no_limits (range_asked asked) bytes
-failure_reads trees asked before after unchanged code bytes failures.NotRead same held other fails said = absurd fails
-failure_reads trees asked before after unchanged code bytes (failures.BadNumber option) same held other fails said = absurd fails
-failure_reads trees asked before after unchanged code bytes (failures.BadPair number) same held other fails said = absurd fails
-failure_reads trees asked before after unchanged code bytes (failures.Fault fault) same held other fails said = both_read trees asked before after bytes fails.tree_for held fails.reads
-failure_reads trees asked before after unchanged code bytes (failures.File refusal) same held other fails said = elim fails.0.cause [
+failure_reads trees asked before after unchanged bytes failures.NotRead same held fails = absurd fails
+failure_reads trees asked before after unchanged bytes (failures.BadNumber option) same held fails = absurd fails
+failure_reads trees asked before after unchanged bytes (failures.BadPair number) same held fails = absurd fails
+failure_reads trees asked before after unchanged bytes (failures.Fault fault) same held fails = both_read trees asked before after bytes fails.tree_for held fails.reads
+failure_reads trees asked before after unchanged bytes (failures.File refusal) same held fails = elim fails.0.cause [
   | inl long ↦ omega (arith, long.1.most)
   | inr refused ↦ omega (arith, refused.file.most, refused.file.few)
 ]
-failure_reads trees asked before after unchanged code bytes (failures.Outside outsides.ShelfFault) same held other (inl fails) said = omega (arith, fails.0.cause.most)
-failure_reads trees asked before after unchanged code bytes (failures.Outside outsides.ShelfFault) same held other (inr fails) said = both_read trees asked before after bytes fails.tree_for held fails.reads
-failure_reads trees asked before after unchanged code bytes (failures.Outside outside) same held other fails said = both_read trees asked before after bytes fails.tree_for held fails.reads
-failure_reads trees asked before after unchanged code bytes (failures.Refusal refusal) same held other fails said =
+failure_reads trees asked before after unchanged bytes (failures.Outside outsides.ShelfFault) same held (inl fails) = omega (arith, fails.0.cause.most)
+failure_reads trees asked before after unchanged bytes (failures.Outside outsides.ShelfFault) same held (inr fails) = both_read trees asked before after bytes fails.tree_for held fails.reads
+failure_reads trees asked before after unchanged bytes (failures.Outside outside) same held fails = both_read trees asked before after bytes fails.tree_for held fails.reads
+failure_reads trees asked before after unchanged bytes (failures.Refusal refusal) same held fails =
     let unread = ap (λ (s : ShelfState). s.given) (same fails.0.shelf) in omega (arith, unread)
-failure_reads trees asked before after unchanged code bytes failures.Memory same held other fails said = absurd (other (memory_status failures.Memory code before.report after.report refl said))
+failure_reads trees asked before after unchanged bytes failures.Memory same held (inl (inl unread, none)) =
+    let still = ap (λ (s : ShelfState). s.given) (same unread) in omega (arith, still)
+failure_reads trees asked before after unchanged bytes failures.Memory same held (inl (inr lacks, none)) = elim lacks.cause [
+  | inl early ↦ omega (arith, early.most)
+  | inr late ↦ omega (arith, late.1.most, late.1.few)
+]
+failure_reads trees asked before after unchanged bytes failures.Memory same held (inr fails) = both_read trees asked before after bytes fails.tree_for held fails.reads
 
 pub reads_no_more : (trees : Trees) (asked : ExtractWords) (before after : Objects) (unchanged : Unchanged) (code : ℕ) → (unchanged.shelf → after.shelf ≡ before.shelf) → ExtractRuns trees asked before after unchanged code
-    → ReadsNoMore asked before after code
-reads_no_more trees asked before after unchanged code same (inl done) bytes held other = both_read trees asked before after bytes done.1.tree_for held done.1.reads
-reads_no_more trees asked before after unchanged code same (inr fails) bytes held other =
-    failure_reads trees asked before after unchanged code bytes fails.failure same held other fails.because fails.said
+    → ReadsNoMore asked before after
+reads_no_more trees asked before after unchanged code same (inl done) bytes held = both_read trees asked before after bytes done.1.tree_for held done.1.reads
+reads_no_more trees asked before after unchanged code same (inr fails) bytes held = failure_reads trees asked before after unchanged bytes fails.failure same held fails.because

@@ -1,5 +1,7 @@
 -- Why a file gives nothing, and why a command doesn't begin, by what its calls answer.
-use Rattle.std.proofs.Common.{◌≡◌, ℕ, List, None, Some, Err, inl, refl, sym, ap, subst}
+use Rattle.std.proofs.Common.{◌≡◌, ℕ, List, None, Some, Err, inl, inr, refl, sym, ap, subst}
+use Rattle.std.proofs.lemmas.Result.{IfErr-weaker}
+use Rattle.std.specs.Prelude.{IfErr}
 use Rattle.std.specs.declared.result.Result.{Result}
 use Rattle.context_codec.specs.declared.insert.PairError.{PairError}
 use Rattle.context_codec.specs.declared.insert.PairError.TheVariants as pairs
@@ -26,6 +28,7 @@ use Rattle.keyring_trait.specs.Manager.{Went}
 use Rattle.multi_keyring.specs.declared.tree.Node.{Node}
 use Rattle.multi_keyring.specs.Tree.{tree_meaning}
 use Rattle.whole_input.specs.declared.file.FileError.TheVariants as files
+use Rattle.whole_input.specs.File.{IsFile}
 use Rattle.esdk_report.specs.declared.failure.Failure.{Failure}
 use Rattle.esdk_report.specs.declared.failure.Failure.TheVariants as failures
 use Rattle.esdk_run.specs.Batch.{jobs_in}
@@ -37,7 +40,7 @@ use Rattle.esdk_run.specs.Migrate.{value_asked}
 use Rattle.esdk_run.specs.Objects.{Objects, Unchanged, same_streams}
 use Rattle.esdk_run.specs.Pairs.{GivesContext, RefusesPairs, RefusesWordPairs, context_in}
 use Rattle.esdk_run.specs.Prepared.{IsNotPrepared, IsPrepared}
-use Rattle.esdk_run.specs.Trees.{HasNoTree, HasTree, IsUntouched, Trees, means, reading, trees_of}
+use Rattle.esdk_run.specs.Trees.{HasNoTree, HasTree, IsUntouched, TreeLacksMemory, Trees, means, reading, trees_of}
 use Rattle.esdk_run.proofs.Chain.{chain, chain_goes}
 
 -- ---- files
@@ -50,7 +53,35 @@ file_not_taken read old new name failure (files.Shelf, is, cause) =
 file_not_taken read old new name failure (files.TooLong, is, cause) =
     subst (λ (f : Failure). FileFails read old new name f) (sym is) (inl (refl, cause))
 file_not_taken read old new name failure (files.Memory, is, cause) =
-    subst (λ (f : Failure). FileFails read old new name f) (sym is) tt
+    subst (λ (f : Failure). FileFails read old new name f) (sym is) (inl cause)
+
+-- a file that was taken and isn't read as a value
+not_read : {A : Type 0} (read : List ℕ → Result A FileRefusal) (old new : ShelfState) (name bytes : List ℕ)
+    → IsFile old new name bytes → (failure : Failure) → ReadCause read bytes failure → FileFails read old new name failure
+not_read read old new name bytes file (failures.File refusal) cause = inr (record { bytes = bytes; file = file; is = cause })
+not_read read old new name bytes file failures.Memory cause = inr (bytes, file)
+not_read read old new name bytes file failure cause = absurd cause
+
+pub file_not_read : {A B : Type 0} (read : List ℕ → Result A FileRefusal) (old new : ShelfState) (name bytes lent : List ℕ)
+    (r : Result B Failure) → lent ≡ bytes → IsFile old new name bytes → IfErr r (ReadCause read lent)
+    → IfErr r (FileFails read old new name)
+file_not_read read old new name bytes lent r same file cause =
+    IfErr-weaker r (ReadCause read bytes) (FileFails read old new name) (not_read read old new name bytes file)
+    (subst (λ (b : List ℕ). IfErr r (ReadCause read b)) same cause)
+
+-- what is so for each reason why a file gives nothing is so for the one that there is
+pub by_file : {A : Type 0} (read : List ℕ → Result A FileRefusal) (old new : ShelfState) (name : List ℕ) (So : Failure → Type 0)
+    → ((refusal : FileRefusal) → So (failures.File refusal)) → So (failures.Outside outsides.ShelfFault) → So failures.Memory
+    → (failure : Failure) → FileFails read old new name failure → So failure
+by_file read old new name So file shelf memory (failures.File refusal) fails = file refusal
+by_file read old new name So file shelf memory (failures.Outside outsides.ShelfFault) fails = shelf
+by_file read old new name So file shelf memory (failures.Outside outside) fails = absurd fails
+by_file read old new name So file shelf memory failures.Memory fails = memory
+by_file read old new name So file shelf memory failures.NotRead fails = absurd fails
+by_file read old new name So file shelf memory (failures.BadNumber option) fails = absurd fails
+by_file read old new name So file shelf memory (failures.BadPair number) fails = absurd fails
+by_file read old new name So file shelf memory (failures.Fault fault) fails = absurd fails
+by_file read old new name So file shelf memory (failures.Refusal refusal) fails = absurd fails
 
 -- a keyring file that is refused
 pub tree_refused : {P : Type 0} (meaning : P → KeyringMeaning) (plugs : List (Plug P)) (bytes : List ℕ)
@@ -88,7 +119,7 @@ pairs_not_prepared has words name old new unread (pairs.Refusal refusal) failure
     subst (λ (f : Failure). IsNotPrepared has words name old new unread f) (sym is)
     (record { refused = refuses; shelf = same })
 pairs_not_prepared has words name old new unread pairs.Memory failure is refuses same =
-    subst (λ (f : Failure). IsNotPrepared has words name old new unread f) (sym is) tt
+    subst (λ (f : Failure). IsNotPrepared has words name old new unread f) (sym is) (inl same)
 
 -- its keyring file gives no tree
 pub tree_not_prepared : (has : Trees) (words : List PairWord) (name : List ℕ) (old new : ShelfState) (unread : Type 0)
@@ -104,14 +135,16 @@ tree_not_prepared has words name old new unread context (failures.Outside outsid
     record { context = context; given = given; cause = fails }
 tree_not_prepared has words name old new unread context (failures.Outside outside) given fails = absurd fails
 tree_not_prepared has words name old new unread context (failures.Refusal refusal) given fails = absurd fails
-tree_not_prepared has words name old new unread context failures.Memory given fails = tt
+tree_not_prepared has words name old new unread context failures.Memory given fails =
+    inr (record { context = context; given = given; cause = fails })
 
 -- what is so for each reason is so for the one that there is
 pub by_cause : (has : Trees) (words : List PairWord) (name : List ℕ) (old new : ShelfState) (unread : Type 0) (So : Failure → Type 0)
     → ((refusal : Refusal) → RefusesWordPairs words refusal unread → So (failures.Refusal refusal))
     → ((refusal : FileRefusal) → HasNoTree has words name old new (failures.File refusal) → So (failures.File refusal))
     → (HasNoTree has words name old new (failures.Outside outsides.ShelfFault) → So (failures.Outside outsides.ShelfFault))
-    → So failures.Memory → (failure : Failure) → IsNotPrepared has words name old new unread failure → So failure
+    → (TreeLacksMemory has words name old new unread → So failures.Memory) → (failure : Failure)
+    → IsNotPrepared has words name old new unread failure → So failure
 by_cause has words name old new unread So refused file shelf memory failures.NotRead cause = absurd cause
 by_cause has words name old new unread So refused file shelf memory (failures.BadNumber option) cause = absurd cause
 by_cause has words name old new unread So refused file shelf memory (failures.BadPair number) cause = absurd cause
@@ -120,7 +153,7 @@ by_cause has words name old new unread So refused file shelf memory (failures.Fi
 by_cause has words name old new unread So refused file shelf memory (failures.Outside outsides.ShelfFault) cause = shelf cause
 by_cause has words name old new unread So refused file shelf memory (failures.Outside outside) cause = absurd cause
 by_cause has words name old new unread So refused file shelf memory (failures.Refusal refusal) cause = refused refusal cause
-by_cause has words name old new unread So refused file shelf memory failures.Memory cause = memory
+by_cause has words name old new unread So refused file shelf memory failures.Memory cause = memory cause
 
 -- then `encrypt` fails so, and leaves all but the shelf untouched
 pub encrypt_not_begun : (has : Trees) (asked : EncryptWords) (before after : Objects) (unchanged : Unchanged)
@@ -128,7 +161,7 @@ pub encrypt_not_begun : (has : Trees) (asked : EncryptWords) (before after : Obj
     → IsUntouched has (same_streams unchanged × unchanged.entropy) → EncryptFails has asked before after unchanged failure
 encrypt_not_begun has asked before after unchanged failure cause same =
     by_cause has asked.pairs asked.keyring before.shelf after.shelf unchanged.shelf (EncryptFails has asked before after unchanged)
-    (λ refusal pairs. inl (pairs, same)) (λ refusal none. (none, same)) (λ none. (none, same)) (inl same) failure cause
+    (λ refusal pairs. inl (pairs, same)) (λ refusal none. (none, same)) (λ none. (none, same)) (λ lacks. inl (lacks, same)) failure cause
 
 -- and so does `decrypt`
 pub decrypt_not_begun : (has : Trees) (asked : DecryptWords) (before after : Objects) (unchanged : Unchanged)
@@ -136,7 +169,7 @@ pub decrypt_not_begun : (has : Trees) (asked : DecryptWords) (before after : Obj
     → IsUntouched has (same_streams unchanged) → DecryptFails has asked before after unchanged failure
 decrypt_not_begun has asked before after unchanged failure cause same =
     by_cause has asked.pairs asked.keyring before.shelf after.shelf unchanged.shelf (DecryptFails has asked before after unchanged)
-    (λ refusal pairs. (pairs, same)) (λ refusal none. (none, same)) (λ none. (none, same)) (inl same) failure cause
+    (λ refusal pairs. (pairs, same)) (λ refusal none. (none, same)) (λ none. (none, same)) (λ lacks. inl (lacks, same)) failure cause
 
 -- ---- what a command has that began
 

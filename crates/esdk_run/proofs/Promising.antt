@@ -1,11 +1,11 @@
 -- What a run promises, by its course and by what it keeps.
-use Rattle.std.proofs.Common.{◌≡◌, ℕ, Bool, true, false, None, Ok, Err, inl, inr, sym, subst}
+use Rattle.std.proofs.Common.{◌≡◌, ℕ, Bool, true, false, None, Ok, Err, inl, inr, sym, ap, subst, arith}
 use Rattle.esdk_args.specs.declared.request.Request.{Request}
 use Rattle.esdk_args.specs.declared.request.Request.TheVariants as requests
 use Rattle.esdk_args.specs.declared.request.WordsFault.{WordsFault}
 use Rattle.esdk_args.specs.declared.request.WordsFault.TheVariants as unread
 use Rattle.esdk_args.specs.Faults.{AnswersWords}
-use Rattle.esdk_base.specs.Streams.{SinkState, SourceState}
+use Rattle.esdk_base.specs.Streams.{ShelfState, SinkState, SourceState}
 use Rattle.esdk_report.specs.Report.{Reports}
 use Rattle.esdk_report.specs.declared.failure.Failure.TheVariants as failures
 use Rattle.esdk_run.specs.Failures.{words_failure}
@@ -14,6 +14,7 @@ use Rattle.esdk_run.specs.Promises.{Promises, Ticks, Words}
 use Rattle.esdk_run.specs.Run.{RunsAs}
 use Rattle.esdk_run.specs.Trees.{IsUntouched, Trees}
 use Rattle.esdk_list.specs.List.{HasNoMemory}
+use Rattle.whole_input.specs.File.{LacksMemory}
 use Rattle.esdk_run.specs.UnarmouredList.{ListEndsAs}
 use Rattle.esdk_run.proofs.Asked.{audit_asked, audited_asked, batch_asked, decrypt_asked, done_asked, encrypt_asked, extract_asked, judgement_asked, judgements_asked, jobs_asked, limits_asked, line_asked, migration_asked, openers_asked, others_asked, reads_asked, reseal_asked, round_trip_asked, whole_asked}
 use Rattle.esdk_run.proofs.EarlyEnds.{leaves_a_front}
@@ -21,7 +22,7 @@ use Rattle.esdk_run.proofs.Encryption.{encrypt_comes_back, encrypts_what_fits, w
 use Rattle.esdk_run.proofs.Extraction.{extract_comes_back, extracts_of_content, extracts_sound_ranges, reads_no_more, says_what_it_extracts}
 use Rattle.esdk_run.proofs.Keeping.{Keeps}
 use Rattle.esdk_run.proofs.ResealTold.{gives_back_first, reseals_whole_messages, rotates_what_is_written, says_what_it_reseals}
-use Rattle.esdk_run.proofs.TreesBack.{decrypt_comes_back, none_is_some}
+use Rattle.esdk_run.proofs.TreesBack.{decrypt_comes_back}
 use Rattle.esdk_run.proofs.UnarmouredListing.{lists_nothing}
 use Rattle.esdk_run.proofs.Unarmouring.{unread_text}
 use Rattle.esdk_run.proofs.FilesCame.{audits_if_done, batches_if_run, extracts_if_done, names_if_fault}
@@ -98,44 +99,54 @@ unlisted true uncommitted before after output put unwritten is same =
     subst (λ (taken : SourceState). ListEndsAs true uncommitted before taken output put unwritten failures.Memory) (sym is)
     (unread_text before _ (λ seen. (lists_nothing uncommitted seen, same)))
 
+-- Memory ran out for a file that wasn't read.
+lacks_unread : (old new : ShelfState) → new ≡ old → LacksMemory old new
+lacks_unread old new same = record {
+  most = omega (arith, ap (λ (s : ShelfState). s.given) same);
+  faults = ap (λ (s : ShelfState). s.faults) same;
+}
+
 -- of words that memory didn't suffice to read
 memory_runs : (trees : Trees) (words : Words) (before after : Objects) (unchanged : Unchanged) (code : ℕ)
-    → trees.kept ≡ None → after.input ≡ before.input → unchanged.input → unchanged.output → unchanged.entropy → after.shelf.files ≡ before.shelf.files
+    → trees.kept ≡ None → after.input ≡ before.input → unchanged.input → unchanged.output → unchanged.entropy → unchanged.shelf → after.shelf ≡ before.shelf
     → Reports failures.Memory code before.report after.report → RunsAs trees words before after unchanged code
-memory_runs trees (Ok (requests.List asked)) before after unchanged code none is input output entropy files said =
+memory_runs trees (Ok (requests.List asked)) before after unchanged code none is input output entropy shelf still said =
     (none, inr (record { failure = failures.Memory; because = unlisted asked.armour asked.uncommitted before.input after.input before.output after.output unchanged.output is output; said = said }))
-memory_runs trees (Ok (requests.Encrypt asked)) before after unchanged code none is input output entropy files said =
-    inr (record { failure = failures.Memory; because = inl (record { same = ((input, output), entropy); none = none }); said = said })
-memory_runs trees (Ok (requests.Decrypt asked)) before after unchanged code none is input output entropy files said =
-    inr (record { failure = failures.Memory; because = inl (record { same = (input, output); none = none }); said = said })
-memory_runs trees (Ok (requests.Migrate asked)) before after unchanged code none is input output entropy files said =
-    (none, inr (record { failure = failures.Memory; because = (tt, output); said = said }))
-memory_runs trees (Ok (requests.Batch name)) before after unchanged code none is input output entropy files said =
+memory_runs trees (Ok (requests.Encrypt asked)) before after unchanged code none is input output entropy shelf still said =
+    inr (record { failure = failures.Memory; because = inl (inl shelf, record { same = ((input, output), entropy); none = none }); said = said })
+memory_runs trees (Ok (requests.Decrypt asked)) before after unchanged code none is input output entropy shelf still said =
+    inr (record { failure = failures.Memory; because = inl (inl shelf, record { same = (input, output); none = none }); said = said })
+memory_runs trees (Ok (requests.Migrate asked)) before after unchanged code none is input output entropy shelf still said =
+    (none, inr (record { failure = failures.Memory; because = (inl (lacks_unread before.shelf after.shelf still), output); said = said }))
+memory_runs trees (Ok (requests.Batch name)) before after unchanged code none is input output entropy shelf still said =
     inr (record {
       failure = failures.Memory;
-      because = ((λ left kept. absurd (none_is_some trees left kept none), inl files), output);
+      because = (
+        inl (inl (record { cause = inl (inl (lacks_unread before.shelf after.shelf still)); stay = ap (λ (s : ShelfState). s.files) still }, record { same = entropy; none = none })),
+        output,
+      );
       said = said;
     })
-memory_runs trees (Ok (requests.Gen seed size)) before after unchanged code none is input output entropy files said =
+memory_runs trees (Ok (requests.Gen seed size)) before after unchanged code none is input output entropy shelf still said =
     (none, inr (record { failure = failures.Memory; because = output; said = said }))
-memory_runs trees (Ok (requests.Extract asked)) before after unchanged code none is input output entropy files said =
-    inr (record { failure = failures.Memory; because = inl (record { same = output; none = none }); said = said })
-memory_runs trees (Ok (requests.Audit name)) before after unchanged code none is input output entropy files said =
-    inr (record { failure = failures.Memory; because = (λ left kept. absurd (none_is_some trees left kept none), output); said = said })
-memory_runs trees (Ok (requests.Reseal asked)) before after unchanged code none is input output entropy files said =
-    inr (record { failure = failures.Memory; because = inl (record { same = ((input, output), entropy); none = none }); said = said })
-memory_runs trees (Err fault) before after unchanged code none is input output entropy files said =
+memory_runs trees (Ok (requests.Extract asked)) before after unchanged code none is input output entropy shelf still said =
+    inr (record { failure = failures.Memory; because = inl (inl shelf, record { same = output; none = none }); said = said })
+memory_runs trees (Ok (requests.Audit name)) before after unchanged code none is input output entropy shelf still said =
+    inr (record { failure = failures.Memory; because = (inl (record { cause = inl (inl (lacks_unread before.shelf after.shelf still)); none = none }), output); said = said })
+memory_runs trees (Ok (requests.Reseal asked)) before after unchanged code none is input output entropy shelf still said =
+    inr (record { failure = failures.Memory; because = inl (inl shelf, record { same = ((input, output), entropy); none = none }); said = said })
+memory_runs trees (Err fault) before after unchanged code none is input output entropy shelf still said =
     (record { same = (input, output); none = none }, inr said)
 
 pub refused_runs : (trees : Trees) (words : Words) (fault : WordsFault) (before after : Objects) (unchanged : Unchanged) (code : ℕ)
     → AnswersWords (Err fault) words → trees.kept ≡ None → after.input ≡ before.input → unchanged.input → unchanged.output → unchanged.entropy
-    → after.shelf.files ≡ before.shelf.files → Reports (words_failure fault) code before.report after.report
+    → unchanged.shelf → after.shelf ≡ before.shelf → Reports (words_failure fault) code before.report after.report
     → RunsAs trees words before after unchanged code
-refused_runs trees words unread.NotRead before after unchanged code answers none is input output entropy files said =
+refused_runs trees words unread.NotRead before after unchanged code answers none is input output entropy shelf still said =
     fault_runs trees words unread.NotRead before after unchanged code answers (record { same = (input, output); none = none }) said
-refused_runs trees words (unread.BadNumber name) before after unchanged code answers none is input output entropy files said =
+refused_runs trees words (unread.BadNumber name) before after unchanged code answers none is input output entropy shelf still said =
     fault_runs trees words (unread.BadNumber name) before after unchanged code answers (record { same = (input, output); none = none }) said
-refused_runs trees words (unread.BadPair number) before after unchanged code answers none is input output entropy files said =
+refused_runs trees words (unread.BadPair number) before after unchanged code answers none is input output entropy shelf still said =
     fault_runs trees words (unread.BadPair number) before after unchanged code answers (record { same = (input, output); none = none }) said
-refused_runs trees words unread.Memory before after unchanged code answers none is input output entropy files said =
-    memory_runs trees words before after unchanged code none is input output entropy files said
+refused_runs trees words unread.Memory before after unchanged code answers none is input output entropy shelf still said =
+    memory_runs trees words before after unchanged code none is input output entropy shelf still said

@@ -45,7 +45,7 @@ use Rattle.esdk_run.proofs.Decryption.{context_shown, one_shows_none, zero_shows
 use Rattle.esdk_run.proofs.Files.{held_is_read, held_is_taken, tree_is_held}
 use Rattle.esdk_run.proofs.Given.{one_context, pairs_not_refused}
 use Rattle.esdk_run.proofs.Keys.{keys_allow, keys_wrap, materials_told}
-use Rattle.esdk_run.proofs.Resealing.{seal_refusal, tree_giving}
+use Rattle.esdk_run.proofs.Resealing.{ends_unasked, seal_refusal, tree_giving}
 use Rattle.esdk_run.proofs.Statuses.{fault_status, memory_status, not_done}
 use Rattle.esdk_run.proofs.TreesBack.{gives_held, if_none_failed, left_is, none_is_some, told_then}
 
@@ -92,7 +92,14 @@ module _ (trees : Trees) (asked : ResealWords) (before after : Objects) (unchang
     later = f.later;
     sealing = f.sealing;
     goes = f.goes;
-    ended = inr (error, (f.so, said));
+    ended = inr (
+      error,
+      (
+        ends_unasked (reseal_asked asked f.given f.tree f.left f.second) before.input after.input before.output after.output before.entropy after.entropy (same_streams unchanged)
+            ((f.left ≡ f.tree) × (f.later ≡ f.second)) ⊤ error (λ _. tt) f.so,
+        said,
+      ),
+    );
   })
 
   first_had : (failure : Failure) → HasNoSecond trees asked before.shelf after.shelf (untouched unchanged) failure → Reports failure code before.report after.report → Had trees asked before after unchanged code
@@ -110,7 +117,7 @@ module _ (trees : Trees) (asked : ResealWords) (before after : Objects) (unchang
   failed_had left (failures.Outside outside) kept fails said = both_had (errors.Outside outside) fails said
   failed_had left (failures.Refusal refusal) kept (inl none) said = absurd (none_is_some trees left kept none.1.none)
   failed_had left (failures.Refusal refusal) kept (inr fails) said = both_had (errors.Refusal refusal) fails said
-  failed_had left failures.Memory kept (inl none) said = absurd (none_is_some trees left kept none.none)
+  failed_had left failures.Memory kept (inl none) said = absurd (none_is_some trees left kept none.1.none)
   failed_had left failures.Memory kept (inr (inl fails)) said = first_had failures.Memory fails said
   failed_had left failures.Memory kept (inr (inr fails)) said = both_had errors.Memory fails said
 

@@ -1,6 +1,6 @@
 -- How a resealing ends over the trees of two keyring files.
 use Rattle.std.proofs.Common.{◌≡◌, ◌∙◌, ℕ, List, Ok, Err, inl, inr, refl, sym, subst, arith}
-use Rattle.std.specs.Prelude.{IfErr, IfOk, ⊤}
+use Rattle.std.specs.Prelude.{IfErr, IfOk}
 use Rattle.std.specs.declared.result.Result.{Result}
 use Rattle.esdk_args.specs.declared.request.ResealWords.{ResealWords}
 use Rattle.esdk_base.specs.Streams.{EntropyState, ShelfState, SinkState, SourceState}
@@ -90,15 +90,15 @@ second_has {N} meaning trees asked between new node made is has = subst (λ (n :
 
 -- ---- the run
 
--- what a resealing leaves of its managers plays no part
-ends_unasked : (run : Resealing) (input taken : SourceState) (output put : SinkState) (entropy spent : EntropyState) (same unasked : Type 0) (error : InputError)
-    → ResealEnds run input taken output put entropy spent same unasked error → ResealEnds run input taken output put entropy spent same ⊤ error
-ends_unasked run input taken output put entropy spent same unasked (errors.Outside outsides.EntropyFault) ends =
-    record { rose = ends.rose; kept = ends.kept; none = ends.none; same = ends.same; manager = tt }
-ends_unasked run input taken output put entropy spent same unasked (errors.Outside outside) ends = ends
-ends_unasked run input taken output put entropy spent same unasked (errors.Fault fault) ends = ends
-ends_unasked run input taken output put entropy spent same unasked (errors.Refusal refusal) ends = ends
-ends_unasked run input taken output put entropy spent same unasked errors.Memory ends = ends
+-- what follows of managers that weren't asked
+pub ends_unasked : (run : Resealing) (input taken : SourceState) (output put : SinkState) (entropy spent : EntropyState) (same unasked still : Type 0) (error : InputError) → (unasked → still)
+    → ResealEnds run input taken output put entropy spent same unasked error → ResealEnds run input taken output put entropy spent same still error
+ends_unasked run input taken output put entropy spent same unasked still (errors.Outside outsides.EntropyFault) so ends =
+    record { rose = ends.rose; kept = ends.kept; none = ends.none; same = ends.same; manager = so ends.manager }
+ends_unasked run input taken output put entropy spent same unasked still (errors.Outside outside) so ends = ends
+ends_unasked run input taken output put entropy spent same unasked still (errors.Fault fault) so ends = ends
+ends_unasked run input taken output put entropy spent same unasked still (errors.Refusal refusal) so ends = ends
+ends_unasked run input taken output put entropy spent same unasked still errors.Memory so ends = ends
 
 -- the course of a resealing over managers that held these trees, of which the second didn't fail
 module _ (asked : ResealWords) (given : List KeyValue) (tree left second later : KeyringMeaning) (stayed : Stayed second.faults later.faults) (opened opening : ManagerNow)
@@ -116,11 +116,11 @@ module _ (asked : ResealWords) (given : List KeyValue) (tree left second later :
       input_more (answering_of opened opening 0) to.opening.manager (limits_of asked) given (giving (default_now second) (default_now later)) (tree_giving second) asked.frame
       allows (tree_gives second later stayed) input taken output put entropy spent context done
 
-  pub tree_ends : (same unasked : Type 0) (r : Result (List KeyValue) InputError) → IfErr r (ResealEnds from input taken output put entropy spent same unasked)
-      → IfErr r (ResealEnds to input taken output put entropy spent same ⊤)
-  tree_ends same unasked (Ok context) ends = tt
-  tree_ends same unasked (Err error) ends =
-      ends_unasked to input taken output put entropy spent same unasked error
+  pub tree_ends : (same unasked still : Type 0) (r : Result (List KeyValue) InputError) → (unasked → still) → IfErr r (ResealEnds from input taken output put entropy spent same unasked)
+      → IfErr r (ResealEnds to input taken output put entropy spent same still)
+  tree_ends same unasked still (Ok context) so ends = tt
+  tree_ends same unasked still (Err error) so ends =
+      ends_unasked to input taken output put entropy spent same unasked still error so
       (stops_more (answering_of opened opening 0) to.opening.manager (limits_of asked) given (giving (default_now second) (default_now later)) (tree_giving second) asked.frame
       allows (tree_gives second later stayed) input taken output put entropy spent same unasked error ends)
 
@@ -139,7 +139,7 @@ pub resealing_ran : (trees : Trees) (asked : ResealWords) (before after : Object
     (given : List KeyValue) (tree left : KeyringMeaning) (between : ShelfState) (second later : KeyringMeaning) (r : Result (List KeyValue) InputError)
     → HasFirst trees asked before.shelf given tree left between → HasSecond trees asked between after.shelf second → TreeGoes second later
     → IfOk r (ResealsInput (reseal_asked asked given tree left second) before.input after.input before.output after.output before.entropy after.entropy)
-    → IfErr r (ResealEnds (reseal_asked asked given tree left second) before.input after.input before.output after.output before.entropy after.entropy (same_streams unchanged) ⊤)
+    → IfErr r (ResealEnds (reseal_asked asked given tree left second) before.input after.input before.output after.output before.entropy after.entropy (same_streams unchanged) ((left ≡ tree) × (later ≡ second)))
     → IfOk r (λ context. TellsOrLacksMemory context code before.report after.report)
     → IfErr r (λ error. Reports (resealing_failure error) code before.report after.report)
     → ResealRuns trees asked before after unchanged code
@@ -161,7 +161,7 @@ pub reseal_not_begun : (trees : Trees) (asked : ResealWords) (before after : Obj
     → IsUntouched trees (untouched unchanged) → ResealFails trees asked before after unchanged failure
 reseal_not_begun trees asked before after unchanged failure cause same =
     by_cause trees asked.pairs asked.keyring before.shelf after.shelf unchanged.shelf (ResealFails trees asked before after unchanged)
-    (λ refusal pairs. inl (pairs, same)) (λ refusal none. inl (none, same)) (λ none. inl (none, same)) (inl same) failure cause
+    (λ refusal pairs. inl (pairs, same)) (λ refusal none. inl (none, same)) (λ none. inl (none, same)) (λ lacks. inl (lacks, same)) failure cause
 
 -- and so does one whose second file gives no tree
 pub no_second : (trees : Trees) (asked : ResealWords) (before after : Objects) (unchanged : Unchanged) (given : List KeyValue) (tree : KeyringMeaning) (between : ShelfState)

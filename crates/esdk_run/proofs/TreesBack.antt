@@ -76,7 +76,7 @@ failed_with trees asked before after unchanged code left (failures.Outside outsi
 failed_with trees asked before after unchanged code left (failures.Outside outside) kept fails said =
     record { given = fails.given; tree = fails.tree; left = fails.left; has = fails.has; ended = inr (errors.Outside outside, fails.ended, said) }
 failed_with trees asked before after unchanged code left (failures.Refusal refusal) kept fails said = absurd (none_is_some trees left kept fails.1.none)
-failed_with trees asked before after unchanged code left failures.Memory kept (inl none) said = absurd (none_is_some trees left kept none.none)
+failed_with trees asked before after unchanged code left failures.Memory kept (inl none) said = absurd (none_is_some trees left kept none.1.none)
 failed_with trees asked before after unchanged code left failures.Memory kept (inr fails) said =
     record { given = fails.given; tree = fails.tree; left = fails.left; has = fails.has; ended = inr (errors.Memory, fails.ended, said) }
 

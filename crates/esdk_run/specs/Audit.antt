@@ -84,11 +84,13 @@ pub record FindsNotAll (trees : Trees) (name : List ℕ) (old new : ShelfState)
   pub audits : Audits trees name old read file left leaves
   pub fails : FindsNotEach read new leaves left.faults file.messages failure
 
--- Where a tree is given back, it is what is left of the one that was read.
-abbrev pub IsLeftOfAudit : Trees → (name : List ℕ) → ShelfState → Type 0
-IsLeftOfAudit trees name old = (left : KeyringMeaning) → trees.kept ≡ Some left
-    → (file : AuditFile) × (read : ShelfState) × (leaves : List KeyringMeaning)
-    × Audits trees name old read file left leaves
+-- Memory ran out before there was anything to audit; or at a message; or for the lines, once it was
+-- found of each.
+abbrev pub AuditLacksMemory : Trees → (name : List ℕ) → ShelfState → ShelfState → Type 0
+AuditLacksMemory trees name old new =
+    HasNoAudit trees name old new failures.Memory
+    ⊎ FindsNotAll trees name old new failures.Memory
+    ⊎ ((count : ℕ) × (found : List Audited) × FindsAll trees name old new count found)
 
 -- ---- how it ends
 
@@ -122,7 +124,7 @@ AuditFails trees name old new (failures.Outside outsides.KeyringFault) =
     FindsNotAll trees name old new (failures.Outside outsides.KeyringFault)
 AuditFails trees name old new (failures.Outside outsides.InputTooLong) =
     FindsNotAll trees name old new (failures.Outside outsides.InputTooLong)
-AuditFails trees name old new failures.Memory = IsLeftOfAudit trees name old
+AuditFails trees name old new failures.Memory = AuditLacksMemory trees name old new
 AuditFails trees name old new failure = ⊥
 
 -- Why `audit` wrote no lines, or lost them. `unwritten` says that the output is as before, as it is

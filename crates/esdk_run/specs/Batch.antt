@@ -1,5 +1,5 @@
 -- What the command `batch` comes to.
-use Rattle.std.specs.Prelude.{◌≡◌, ◌⊎◌, ℕ, List, [], Some, is_some, Result, if◌then◌else◌}
+use Rattle.std.specs.Prelude.{◌≡◌, ◌⊎◌, ℕ, List, [], Some, IfSome, is_some, Result, if◌then◌else◌}
 use Rattle.std.specs.List.{list_all}
 use Rattle.std.specs.Io.KnownBytes.{Appends}
 use Rattle.esdk_base.specs.Receiver.{SinkFails}
@@ -16,7 +16,7 @@ use Rattle.batch_report.specs.declared.job_lines.JobLine.{JobLine}
 use Rattle.batch_report.specs.BatchReport.{is_done, report_of}
 use Rattle.esdk_batch.specs.Batch.{OnlyWritten, RunsBatch}
 use Rattle.esdk_batch.specs.Failures.{CountsFailures, tally_of}
-use Rattle.esdk_batch.specs.ShelfCalls.{AreFinished}
+use Rattle.esdk_batch.specs.ShelfCalls.{AreFinished, CallsAtMost}
 use Rattle.esdk_batch.specs.Watching.{shown_files}
 use Rattle.keyring_trait.specs.Saying.{Saying}
 use Rattle.esdk_report.specs.declared.failure.Failure.{Failure}
@@ -90,13 +90,19 @@ pub record RunsJobFile (trees : Trees) (name : List ℕ) (old new : ShelfState) 
   pub finished : AreFinished file.jobs read new lines
   pub failures : CountsFailures file.jobs (tally_of read entropy.faults tree.faults) (tally_of new spent.faults left.faults) lines
 
--- The keyring file was read as a tree, of which this is left.
-pub record OutlastsJobs (trees : Trees) (name : List ℕ) (old : ShelfState) (left : KeyringMeaning) : Type 0 where
+-- Both files were read, and the jobs had some of their turns, or none. Of the tree this is left, if
+-- something is given back; no file changed but those that jobs write, and the shelf tells its files
+-- where it did. It was called for these and for those that jobs read, and each job's file was
+-- finished once at the most.
+pub record RunsSomeTurns (trees : Trees) (name : List ℕ) (old new : ShelfState) : Type 0 where
   pub file : JobFile
   pub tree : KeyringMeaning
   pub read : ShelfState
   pub has : HasJobs trees name old read file tree
-  pub goes : TreeOutlasts file.cache tree left
+  pub goes : IfSome trees.kept (TreeOutlasts file.cache tree)
+  pub others : OnlyWritten file.jobs read.files new.files
+  pub told : is_some new.files ≡ is_some read.files
+  pub calls : CallsAtMost file.jobs read new
 
 -- The job file of this name was read, no file of the shelf changed but those that its jobs write,
 -- and the shelf tells its files where it did before.
@@ -124,23 +130,30 @@ pub record LosesReport (trees : Trees) (name : List ℕ) (before after : Objects
   pub runs : RunsJobFile trees name before.shelf after.shelf before.entropy after.entropy lines
   pub front : SinkFails before.output after.output (report_of lines)
 
--- Why the jobs weren't run; `undrawn` says that the entropy is as before. Where memory ran out,
--- what is given back, if something is, is what is left of the tree that was read; and the shelf
--- keeps its files, or no others changed but those that the jobs write.
+-- Why the jobs weren't run; `undrawn` says that the entropy is as before. Memory runs out before
+-- there are jobs to run, with nothing drawn; or behind both files, before all turns were had.
 abbrev pub JobsFail : Trees → List ℕ → ShelfState → ShelfState → Type 0 → Failure → Type 0
 JobsFail trees name old new undrawn (failures.File refusal) =
     HasNoJobs trees name old new (failures.File refusal) × IsUntouched trees undrawn
 JobsFail trees name old new undrawn (failures.Outside outsides.ShelfFault) =
     HasNoJobs trees name old new (failures.Outside outsides.ShelfFault) × IsUntouched trees undrawn
 JobsFail trees name old new undrawn failures.Memory =
-    ((left : KeyringMeaning) → trees.kept ≡ Some left → OutlastsJobs trees name old left)
-    × ((new.files ≡ old.files) ⊎ ChangesOnlyWritten name old new)
+    (HasNoJobs trees name old new failures.Memory × IsUntouched trees undrawn)
+    ⊎ RunsSomeTurns trees name old new
 JobsFail trees name old new undrawn failure = ⊥
+
+-- The jobs had their turns, and memory ran out for the text of their report.
+abbrev pub LacksReport : Trees → List ℕ → Objects → Objects → Type 0
+LacksReport trees name before after = (lines : List JobLine)
+    × RunsJobFile trees name before.shelf after.shelf before.entropy after.entropy lines
 
 -- Why the jobs weren't run, or their report wasn't written. `unwritten` says that the output is as
 -- before, as it is but where it failed.
 abbrev pub BatchFails : Trees → List ℕ → Objects → Objects → Type 0 → Type 0 → Failure → Type 0
 BatchFails trees name before after unwritten undrawn (failures.Outside outsides.SinkFault) =
     LosesReport trees name before after
+BatchFails trees name before after unwritten undrawn failures.Memory =
+    (JobsFail trees name before.shelf after.shelf undrawn failures.Memory
+    ⊎ LacksReport trees name before after) × unwritten
 BatchFails trees name before after unwritten undrawn failure =
     JobsFail trees name before.shelf after.shelf undrawn failure × unwritten

@@ -22,7 +22,7 @@ use Rattle.esdk_report.specs.declared.failure.Failure.{Failure}
 use Rattle.esdk_report.specs.declared.failure.Failure.TheVariants as failures
 use Rattle.esdk_run.specs.Objects.{Objects, Unchanged, same_streams}
 use Rattle.esdk_run.specs.Pairs.{RefusesWordPairs, required_in}
-use Rattle.esdk_run.specs.Trees.{HasNoTree, HasTree, IsUntouched, Trees}
+use Rattle.esdk_run.specs.Trees.{HasNoTree, HasTree, IsUntouched, TreeLacksMemory, Trees}
 use Rattle.esdk_run.specs.UnarmouredDecrypt.{DecryptsAs, DecryptEndsAs}
 
 -- the limits that the words set, and whether they allow a message without a commitment
@@ -88,7 +88,8 @@ pub record DecryptionFails (trees : Trees) (asked : DecryptWords) (before after 
   pub has : HasTree trees asked.pairs asked.keyring before.shelf after.shelf given tree left
   pub ended : DecryptEndsAs asked.armour (decrypt_asked asked given tree left) before.input after.input before.output after.output unwritten error
 
--- Why an input wasn't decrypted, and what that left. Want of memory is free.
+-- Why an input wasn't decrypted, and what that left. Memory runs out before there is a tree, with
+-- nothing read but its file, or in the decryption.
 abbrev pub DecryptFails : Trees → DecryptWords → Objects → Objects → Unchanged → Failure → Type 0
 DecryptFails trees asked before after unchanged (failures.File refusal) =
     HasNoTree trees asked.pairs asked.keyring before.shelf after.shelf (failures.File refusal) × IsUntouched trees (same_streams unchanged)
@@ -97,5 +98,8 @@ DecryptFails trees asked before after unchanged (failures.Outside outsides.Shelf
 DecryptFails trees asked before after unchanged (failures.Outside outside) = DecryptionFails trees asked before after unchanged.output (errors.Outside outside)
 DecryptFails trees asked before after unchanged (failures.Fault fault) = DecryptionFails trees asked before after unchanged.output (errors.Fault fault)
 DecryptFails trees asked before after unchanged (failures.Refusal refusal) = RefusesWordPairs asked.pairs refusal unchanged.shelf × IsUntouched trees (same_streams unchanged)
-DecryptFails trees asked before after unchanged failures.Memory = IsUntouched trees (same_streams unchanged) ⊎ DecryptionFails trees asked before after unchanged.output errors.Memory
+DecryptFails trees asked before after unchanged failures.Memory =
+    (TreeLacksMemory trees asked.pairs asked.keyring before.shelf after.shelf unchanged.shelf
+    × IsUntouched trees (same_streams unchanged))
+    ⊎ DecryptionFails trees asked before after unchanged.output errors.Memory
 DecryptFails trees asked before after unchanged failure = ⊥

@@ -1,5 +1,5 @@
 -- What the command `encrypt` comes to.
-use Rattle.std.specs.Prelude.{◌⊎◌, List, ⊤, Option, None}
+use Rattle.std.specs.Prelude.{◌≡◌, ◌⊎◌, List, Option, None}
 use Rattle.std.specs.Option.{option_or}
 use Rattle.esdk_args.specs.declared.request.EncryptWords.{EncryptWords}
 use Rattle.esdk_fields.specs.declared.refusals.Outside.TheVariants as outsides
@@ -18,7 +18,7 @@ use Rattle.esdk_run.specs.ArmouredMessage.{output_gains}
 use Rattle.esdk_run.specs.Giving.{TreeGives, refusal_over}
 use Rattle.esdk_run.specs.Objects.{Objects, Unchanged, same_streams}
 use Rattle.esdk_run.specs.Pairs.{RefusesWordPairs, required_in}
-use Rattle.esdk_run.specs.Trees.{HasNoTree, HasTree, IsUntouched, Trees}
+use Rattle.esdk_run.specs.Trees.{HasNoTree, HasTree, IsUntouched, TreeLacksMemory, Trees}
 
 -- ---- what is asked for
 
@@ -60,15 +60,17 @@ pub record EncryptsInput (trees : Trees) (asked : EncryptWords) (before after : 
   pub has : HasTree trees asked.pairs asked.keyring before.shelf after.shelf context tree left
   pub done : Encrypts (encrypt_asked asked context tree left) before.input after.input (output_gains asked.armour before.output after.output) before.entropy after.entropy
 
--- The words give a context, the keyring file is read as a tree, and the encryption ended with this error.
+-- The words give a context, the keyring file is read as a tree, and the encryption ended with this
+-- error. With X4 no keyring was asked: the tree is given back as it was read.
 pub record EncryptionFails (trees : Trees) (asked : EncryptWords) (before after : Objects) (untouched : Type 0) (error : EncryptError) : Type 0 where
   pub context : List KeyValue
   pub tree : KeyringMeaning
   pub left : KeyringMeaning
   pub has : HasTree trees asked.pairs asked.keyring before.shelf after.shelf context tree left
-  pub ended : EncryptEnds (encrypt_asked asked context tree left) before.input after.input (output_gains asked.armour before.output after.output) before.entropy after.entropy untouched ⊤ error
+  pub ended : EncryptEnds (encrypt_asked asked context tree left) before.input after.input (output_gains asked.armour before.output after.output) before.entropy after.entropy untouched (left ≡ tree) error
 
--- Why an input wasn't encrypted, and what that left. Want of memory is free.
+-- Why an input wasn't encrypted, and what that left. Memory runs out before there is a tree, with
+-- nothing read but its file, or in the encryption, before anything is taken or written.
 abbrev pub EncryptFails : Trees → EncryptWords → Objects → Objects → Unchanged → Failure → Type 0
 EncryptFails trees asked before after unchanged (failures.File refusal) =
     HasNoTree trees asked.pairs asked.keyring before.shelf after.shelf (failures.File refusal) × IsUntouched trees (same_streams unchanged × unchanged.entropy)
@@ -80,5 +82,7 @@ EncryptFails trees asked before after unchanged (failures.Refusal refusal) =
     (RefusesWordPairs asked.pairs refusal unchanged.shelf × IsUntouched trees (same_streams unchanged × unchanged.entropy))
     ⊎ EncryptionFails trees asked before after (same_streams unchanged) (errors.Refusal refusal)
 EncryptFails trees asked before after unchanged failures.Memory =
-    IsUntouched trees (same_streams unchanged × unchanged.entropy) ⊎ EncryptionFails trees asked before after (same_streams unchanged) errors.Memory
+    (TreeLacksMemory trees asked.pairs asked.keyring before.shelf after.shelf unchanged.shelf
+    × IsUntouched trees (same_streams unchanged × unchanged.entropy))
+    ⊎ EncryptionFails trees asked before after (same_streams unchanged) errors.Memory
 EncryptFails trees asked before after unchanged failure = ⊥

@@ -20,7 +20,7 @@ use Rattle.esdk_report.specs.declared.failure.Failure.TheVariants as failures
 use Rattle.esdk_run.specs.Decrypt.{decrypt_asked, reader_of}
 use Rattle.esdk_run.specs.Objects.{Objects, Unchanged}
 use Rattle.esdk_run.specs.Pairs.{RefusesWordPairs}
-use Rattle.esdk_run.specs.Trees.{HasNoTree, HasTree, IsUntouched, Trees}
+use Rattle.esdk_run.specs.Trees.{HasNoTree, HasTree, IsUntouched, TreeLacksMemory, Trees}
 
 -- The decryption with the same keyring file and the same pairs, without limits; only messages that
 -- commit to their data key are read.
@@ -85,7 +85,8 @@ pub record ExtractionFails (trees : Trees) (asked : ExtractWords) (before after 
   pub grown : Grows tree_for.middle.calls after.shelf.calls
   pub reads : ReadsOfFile asked tree_for.middle after.shelf
 
--- Why a range wasn't extracted, and what that left. Want of memory is free.
+-- Why a range wasn't extracted, and what that left. Memory runs out before there is a tree, with
+-- nothing read but its file, or in the extraction.
 abbrev pub ExtractFails : Trees → ExtractWords → Objects → Objects → Unchanged → Failure → Type 0
 ExtractFails trees asked before after unchanged (failures.File refusal) =
     HasNoTree trees asked.pairs asked.keyring before.shelf after.shelf (failures.File refusal)
@@ -101,6 +102,7 @@ ExtractFails trees asked before after unchanged (failures.Fault fault) =
 ExtractFails trees asked before after unchanged (failures.Refusal refusal) =
     RefusesWordPairs asked.pairs refusal unchanged.shelf × IsUntouched trees unchanged.output
 ExtractFails trees asked before after unchanged failures.Memory =
-    IsUntouched trees unchanged.output
+    (TreeLacksMemory trees asked.pairs asked.keyring before.shelf after.shelf unchanged.shelf
+    × IsUntouched trees unchanged.output)
     ⊎ ExtractionFails trees asked before after unchanged.output errors.Memory
 ExtractFails trees asked before after unchanged failure = ⊥

@@ -1,5 +1,5 @@
 -- What `extract` says over the tree that it gives back, where the shelf tells the message's file.
-use Rattle.std.specs.Prelude.{◌≡◌, ◌≢◌, ℕ, ◌+◌, ◌≤◌, List, None, Some}
+use Rattle.std.specs.Prelude.{◌≡◌, ℕ, ◌+◌, ◌≤◌, List, None, Some}
 use Rattle.std.specs.Io.KnownBytes.{Appends}
 use Rattle.esdk_args.specs.declared.request.ExtractWords.{ExtractWords}
 use Rattle.esdk_fields.specs.Bytes.{AreBytes}
@@ -130,10 +130,9 @@ ExtractsOfContent trees asked before after code =
 -- ---- how much is read
 
 -- Of a file that the shelf tells no more is read than the header, up to a piece behind it, and the
--- slots that the range names, beside the keyring file; unless memory runs out. That it is no more
+-- slots that the range names, beside the keyring file; however the run ends. That it is no more
 -- than the slots that are taken, `SaysWhatItExtracts` says.
-abbrev pub ReadsNoMore : ExtractWords → Objects → Objects → ℕ → Type 0
-ReadsNoMore asked before after code = (bytes : List ℕ) → Holds before.shelf.files asked.from bytes
-    → code ≢ 5
+abbrev pub ReadsNoMore : ExtractWords → Objects → Objects → Type 0
+ReadsNoMore asked before after = (bytes : List ℕ) → Holds before.shelf.files asked.from bytes
     → after.shelf.given ≤ before.shelf.given + most_file + most_piece
     + most_read no_limits (range_asked asked) bytes

@@ -154,8 +154,9 @@ pub record Promises (trees : Trees) (words : Words) (before after : Objects)
   -- `extract`: of a whole message the bytes of the range are written, of those that `decrypt` writes.
   pub range_of_content : On requests.Extract words
       (λ asked. ExtractsOfContent trees asked before after code)
-  -- `extract`: no more of the message's file is read than its header and the slots of the range.
-  pub extract_reads : On requests.Extract words (λ asked. ReadsNoMore asked before after code)
+  -- `extract`: however it ends, no more of the message's file is read than its header and the slots
+  -- of the range.
+  pub extract_reads : On requests.Extract words (λ asked. ReadsNoMore asked before after)
   -- `reseal`: the first tree is given back, only where its keyring file was read as one; and where
   -- a shelf tells that it holds one, and doesn't fail, that is given back, unless memory runs out.
   pub reseal_tree : On requests.Reseal words

@@ -20,7 +20,8 @@ use Rattle.esdk_run.specs.FileReading.{FileFails}
 use Rattle.esdk_run.specs.Giving.{TreeGives, refusal_over}
 use Rattle.esdk_run.specs.Objects.{Objects, Unchanged, same_streams}
 use Rattle.esdk_run.specs.Pairs.{RefusesWordPairs, required_in}
-use Rattle.esdk_run.specs.Trees.{HasNoTree, HasTree, IsLawful, IsUntouched, TreeGoes, TreeIs, Trees}
+use Rattle.esdk_run.specs.Trees.{HasNoTree, HasTree, IsLawful, IsUntouched, TreeGoes, TreeIs}
+use Rattle.esdk_run.specs.Trees.{TreeLacksMemory, Trees}
 
 -- the limit that the words set, and whether they allow a message without a commitment
 abbrev pub limits_of : ResealWords → Settings
@@ -86,9 +87,10 @@ pub record HasNoSecond (trees : Trees) (asked : ResealWords) (old new : ShelfSta
 
 -- ---- how it ends
 
--- Both files are read as trees, of which these are left, and this is so of the run with them.
+-- Both files are read as trees, of which these are left, and this is so of the run with them;
+-- `unasked` says that both are left as they were read.
 pub record HasBoth (trees : Trees) (asked : ResealWords) (before after : Objects)
-    (law : Resealing → Type 0) : Type 0 where
+    (law : Resealing → (unasked : Type 0) → Type 0) : Type 0 where
   pub given : List KeyValue
   pub tree : KeyringMeaning
   pub left : KeyringMeaning
@@ -98,29 +100,30 @@ pub record HasBoth (trees : Trees) (asked : ResealWords) (before after : Objects
   pub later : KeyringMeaning
   pub sealing : HasSecond trees asked between after.shelf second
   pub goes : TreeGoes second later
-  pub so : law (reseal_asked asked given tree left second)
+  pub so : law (reseal_asked asked given tree left second) ((left ≡ tree) × (later ≡ second))
 
 -- the whole input is a whole message to the first tree, with this whole context, and the output
 -- gained the new message of its content
 abbrev pub Reseals : Trees → ResealWords → Objects → Objects → List KeyValue → Type 0
 Reseals trees asked before after context =
     HasBoth trees asked before after
-    (λ run. ResealsInput run before.input after.input before.output after.output before.entropy
-    after.entropy context)
+    (λ run unasked. ResealsInput run before.input after.input before.output after.output
+    before.entropy after.entropy context)
 
--- the resealing ended with this error
+-- The resealing ended with this error. With X4 no keyring was asked.
 abbrev pub ResealingFails : Trees → ResealWords → Objects → Objects → Unchanged → InputError
     → Type 0
 ResealingFails trees asked before after unchanged error =
     HasBoth trees asked before after
-    (λ run. ResealEnds run before.input after.input before.output after.output before.entropy
-    after.entropy (same_streams unchanged) ⊤ error)
+    (λ run unasked. ResealEnds run before.input after.input before.output after.output
+    before.entropy after.entropy (same_streams unchanged) unasked error)
 
 -- nothing was read but files, and nothing was written or drawn
 abbrev pub untouched : Unchanged → Type 0
 untouched unchanged = same_streams unchanged × unchanged.entropy
 
--- Why an input wasn't resealed, and what that left. Want of memory is free.
+-- Why an input wasn't resealed, and what that left. Memory runs out before there is a tree, with
+-- nothing read but its file; or at the second file; or in the resealing.
 abbrev pub ResealFails : Trees → ResealWords → Objects → Objects → Unchanged → Failure → Type 0
 ResealFails trees asked before after unchanged (failures.File refusal) =
     (HasNoTree trees asked.pairs asked.keyring before.shelf after.shelf (failures.File refusal)
@@ -139,7 +142,8 @@ ResealFails trees asked before after unchanged (failures.Refusal refusal) =
     (RefusesWordPairs asked.pairs refusal unchanged.shelf × IsUntouched trees (untouched unchanged))
     ⊎ ResealingFails trees asked before after unchanged (errors.Refusal refusal)
 ResealFails trees asked before after unchanged failures.Memory =
-    IsUntouched trees (untouched unchanged)
+    (TreeLacksMemory trees asked.pairs asked.keyring before.shelf after.shelf unchanged.shelf
+    × IsUntouched trees (untouched unchanged))
     ⊎ HasNoSecond trees asked before.shelf after.shelf (untouched unchanged) failures.Memory
     ⊎ ResealingFails trees asked before after unchanged errors.Memory
 ResealFails trees asked before after unchanged failure = ⊥

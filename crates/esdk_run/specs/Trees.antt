@@ -1,5 +1,5 @@
 -- The keyring tree that a keyring file on a shelf is read as, and what a run leaves of it.
-use Rattle.std.specs.Prelude.{◌≡◌, ◌≤◌, ℕ, List, [], ◌∷◌, length, true, Option, option_map, Some, None, IfSome, Result, Ok, Err}
+use Rattle.std.specs.Prelude.{◌≡◌, ◌⊎◌, ◌≤◌, ℕ, List, [], ◌∷◌, length, true, Option, option_map, Some, None, IfSome, Result, Ok, Err}
 use Rattle.esdk_fields.specs.Counts.{Stayed}
 use Rattle.esdk_base.specs.Streams.{ShelfState}
 use Rattle.esdk_fields.specs.declared.refusals.FileRefusal.{FileRefusal}
@@ -15,6 +15,7 @@ use Rattle.keyring_file.specs.Found.{wraps_of}
 use Rattle.keyring_file.specs.KeyFile.{tree_of}
 use Rattle.whole_input.specs.File.{IsFile}
 use Rattle.esdk_report.specs.declared.failure.Failure.{Failure}
+use Rattle.esdk_report.specs.declared.failure.Failure.TheVariants as failures
 use Rattle.esdk_run.specs.FileReading.{FileFails, FileIs}
 use Rattle.esdk_run.specs.Pairs.{GivesContext}
 
@@ -74,6 +75,13 @@ pub record HasNoTree (trees : Trees) (words : List PairWord) (name : List ℕ) (
   pub context : List KeyValue
   pub given : GivesContext words context
   pub cause : FileFails trees.read old new name failure
+
+-- Memory ran out before there was a tree: for the words' pairs, and then no file was read, which
+-- `unread` says; or for the keyring file, behind them.
+abbrev pub TreeLacksMemory : Trees → List PairWord → (name : List ℕ) → (old new : ShelfState)
+    → (unread : Type 0) → Type 0
+TreeLacksMemory trees words name old new unread =
+    unread ⊎ HasNoTree trees words name old new failures.Memory
 
 -- What a run leaves that ends before it has a tree: these things are as before, and no tree is given back.
 pub record IsUntouched (trees : Trees) (unchanged : Type 0) : Type 0 where

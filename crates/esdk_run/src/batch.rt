@@ -4,7 +4,7 @@ ghost use Rattle.esdk_base.specs.Streams.{SinkState, SourceState};
 ghost use Rattle.batch_report.specs.BatchReport.{report_of};
 ghost use Rattle.esdk_batch.specs.Batch.{OnlyWritten};
 ghost use Rattle.esdk_batch.specs.Failures.{CountsFailures, tally_of};
-ghost use Rattle.esdk_batch.specs.ShelfCalls.{AreFinished};
+ghost use Rattle.esdk_batch.specs.ShelfCalls.{AreFinished, CallsAtMost};
 ghost use Rattle.esdk_run.specs.Ages.{KeepsAges, ServesFileInTime, ServesInTime, ShowsAges};
 ghost use Rattle.esdk_run.specs.Batch.{BatchFails, JobsAre, JobsFail, RunsJobFile, RunsWithin, WritesReport, jobs_in, status_of};
 ghost use Rattle.esdk_run.specs.FileReading.{FileFails, ReadCause};
@@ -217,7 +217,8 @@ fn jobs_in(alloc: Global, bytes: &[u8], name: &str) -> Result<Jobs, Failure>
 }
 
 /// Runs the jobs over this tree, and gives back what is left of it. Fails, with nothing run, where
-/// memory for the cache isn't there. Whatever comes, no file changes but those that jobs write.
+/// memory for the cache isn't there. Whatever comes, no file changes but those that jobs write, and
+/// the shelf is called for nothing but what the jobs read and write.
 fn run_over<K: Keyring, F: Shelf, W: Entropy, C: Clock>(
     alloc: Global,
     jobs: &Jobs,
@@ -241,6 +242,7 @@ fn run_over<K: Keyring, F: Shelf, W: Entropy, C: Clock>(
         (AreFinished jobs.now.jobs (F.state shelf.old) (F.state shelf.new))) }
     ensures others { OnlyWritten jobs.now.jobs (F.state shelf.old).files (F.state shelf.new).files }
     ensures told { is_some (F.state shelf.new).files ≡ is_some (F.state shelf.old).files }
+    ensures calls { CallsAtMost jobs.now.jobs (F.state shelf.old) (F.state shelf.new) }
 {
     let manager = CachingCmm::new(alloc, DefaultCmm::new(tree), jobs.cache())?;
     // Called for its clauses alone, which say what every manager keeps.

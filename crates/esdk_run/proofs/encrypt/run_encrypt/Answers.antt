@@ -7,7 +7,7 @@ use Rattle.multi_keyring.specs.Tree.{tree_meaning}
 use Rattle.esdk_run.specs.ArmouredMessage.{output_gains}
 use Rattle.esdk_run.specs.Encrypt.{encrypt_asked}
 use Rattle.esdk_run.specs.Trees.{trees_of}
-use Rattle.esdk_run.proofs.Chain.{chain_says_more, errs_more}
+use Rattle.esdk_run.proofs.Chain.{chain_says_more, errs_more, left_as_read}
 use Rattle.esdk_run.proofs.Endings.{encryption_ran}
 use Rattle.esdk_run.proofs.Preparing.{encrypt_not_begun, has_tree}
 use Rattle.esdk_run.proofs.encrypt.run_encrypt.Goals as goal
@@ -31,7 +31,8 @@ returns-clause-runs g c =
     (has_tree g.P.Keyring.meaning _ _ _ _ _ _ manager left c.into_ring.result has back c.write_message-ended.ensures.went)
     (on_ok_weaker c.write_message-ended.result (encrypts_more _ asked input taken gains entropy spent more) c.write_message-ended.ensures.done)
     (errs_more _ asked input taken gains entropy spent ((c.write_message-ended.new.input ≡ c.args.input.now) × (c.write_message-ended.new.output ≡ c.args.output.now))
-    (c.write_message-ended.new.manager ≡ manager) c.write_message-ended.result more c.write_message-ended.ensures.ends)
+    (c.write_message-ended.new.manager ≡ manager) (meaning c.into_ring.result ≡ meaning manager.0) c.write_message-ended.result more (left_as_read meaning manager left c.into_ring.result back)
+    c.write_message-ended.ensures.ends)
     c.report_end.ensures.done c.report_end.ensures.said
 
 pub returns-in-Err-clause-runs : goal.returns-in-Err-clause-runs

@@ -1,9 +1,9 @@
-use Rattle.std.proofs.Common.{◌≡◌, ◌∙◌, Some, None, inr, refl}
+use Rattle.std.proofs.Common.{◌≡◌, ◌∙◌, Some, None, ap, inr, refl}
 use Rattle.esdk_base.specs.Streams.{EntropyState, ShelfState, SinkState, SourceState}
 use Rattle.multi_keyring.specs.Tree.{tree_meaning}
 use Rattle.esdk_run.specs.Pairs.{required_in}
 use Rattle.esdk_run.specs.Trees.{Trees, trees_of}
-use Rattle.esdk_run.proofs.Chain.{chain_allows, chain_goes}
+use Rattle.esdk_run.proofs.Chain.{chain_allows, chain_goes, left_as_read}
 use Rattle.esdk_run.proofs.Preparing.{has_tree}
 use Rattle.esdk_run.proofs.Resealing.{no_second, reseal_not_begun, resealing_ran, second_goes, second_has, tree_ends, tree_reseals}
 use Rattle.esdk_run.proofs.Unplugged.{second_read}
@@ -39,7 +39,10 @@ returns-clause-runs g c =
     sealing goes
     (tree_reseals c.args.asked.now c.in-Ok.prepared.context (meaning manager.0) (meaning c.into_ring-2.result) (meaning c.new-sealing.result) (meaning c.reseal-ended.new.sealing) stayed _ _ allows input taken output put entropy spent c.reseal-ended.result (rw c.options_of.ensures at c.reseal-ended.ensures.done))
     (tree_ends c.args.asked.now c.in-Ok.prepared.context (meaning manager.0) (meaning c.into_ring-2.result) (meaning c.new-sealing.result) (meaning c.reseal-ended.new.sealing) stayed _ _ allows input taken output put entropy spent
-    ((c.reseal-ended.new.input ≡ c.args.input.now) × (c.reseal-ended.new.output ≡ c.args.output.now)) _ c.reseal-ended.result (rw c.options_of.ensures at c.reseal-ended.ensures.ends))
+    ((c.reseal-ended.new.input ≡ c.args.input.now) × (c.reseal-ended.new.output ≡ c.args.output.now))
+    ((c.reseal-ended.new.opening ≡ manager) × (c.reseal-ended.new.sealing ≡ c.new-sealing.result))
+    ((meaning c.into_ring-2.result ≡ meaning manager.0) × (meaning c.reseal-ended.new.sealing ≡ meaning c.new-sealing.result)) c.reseal-ended.result
+    (λ same. (left_as_read meaning manager c.reseal-ended.new.opening c.into_ring-2.result back same.0, ap meaning same.1)) (rw c.options_of.ensures at c.reseal-ended.ensures.ends))
     c.report_end.ensures.told c.report_end.ensures.said
 
 pub returns-in-Err-read_keyring-clause-runs : goal.returns-in-Err-read_keyring-clause-runs

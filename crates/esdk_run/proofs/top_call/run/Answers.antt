@@ -125,7 +125,7 @@ returns-in-Ok-Reseal-clause-promises g c =
 
 pub returns-in-Err-clause-runs : goal.returns-in-Err-clause-runs
 returns-in-Err-clause-runs g c =
-    refused_runs _ _ c.in-Err.fault _ _ _ _ c.in-Err.ensures.read refl refl refl refl refl refl
+    refused_runs _ _ c.in-Err.fault _ _ _ _ c.in-Err.ensures.read refl refl refl refl refl refl refl
     (rw c.words_failure.ensures at c.report_failure.ensures)
 
 pub returns-in-Err-clause-promises : goal.returns-in-Err-clause-promises
