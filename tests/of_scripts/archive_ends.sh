@@ -18,6 +18,35 @@ archive_rights() {
     want "and the ACLs" cmp acls acls.back
 }
 
+# Where a file system has no ACLs, what had one is named, and its group has no rights: in a mode they are the most that an ACL gives.
+archive_without_acls() {
+    has_acls "a file system without ACLs" || return 0
+    mkdir -p granted/below without
+    for name in bobs plain 'quo"te'; do
+        echo secret >"granted/$name"
+        chmod 640 "granted/$name"
+    done
+    setfacl -m u:1001:rw-,g::---,m::rw- granted/bobs 'granted/quo"te'
+    setfacl -d -m u:1001:rwx granted/below
+    mount -t ramfs none without 2>/dev/null || { echo "a file system without ACLs: not tried, since nothing can be mounted"; return 0; }
+    archive make key granted with-acls
+    ended "an archive with ACLs" 0
+    archive restore key with-acls without/back
+    ended "an archive with ACLs where there are none" 1
+    sort report >sorted
+    printf 'esdk-archive: without its ACL and the rights of its group: %s\n' below/ bobs 'quo\"te' >due
+    want "what had an ACL is named" cmp sorted due
+    want "its group has no rights" [ "$(stat -c %a without/back/bobs 'without/back/quo"te' without/back/plain | tr '\n' ' ')" = '600 600 640 ' ]
+    archive get key with-acls bobs without/got
+    ended "a file with an ACL where there are none" 1
+    want "its group has no rights, either" [ "$(stat -c %a without/got/bobs)" = 600 ]
+    archive restore key arc without/whole
+    ended "an archive without ACLs there" 0
+    want "nothing is said of that" [ ! -s report ]
+    want "and it is the same" same_trees kept without/whole
+    umount without
+}
+
 # Whoever has the key makes archives by hand. Nothing is written outside TO: hand_made NAME TAR.. makes one, of an index like `names`.
 hand_made() {
     made=$1
@@ -44,7 +73,7 @@ hostile_archives() {
     mkdir plainly && tar -C plainly -xf link.tar && tar -C plainly -xf through.tar
     want "a tar that leads through a link of another one writes outside" [ -e outer/through ]
     rm -rf outer/*
-    printf '1 0 0 ./../outer/up\n1 0 0 ./leading/through\n1 0 0 ./bad\n1 0 0 .//outer/root\n1 0 0 ./\033]0;title\007\n' >names
+    printf '1 0 0 ./../outer/up\n1 0 0 ./leading/through\n1 0 0 ./bad\n1 0 0 .//outer/root\n1 0 0 ./\033]0;title\007\302\233m\342\200\256\330\234\342\201\246\n' >names
     for tars in up.tar root.tar both.tar 'link.tar through.tar'; do
         hand_made "hostile/${tars% *}" $tars
         archive restore key "hostile/${tars% *}" "hostile/in/${tars% *}"
@@ -55,10 +84,57 @@ hostile_archives() {
     done
     want "only what was asked for is beside it" [ -z "$(find hostile/in -mindepth 1 -maxdepth 1 ! -name got ! -name '*.tar')" ]
     archive list key hostile/up.tar
-    want "the names of a hostile index steer no terminal" [ -z "$(tr -d '\n\040-\176' <output)" ]
+    want "the names of a hostile index steer no terminal" grep -qxF '?]0;title??m???' output
     archive check key hostile/up.tar
     ended "an index of what the parts don't have" 1
     rm -rf leading plainly
+}
+
+# Names that differ in case alone become one file on some disks, and `tar` says nothing: here one takes away a file that it made.
+archive_members_that_are_lost() {
+    mkdir with-losing
+    printf '#!/bin/sh\n%s "$@" || exit\n[ "$3" != -x ] || rm -f "$2/deep/-down/-f"\n' "$(command -v tar)" >with-losing/tar
+    chmod +x with-losing/tar
+    for verb in 'restore key arc lossy' 'restore key packed lossy -- tenant=acme' 'get key arc deep lossy'; do
+        run env PATH="$work/with-losing:$PATH" "$share/esdk-archive" $verb
+        ended "a member that is lost: $verb" 4
+        want "a member that is lost is told: $verb" grep -q '^esdk-archive: [0-9]* of [0-9]* members are there' report
+        want "a member that is lost makes nothing: $verb" [ -z "$(find . -path './lossy/*')" ]
+    done
+    archive get key arc one lossy
+    ended "a file beside that" 0
+    tar -C kept -cf folderless.tar ./deep/-down/-f
+    echo '1 0 0 ./deep/-down/-f' >names
+    hand_made folderless folderless.tar
+    archive restore key folderless from-folderless
+    ended "an archive of a file whose folders vanished meanwhile" 0
+    want "the file is there" cmp kept/deep/-down/-f from-folderless/deep/-down/-f
+    rm -r lossy folderless from-folderless
+}
+
+# A folder that may not be read can't be written out: then its file system is, and where that fails, too, the status says so.
+archive_unread_folders() {
+    mkdir unsynced
+    printf '#!/bin/sh\ncase $* in */ | "-f ./unlucky") exit 1 ;; esac\necho "$*" >>synced-words\n' >unsynced/sync
+    chmod +x unsynced/sync
+    run env PATH="$work/unsynced:$PATH" "$share/esdk-archive" make key kept dropped
+    ended "an archive in a folder that can't be opened" 0
+    want "its file system is written out" [ "$(tail -n 1 synced-words)" = "-f ./dropped" ]
+    run env PATH="$work/unsynced:$PATH" "$share/esdk-archive" make key kept unlucky
+    ended "an archive where nothing can be written out" 4
+    want "that is told" grep -qx 'esdk-archive: it may not have reached the disk: ./unlucky' report
+    rm -r dropped unlucky
+}
+
+# Where another disk lies in TO, what `get` makes could not come there in one step.
+archive_over_disks() {
+    mkdir -p disks/deep
+    mount -t tmpfs none disks/deep 2>/dev/null || { echo "another disk in TO: not tried, since nothing can be mounted"; return 0; }
+    archive get key arc deep/again disks
+    ended "a file that comes onto another disk in TO" 4
+    want "nothing is made there" [ -z "$(ls -A disks/deep)" ]
+    want "nothing is left beside it" nothing_left disks
+    umount disks/deep
 }
 
 # A program that hangs once it has written a half of a part.
@@ -139,22 +215,30 @@ night() {
         09)
             if mount -t tmpfs -o size=4k none small 2>/dev/null; then
                 archive make "$ring" alive small/09
+                ls -A small >left
                 umount small
+                want "a full disk has nothing then" [ ! -s left ]
             else
                 run sh -c 'ulimit -f 1; exec "$1" make "$2" alive gen/09' sh "$share/esdk-archive" "$ring"
             fi
             ;;
-        11)
-            rm -f going
-            printf '#!/bin/sh\ncase $* in *part=1*) echo half; : >going; exec sleep 60 ;; esac\nexec "%s" "$@"\n' "$ESDK" >hanging.night
-            chmod +x hanging.night
-            begin env ESDK="$work/hanging.night" "$share/esdk-archive" make "$ring" alive gen/11
-            want "a night that goes on" await [ -e going ]
-            stop TERM
-            ;;
+        11) killed_night ;;
         13) cut_night ;;
         *) archive make "$ring" alive "gen/$1" -- "day=$1" ;;
     esac
+}
+
+# KILL, once a half of a part is written. What it leaves beside the archives has a name of its own.
+killed_night() {
+    rm -f going
+    printf '#!/bin/sh\ncase $* in *part=1*) echo half; : >going; exec sleep 60 ;; esac\nexec "%s" "$@"\n' "$ESDK" >hanging.night
+    chmod +x hanging.night
+    begin setsid env ESDK="$work/hanging.night" "$share/esdk-archive" make "$ring" alive gen/11
+    want "a night that goes on" await [ -e going ]
+    kill -s KILL -- "-$begun"
+    status=0
+    wait "$begun" 2>/dev/null || status=$?
+    want "a night that is killed leaves a folder of its own" [ "$(find gen -mindepth 1 -maxdepth 1 -name '.esdk-archive.*' | wc -l)" -eq 1 ]
 }
 
 # A file system in a file, which is copied the moment the archive is there: what a power cut leaves.
@@ -211,5 +295,6 @@ fourteen_days() {
         want "day $day comes back as it was" same_trees "days/$day" again
         rm -rf again
     done
-    want "fourteen days leave nothing" nothing_left gen .
+    rm -r gen/.esdk-archive.* tmp/esdk-archive.*
+    want "fourteen days leave nothing else" nothing_left gen .
 }

@@ -169,6 +169,48 @@ END
     want "the whole file is asked with the pairs, once a message" cmp sorted due
 }
 
+# Makes a real message of that kind, and keyring files of three keys, and of the last two of them. Who makes it has the first key
+# and the third, and puts an entry of the second one in front, copied out of somebody's message: make_stranger ONE TWO THREE SOMEBODY'S
+make_stranger() {
+    python3 -c '
+import base64, json, pathlib, sys
+sys.path[:0] = [sys.argv[1] + "/tests", sys.argv[1] + "/vectors"]
+sys.dont_write_bytecode = True
+import stand_in
+keys = [stand_in.key_line(pathlib.Path(name).read_bytes()) for name in sys.argv[2:5]]
+entry = stand_in.header_of(pathlib.Path(sys.argv[5]).read_bytes())[2][0]
+wrapped = stand_in.wrapped
+stand_in.wrapped = lambda key, *rest: key if isinstance(key, bytes) else wrapped(key, *rest)
+message = stand_in.seal(b"text", [b"".join(map(stand_in.sized, entry)), keys[0], keys[2]], 4096, {}, {})
+pathlib.Path("needless/m.esdk").write_bytes(message)
+raws = [{"raw": {"namespace": space, "name": name, "key": base64.b64encode(key).decode()}} for space, name, key in keys]
+for name, nodes in (("all.json", raws), ("less.json", raws[1:])):
+    pathlib.Path(name).write_text(json.dumps({"version": 1, "ring": {"multi": {"generator": nodes[0], "children": nodes[1:]}}}))
+' "$top" "$@"
+}
+
+# A key that is needed for none, and without which the whole file doesn't open a message: the audit by the smaller file says so.
+audit_strangers() {
+    if [ "${ESDK##*/}" = stand_in ] || ! python3 -c 'import cryptography' 2>/dev/null; then
+        echo "a stranger's entry: not tried, since that takes the program, and Python with the package cryptography"
+        return 0
+    fi
+    mkdir needless
+    for name in one two three; do "$share/esdk-keygen" demo "$name" "$name.key"; done
+    make_message two.key somebodys.esdk
+    make_stranger one.key two.key three.key somebodys.esdk
+    run "$share/esdk-audit" all.json needless
+    ended "an audit of a message with a stranger's entry" 0
+    want "each key is needed for none" [ "$(grep -c '^leaf [123]: needed for none of 1 messages$' output)" -eq 3 ]
+    run "$ESDK" decrypt --keyring=less.json <needless/m.esdk
+    want "without the first key the whole file doesn't open it" holds report 'esdk: M16 Commitment'
+    run "$ESDK" decrypt --keyring=three.key <needless/m.esdk
+    want "the third key does" holds output text
+    run "$share/esdk-audit" less.json needless
+    ended "an audit by the smaller file" 1
+    want "the message is named" holds report 'esdk-audit: not opened by the whole file: ./needless/m.esdk: esdk: M16 Commitment'
+}
+
 # An audit by who can't read a folder, or a file.
 unread_audits() {
     can_play "audits by other users" || return 0

@@ -1,5 +1,5 @@
 # esdk-tree: what stays, what is gone or in the way, last lines, lists, words, leftovers, rights. tests/scripts reads it.
-# shellcheck shell=sh disable=SC2016,SC2094,SC2154 # texts for other shells; one file read and written; names of tests/scripts
+# shellcheck shell=sh disable=SC2016,SC2094,SC2154,SC2086 # texts for other shells; one file read and written; names of tests/scripts; several words
 
 # What is there is never replaced unasked: not by an older message, nor by a newer one, as those of a copy without times are.
 files_that_are_there() {
@@ -136,6 +136,48 @@ last_lines_of_folders() {
     rm -rf hollow full empty
 }
 
+# What a power cut leaves: the copy of a file system in a file, taken the moment that the last line is there.
+cut_folders() {
+    truncate -s 16M cut.disk
+    if ! { mkfs.ext4 -q cut.disk && mkdir -p cut.before cut.behind && mount -o loop cut.disk cut.before; } >/dev/null 2>&1; then
+        echo "messages behind a power cut: not tried, since nothing can be mounted"
+        return 0
+    fi
+    mkdir thirty
+    for name in $(seq 30); do echo "text of $name" >"thirty/$name"; done
+    run "$share/esdk-tree" encrypt key thirty cut.before/store
+    cp cut.disk cut.copy
+    umount cut.before
+    ended "a folder before a power cut" 0
+    mount -o loop cut.copy cut.behind
+    run "$share/esdk-tree" verify key cut.behind/store
+    umount cut.behind
+    want "what is said to be done is there behind a power cut" holds output '30 done, 0 kept as they were, 0 not done'
+    rm -r cut.* thirty
+}
+
+# Files that have one time change places, and one is written over and gets its old time: no message of before stays.
+times_that_are_put_back() {
+    for words in '' '-- --frame 4096'; do
+        mkdir constant
+        for name in 1 2 3 4 5 6 7 8 9; do echo "text $name" >"constant/$name"; done
+        touch -d @1000000000 constant/*
+        run "$share/esdk-tree" encrypt key constant fixed $words
+        mv constant/1 moved
+        mv constant/2 constant/1
+        mv moved constant/2
+        echo 'text C' >constant/3
+        touch -d @1000000000 constant/3
+        run "$share/esdk-tree" encrypt key constant fixed $words
+        want "files that change under one time are done again $words" holds output '3 done, 6 kept as they were, 0 not done'
+        run "$share/esdk-tree" encrypt key constant fixed $words
+        want "and then no more $words" holds output '0 done, 9 kept as they were, 0 not done'
+        run "$share/esdk-tree" decrypt key fixed again
+        want "what comes back is what they have now $words" diff -r constant again
+        rm -r constant fixed again
+    done
+}
+
 # The list that an encryption writes, and messages that are missing of it.
 lists_of_messages() {
     mkdir -p listed/deep
@@ -165,7 +207,6 @@ lists_of_messages() {
 # A refusal is one line with the word that is wrong.
 tree_words() {
     while read -r which words; do
-        # shellcheck disable=SC2086 # words are what it has
         run "$share/esdk-tree" $words
         ended "esdk-tree $words" 2
         want "esdk-tree $words is told in a line" [ "$(wc -l <report)" -eq 1 ]
@@ -214,17 +255,23 @@ leftovers_of_folders() {
     rm -rf litter beside bare new
 }
 
-# In a folder that gives new files rights of its own, what is made is its owner's alone all the same.
+# In a folder that gives new files rights of its own, what is made is its owner's alone all the same: by a run for one file, and by
+# batches for many.
 rights_of_folders() {
     mkdir shared-tree
     setfacl -d -m u::rwx,g::rwx,o::rwx shared-tree 2>/dev/null || return 0
     mkdir -p private/deep
     echo secret >private/deep/file
-    run "$share/esdk-tree" encrypt --list shared-tree/names key private shared-tree/messages
-    run "$share/esdk-tree" decrypt key shared-tree/messages shared-tree/texts
-    ended "a folder of others" 0
-    want "what is made there can't be read by others" [ -z "$(find shared-tree -mindepth 1 -perm /077)" ]
-    want "the folders have mode 700" [ "$(stat -c %a shared-tree/texts/deep)" = 700 ]
+    for count in 1 10; do
+        run "$share/esdk-tree" encrypt --list shared-tree/names key private shared-tree/messages
+        run "$share/esdk-tree" decrypt key shared-tree/messages shared-tree/texts
+        ended "a folder of others, $count files" 0
+        want "$count files that are made there can't be read by others" [ -z "$(find shared-tree -mindepth 1 -perm /077)" ]
+        want "the folders have mode 700" [ "$(stat -c %a shared-tree/texts/deep)" = 700 ]
+        for name in 1 2 3 4 5 6 7 8 9; do cp private/deep/file "private/deep/$name"; done
+        touch -d 2020-02-02 private/deep/*
+        rm -r shared-tree/messages shared-tree/texts
+    done
     rm -rf shared-tree private
 }
 

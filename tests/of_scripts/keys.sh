@@ -56,6 +56,25 @@ key_rights() {
     done
 }
 
+# The function `new` of the pages, which makes keyring files: under each umask, in a folder with a default ACL.
+new_of_pages() {
+    has_acls "files that the pages' \`new\` makes" || return 0
+    open_folder news ,u:1001:rwx
+    for page in USAGE RESTORING; do
+        sed -n '/^new() /p' "$top/docs/$page.md" >new.sh
+        want "docs/$page.md has it in one line" [ "$(wc -l <new.sh)" -eq 1 ]
+        for mask in 000 077; do
+            run sh -c 'umask "$1"; . ./new.sh; echo secret | new "$2"' sh "$mask" "news/$page.$mask"
+            ended "new of docs/$page.md under umask $mask where a folder gives rights" 0
+            want "it is its owner's alone" [ "$(stat -c %a "news/$page.$mask")" = 600 ]
+        done
+        run sh -c '. ./new.sh; echo other | new "$1"' sh "news/$page.077"
+        want "new of docs/$page.md over a file: a status" [ "$status" -ne 0 ]
+        want "it writes over none" holds "news/$page.077" secret
+    done
+    rm -r news new.sh
+}
+
 # A key is never in a file that others can open: what has the name before it is empty.
 key_writing() {
     has_acls "a key while it is written" || return 0

@@ -1,5 +1,5 @@
 # esdk-into: outputs that are whole or not there. tests/scripts reads it.
-# shellcheck shell=sh disable=SC2016,SC2094,SC2154 # texts for other shells; one file read and written; names of tests/scripts
+# shellcheck shell=sh disable=SC2016,SC2094,SC2154,SC2086 # texts for other shells; one file read and written; names of tests/scripts; several words
 
 outputs() {
     printf 'text' >plain
@@ -47,6 +47,29 @@ outputs() {
     run "$share/esdk-into" opened "$ESDK" decrypt --keyring=key file=plain <cut.esdk
     ended "the program's refusal" 1
     want "the program's line" holds report 'esdk: M10 Truncated'
+}
+
+# The command of docs/RESTORING.md for a dump of a folder in use, where `tar` ends with status 1, since a file changed, or with 2.
+dumps_of_folders() {
+    sed -n '/^esdk-into docs.esdk .*tar c docs/p' "$top/docs/RESTORING.md" >dump.sh
+    want "the page has it in one line" [ "$(wc -l <dump.sh)" -eq 1 ]
+    mkdir -p docs dumping
+    echo text >docs/file
+    cp key backups.key
+    ln -s "$ESDK" dumping/esdk
+    printf '#!/bin/sh\n%s "$@"\nexit "$(cat said-by-tar)"\n' "$(command -v tar)" >dumping/tar
+    chmod +x dumping/tar
+    for number in 1 2; do
+        echo "$number" >said-by-tar
+        run env PATH="$work/dumping:$share:$PATH" sh dump.sh
+        ended "a dump, where tar ends with $number" "$((number - 1))"
+        want "a dump is there, where tar ends with $number" [ -s docs.esdk ]
+        [ "$number" -ne 1 ] || touch -d 2020-02-02 docs.esdk
+    done
+    want "a dump that isn't whole replaces none" [ "$(stat -c %Y docs.esdk)" -eq "$(date -d 2020-02-02 +%s)" ]
+    run sh -c '"$1" decrypt --keyring=key <docs.esdk | tar tf -' sh "$ESDK"
+    want "a dump has the file" grep -qx docs/file output
+    rm -r docs docs.esdk backups.key dumping
 }
 
 # The command has what its caller opened, whichever numbers these have.
@@ -261,6 +284,25 @@ late_signals() {
         want "$signal while the output is written out: the file is as before" holds late "$signal"
         want "$signal while it is written out leaves nothing" nothing_left .
     done
+}
+
+# A folder that may not be read can't be written out: then its file system is, and where that fails, too, the status says so.
+unread_folders() {
+    mkdir unsynced unsynced-disk
+    printf '#!/bin/sh\ncase $1 in */) exit 1 ;; esac\necho "$*" >>synced-words\n' >unsynced/sync
+    printf '#!/bin/sh\ncase $1 in */ | -f) exit 1 ;; esac\n' >unsynced-disk/sync
+    chmod +x unsynced/sync unsynced-disk/sync
+    for words in 'esdk-into dropped echo new' 'esdk-keygen backups 2026 dropped'; do
+        : >synced-words
+        run env PATH="$work/unsynced:$PATH" "$share/${words%% *}" ${words#* }
+        ended "${words%% *} in a folder that can't be opened" 0
+        want "${words%% *} in a folder that can't be opened writes its file system out" [ "$(tail -n 1 synced-words)" = "-f ./dropped" ]
+        rm dropped
+        run env PATH="$work/unsynced-disk:$PATH" "$share/${words%% *}" ${words#* }
+        ended "${words%% *} where nothing can be written out" 4
+        rm -f dropped
+    done
+    want "nothing is left of these" nothing_left .
 }
 
 # A key that is made stays, and one that isn't made leaves no file.

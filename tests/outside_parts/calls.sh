@@ -23,6 +23,28 @@ little_memory() {
     [ ! -s output ] || { wrong=$((wrong + 1)); echo "frames of 4,294,967,295 bytes: WRONG: something was written"; }
 }
 
+# Strangers' headers in a batch: it holds those of the jobs side by side, and of a cache's entries, and not those of all its jobs. Of the first kind no
+# key opens one; of the second, of which each is another, the first data key is a genuine one, and the header's tag is wrong.
+strangers_headers() {
+    local i long=() padded=()
+    hostile_header ns 224 >long_header
+    repeated '\0\0\0\0\0\0' 65533 >padding
+    for ((i = 1; i <= 40; i++)); do
+        { head -c 37 message; printf '\377\377'; head -c 119 message | tail -c 80; printf '\0\0\0\4%04d\0\0' "$i"; cat padding; tail -c +120 message; } >padded$i
+        long+=("decrypt long_header stranger$i")
+        padded+=("decrypt padded$i stranger$i")
+    done
+    job_file strangers ring 4 "${long[@]}"
+    room=300000 seconds=60 in_room "a batch of 40 headers of 16 MiB, four at a time" 7 '' nine batch --jobs strangers
+    [ "$(grep -c '^job [0-9]* decrypt M15 NoKeyOpens none$' output)" = 40 ] || fail "a batch of 40 headers of 16 MiB" "$(head -n 2 output)"
+    job_file strangers ring 4 "${padded[@]}"
+    sed -i 's/"width":4,/"width":4,"cache":{"capacity":2,"age":60,"messages":2,"bytes":1000},/' strangers
+    in_room "a batch of 40 headers of 393 KB, with a cache of two entries" 7 '' nine batch --jobs strangers
+    [ "$(grep -c '^job [0-9]* decrypt M17 HeaderTag ' output)" = 40 ] || fail "a batch of 40 headers of 393 KB" "$(head -n 2 output)"
+    in_room "list of a header of 16 MiB" 0 '' long_header list
+    rm -f stranger* long_header padd*
+}
+
 # ---- one failing call at each place
 
 # Lets call 1, 2, .. of these fail until a run meets no failure, and says how often each answer came: each_place WHAT CALLS ERROR "STATUSES" PATTERN CHECK INPUT WORDS..

@@ -281,6 +281,34 @@ no_proc() {
     no_parts "a batch without /proc" one
 }
 
+# A batch of 64 jobs side by side opens 132 files. With fewer some jobs are X3, and of what they were to replace a beginning is left; the others are whole.
+few_open_files() {
+    local most i status jobs=()
+    rm -rf many
+    mkdir many
+    cp ring many
+    for ((i = 1; i <= 64; i++)); do
+        cp framed "many/m$i"
+        jobs+=("decrypt m$i t$i")
+    done
+    job_file many/jobs ring 64 "${jobs[@]}"
+    for most in 132 100 70; do
+        for ((i = 1; i <= 64; i++)); do cp nine "many/t$i"; done
+        status=0
+        (cd many && ulimit -n "$most" && exec "$program" batch --jobs jobs >../output 2>../report) || status=$?
+        ended "64 jobs side by side, with $most open files at the most" "$status" "$((most == 132 ? 0 : 7))" ''
+        for ((i = 1; i <= 64; i++)); do
+            case $(sed -n "s/^job $i //p" output) in
+                'decrypt done direct') cmp -s nine "many/t$i" || fail "job $i with $most open files" "it is done, and isn't whole" ;;
+                'decrypt X3 ShelfFault '*) front "job $i with $most open files" "many/t$i" nine ;;
+                *) fail "job $i with $most open files" "another line" ;;
+            esac
+        done
+        no_parts "64 jobs with $most open files" many
+    done
+    rm -rf many
+}
+
 # While a batch of 64 jobs side by side runs, other files are renamed over its sources, and an output is replaced by a link: each message that is done is of one file whole.
 changing_files() {
     local i pid line status=0 jobs=()
@@ -357,5 +385,6 @@ files_of_a_batch() {
     rights_of_folders
     rights_of_acls
     rights_of_groups
+    few_open_files
     changing_files
 }
