@@ -21,9 +21,9 @@
  *     handle belongs to a thread, so that it may go to another one between two calls; of that there
  *     is no proof yet.
  *  2. A pointer with a length is to so many bytes, and it is not NULL, also where the length is 0
- *     (ESDK_NOTHING is such a pointer). `handle`, `written` and `waits` are not NULL.
- *  3. What a call writes (the handle, the room, *written, *waits) overlaps nothing else that the
- *     same call is given.
+ *     (ESDK_NOTHING is such a pointer). `handle`, `written`, `waits` and `whole` are not NULL.
+ *  3. What a call writes (the handle, the room, the numbers, *written, *waits, *whole) overlaps
+ *     nothing else that the same call is given.
  *  4. malloc, realloc and free are of one allocator, which aligns to 16. No call is made from a
  *     signal handler, nor from the forked child of a process with threads.
  *  5. A bool is 0 or 1.
@@ -53,9 +53,10 @@
  *     5000           Memory: memory ran out
  *     6001 to 6010   Q1 to Q10: the request, or the text, is refused
  * A code of family 2, and 4004, changes nothing: it is as if the call had not been made. Every
- * other error ends the session: from then on each call that would go on answers ESDK_ENDED, and
- * there remain esdk_take, esdk_error, esdk_error_name, esdk_pairs, esdk_pair_key, esdk_pair_value,
- * esdk_again, esdk_new and esdk_close. docs/LINES.md says of each line what to do next. */
+ * other error ends the session, but those of esdk_list and esdk_openers, which change nothing: from
+ * then on each call that would go on answers ESDK_ENDED, and there remain esdk_take, esdk_error,
+ * esdk_error_name, esdk_pairs, esdk_pair_key, esdk_pair_value, esdk_again, esdk_new and esdk_close.
+ * docs/LINES.md says of each line what to do next. */
 #ifndef ESDK_H
 #define ESDK_H
 
@@ -247,6 +248,37 @@ int32_t esdk_pairs(esdk_handle *handle);
  * where there is no such pair. */
 int32_t esdk_pair_key(esdk_handle *handle, size_t index, uint8_t *room, size_t room_len);
 int32_t esdk_pair_value(esdk_handle *handle, size_t index, uint8_t *room, size_t room_len);
+
+/* ---- A message that is asked about, without opening it. ---- */
+
+/* The listing of the header that a message begins with, as the program's `list` prints it: its
+ * version, suite, message id, stored pairs, encrypted data keys, frame length, commitment and tag,
+ * in lines (docs/FORMAT.md). It takes no handle and no key, so nothing of it is authenticated. What
+ * stands behind the header isn't judged, and need not be passed: the first 65,536 bytes of a
+ * message mostly have it. `uncommitted`: whether the header of a message of format 1.0 is listed
+ * too (M23 else). *whole is how many bytes the whole listing has, and the room has as many of them
+ * as it has room for: call again with more room where that was too little. At an error *whole is 0,
+ * and the room is as it was.
+ *
+ * 1001 to 1004, 1006 to 1008, 1023 to 1026: the header has this fault; 1010: the bytes end before
+ * the header is whole, pass more of them. ESDK_MEMORY. */
+int32_t esdk_list(const uint8_t *message, size_t message_len, bool uncommitted, uint8_t *room,
+                  size_t room_len, size_t *whole);
+
+/* Which leaves of the keyring file's tree open, each by itself, the message whose header these bytes
+ * begin with, with the pairs that were put as those given: what is asked before a key is taken out
+ * of a keyring file (docs/RESTORING.md). The session is set up, and stays so: this is a question,
+ * and begins no message. Leaves have numbers from 1, in the order of the file, a generator before
+ * the children; retired keys count, and open. A message of format 1.0 is M23. *whole is how many
+ * leaves open it, and `numbers` has as many of their numbers as it has room for, ascending; a tree
+ * has at most 64. At an error *whole is 0, and `numbers` is as it was.
+ *
+ * ESDK_NO_SESSION; ESDK_ENDED; ESDK_NOT_NOW where the session isn't set up any more.
+ * The codes of esdk_list; 1011, 1012, 1014: the header's pairs, and those that were put, have this
+ * fault; 4005: a keyring failed. None of these ends the session, and esdk_error has no line for
+ * them. */
+int32_t esdk_openers(esdk_handle *handle, const uint8_t *message, size_t message_len,
+                     uint32_t *numbers, size_t numbers_len, size_t *whole);
 
 /* ---- What no export can do: these are C, and are proved by nobody. ----
  *

@@ -2,4 +2,5 @@ mod Contexts
 mod Openings
 mod Sealings
 mod Sessions
+mod Trees
 mod Wholes

@@ -6,8 +6,6 @@ use Rattle.cmm_default.specs.DefaultCmm.{default_now}
 use Rattle.keyring_file.specs.Found.{wraps_of}
 use Rattle.keyring_file.specs.KeyFile.{tree_of}
 use Rattle.keyring_trait.specs.Manager.{ManagerNow}
-use Rattle.keyring_trait.specs.Wrapping.{WrapKeyValue}
-use Rattle.multi_keyring.specs.declared.tree.Node.{Node}
 use Rattle.multi_keyring.specs.Nodes.{forest}
 use Rattle.multi_keyring.specs.Tree.{tree_meaning}
 use Rattle.raw_aes_keyring.specs.Keyring.{raw_meaning}
@@ -18,12 +16,9 @@ use Rattle.c_session.specs.declared.file_session.Kept.TheVariants as kepts
 use Rattle.c_session.specs.declared.reason.Reason.{Reason}
 use Rattle.c_session.specs.declared.reason.Reason.TheVariants as reasons
 use Rattle.c_session.specs.declared.session.Session.{Session}
+use Rattle.c_session.specs.FileTree.{Tree}
 use Rattle.c_session.specs.Reason.{code_of}
 use Rattle.c_session.specs.Session.{HandsOutOf, IsFresh, TellsContext}
-
--- the tree of raw keys that a file describes
-abbrev pub Tree : Type 0
-Tree = Node WrapKeyValue
 
 -- what the manager over a tree is at a moment
 abbrev pub file_state : Tree → ManagerNow

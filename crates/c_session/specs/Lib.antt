@@ -1,5 +1,7 @@
 pub mod Answer
+pub mod Asking
 pub mod Beginning
+pub mod Front
 pub mod Limits
 pub mod Machine
 pub mod Opening
@@ -7,6 +9,7 @@ pub mod Reason
 pub mod Sealing
 pub mod Session
 pub mod FileSession
+pub mod FileTree
 pub mod Telling
 pub mod Waiting
 pub mod WaitingLaws

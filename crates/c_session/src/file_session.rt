@@ -3,22 +3,24 @@
 ghost use Rattle.std.specs.Prelude.{◌≡◌, ◌≤◌, IfSome, length};
 ghost use Rattle.std.specs.Option.{option_copied, option_map};
 ghost use Rattle.context_codec.specs.Fitting.{IsSized};
+ghost use Rattle.c_session.specs.Asking.{AsksOpeners};
 ghost use Rattle.c_session.specs.Reason.{name_of};
 ghost use Rattle.c_session.specs.Telling.{ShowsIf, ShowsLine, ShowsSome};
 ghost use Rattle.c_session.specs.Session.{BeginsOpening, BeginsSealing, Ends, EndsWith, Feeds, PairsAs, RequiresAs};
 ghost use Rattle.c_session.specs.FileSession.{Again, KeepsRead, OfContext, ReadsFile, ShowsContext, TakesKept, answer_code, drawn_by, file_state, first_answer, kept_code, pair_at, reason_kept, waiting_in};
 
 use crate::answer::Answer;
+use crate::asking::{NoAnswer, TreeSession, ask_session};
+use crate::file_tree::FileTree;
 use crate::reason::Reason;
 use crate::session::Session;
 use crate::telling::show;
+use audit_core::Openers;
 use cmm_default::DefaultCmm;
 use context_codec::{Context, Pair};
 use esdk_fields::FileRefusal;
 use header_codec::Settings;
 use keyring_file::{TreeError, read_tree};
-use multi_keyring::Node;
-use raw_aes_keyring::RawAes;
 use std::alloc::Global;
 use std::mem;
 
@@ -31,7 +33,7 @@ pub(crate) enum Kept {
     /// The file is refused, or memory ran out.
     Refused(Reason),
     /// A session over its tree.
-    Read(Session<DefaultCmm<Node<RawAes>>>),
+    Read(TreeSession),
 }
 
 /// A session over the tree of a keyring file. Where the file wasn't read it has ended.
@@ -85,6 +87,30 @@ impl FileSession {
         match &mut self.kept {
             Kept::Refused(_) => Answer::Ended,
             Kept::Read(session) => session.require(alloc, key),
+        }
+    }
+
+    /// The leaves of the tree that open, each by itself, the message whose header these bytes begin
+    /// with, when the session's pairs are given. The session is set up, and stays so: it is a
+    /// question, which begins no message and ends no session. A message that doesn't commit to its
+    /// data key is M23.
+    ///
+    /// - `Call`: the session isn't set up any more (`NotNow`), or has ended (`Ended`).
+    /// - `Reason`: the header's fault, or M10 where the bytes end before it is whole; M11, M12 or
+    ///   M14, which its pairs and the session's have; a keyring failed; memory ran out.
+    pub fn openers(&mut self, alloc: Global, message: &[u8]) -> Result<Openers, NoAnswer>
+        ensures { AsksOpeners self.old.kept self.new.kept message.now result }
+    {
+        match taken(&mut self.kept) {
+            Kept::Refused(reason) => {
+                put(&mut self.kept, Kept::Refused(reason));
+                Err(NoAnswer::Call(Answer::Ended))
+            }
+            Kept::Read(session) => {
+                let (asked, session) = ask_session(alloc, session, message);
+                put(&mut self.kept, Kept::Read(session));
+                asked
+            }
         }
     }
 
@@ -301,15 +327,23 @@ impl FileSession {
         ensures code { result ≡ answer_code answer (reason_kept self.now.kept) }
         ensures few { result ≤ 9999 }
     {
-        match answer {
-            Answer::Done => 0,
-            Answer::NotNow => 2002,
-            Answer::Ended => 2003,
-            Answer::NotText => 2004,
-            Answer::BadFrame => 2005,
-            Answer::BadRandom => 2006,
-            Answer::Failed => reason_code(self.reason()),
-        }
+        code_for(answer, self.reason())
+    }
+}
+
+/// The code of an answer: 0, one of the caller's, or that of this reason.
+pub(crate) fn code_for(answer: Answer, reason: Option<&Reason>) -> u32
+    ensures code { result ≡ answer_code answer (option_copied reason.entry) }
+    ensures few { result ≤ 9999 }
+{
+    match answer {
+        Answer::Done => 0,
+        Answer::NotNow => 2002,
+        Answer::Ended => 2003,
+        Answer::NotText => 2004,
+        Answer::BadFrame => 2005,
+        Answer::BadRandom => 2006,
+        Answer::Failed => reason_code(reason),
     }
 }
 
@@ -346,7 +380,7 @@ fn read(alloc: Global, file: &[u8]) -> Kept
         return Kept::Refused(Reason::File(FileRefusal::FileTooLong));
     }
     match read_tree(alloc, file, Vec::new(alloc)) {
-        Ok(tree) => Kept::Read(Session::new(alloc, DefaultCmm::new(tree))),
+        Ok(tree) => Kept::Read(Session::new(alloc, DefaultCmm::new(FileTree::new(tree)))),
         Err(TreeError::File(refusal)) => Kept::Refused(Reason::File(refusal)),
         Err(TreeError::Memory) => Kept::Refused(Reason::Memory),
     }

@@ -3,8 +3,11 @@
 #![tactic(auto)]
 
 mod answer;
+mod asking;
 mod beginning;
 mod file_session;
+mod file_tree;
+mod front;
 mod limits;
 mod machine;
 mod opening;
@@ -15,9 +18,11 @@ mod telling;
 mod waiting;
 
 pub use answer::Answer;
+pub use asking::NoAnswer;
 pub use file_session::FileSession;
+pub use front::front_text;
 pub use limits::{keys_limit, settings};
 pub use reason::Reason;
 pub use session::Session;
-pub use telling::show;
+pub use telling::{show, show_numbers};
 pub use waiting::Waiting;

@@ -74,7 +74,7 @@ impl<M: Manager> Session<M> {
     }
 
     /// Why a call that sets it up doesn't fit, if it doesn't.
-    fn setting_answer(&self) -> Option<Answer>
+    pub(crate) fn setting_answer(&self) -> Option<Answer>
         ensures { result ≡ setting_answer self.now }
     {
         if self.ended {

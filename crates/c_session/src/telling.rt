@@ -1,4 +1,4 @@
-//! Texts that are shown in a room.
+//! Texts and numbers that are shown in a room.
 
 ghost use Rattle.c_session.specs.Telling.{Shows};
 
@@ -10,4 +10,14 @@ pub fn show(text: &[u8], room: &mut [u8]) -> usize
     let count = text.len().min(room.len());
     room[..count].copy_from_slice(&text[..count]);
     text.len()
+}
+
+/// Writes as many of the numbers as the room has room for, to its front, and answers how many they
+/// are.
+pub fn show_numbers(numbers: &[u32], room: &mut [u32]) -> usize
+    ensures { Shows numbers.now room.old result room.new }
+{
+    let count = numbers.len().min(room.len());
+    room[..count].copy_from_slice(&numbers[..count]);
+    numbers.len()
 }

@@ -2,6 +2,7 @@
 //! out of its handle, calls it, and puts it back.
 #![tactic(auto)]
 
+mod asking;
 mod going;
 mod handle;
 mod held;

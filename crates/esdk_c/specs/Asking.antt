@@ -1,0 +1,43 @@
+-- What the calls come to that ask about a message.
+use Rattle.std.specs.Prelude.{◌≡◌, ℕ, ℤ, pos, Bool, false, List, Result, Ok, Err}
+use Rattle.c_session.specs.declared.asking.NoAnswer.{NoAnswer}
+use Rattle.c_session.specs.declared.file_session.FileSession.{FileSession}
+use Rattle.c_session.specs.declared.reason.Reason.{Reason}
+use Rattle.c_session.specs.Asking.{AsksOpeners, no_answer_code}
+use Rattle.c_session.specs.Front.{ListsFront}
+use Rattle.c_session.specs.Reason.{code_of}
+use Rattle.c_session.specs.Telling.{Shows}
+use Rattle.esdk_c.specs.declared.handle.Handle.{Handle}
+use Rattle.esdk_c.specs.Handle.{Holds}
+
+-- What came is shown, and the code is 0. Or nothing came: the code says why, the number is 0, and
+-- the room is as it was.
+abbrev pub ShowsAll : {E : Type 0} → (E → ℕ) → Result (List ℕ) E → List ℕ → ℤ → ℕ → List ℕ → Type 0
+ShowsAll code_of (Ok text) room code whole after = (code ≡ pos 0) × Shows text room whole after
+ShowsAll code_of (Err error) room code whole after =
+    (code ≡ pos (code_of error)) × (whole ≡ 0) × (after ≡ room)
+
+-- The listing of the header that the bytes begin with is shown; or it is told why there is none.
+pub record ListsInto (uncommitted : Bool) (message room : List ℕ) (code : ℤ) (whole : ℕ)
+    (after : List ℕ) : Type 0 where
+  pub came : Result (List ℕ) Reason
+  pub lists : ListsFront uncommitted message came
+  pub shows : ShowsAll code_of came room code whole after
+
+-- The handle holds the session that this one is behind the question which leaves open the message
+-- that the bytes begin; their numbers are shown, or it is told why there are none.
+pub record AskedSo (new : Handle) (message room : List ℕ) (code : ℤ) (whole : ℕ) (after : List ℕ)
+    (session : FileSession) : Type 0 where
+  pub left : FileSession
+  pub holds : Holds new left
+  pub came : Result (List ℕ) NoAnswer
+  pub asks : AsksOpeners session.kept left.kept message came
+  pub shows : ShowsAll no_answer_code came room code whole after
+
+-- So it is of the session that the handle held; a handle that held none is as it was, and the code
+-- says so.
+pub record AsksHandle (old new : Handle) (message room : List ℕ) (code : ℤ) (whole : ℕ)
+    (after : List ℕ) : Type 0 where
+  pub closed : old.live ≡ false → (code ≡ pos 2001) × (new ≡ old) × (whole ≡ 0) × (after ≡ room)
+  pub asked : (session : FileSession) → Holds old session
+      → AskedSo new message room code whole after session
