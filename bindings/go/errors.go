@@ -5,7 +5,8 @@ import (
 	"fmt"
 )
 
-// Error is a refusal: the library's number, such as 1020, and the program's line, such as `M20 UnitTag 3`.
+// Error is a refusal: the library's number, such as 1020, and the program's line, such as `M20 UnitTag 3`; that of ListHeader
+// and of Openers is without what stands behind the name.
 type Error struct {
 	Code int
 	Line string
@@ -25,16 +26,34 @@ var ErrClosed = errors.New("esdk: closed")
 // ErrFinished is what a call answers behind Finish.
 var ErrFinished = errors.New("esdk: finished")
 
+// Of these codes the library tells no line.
+var toldByNone = map[int]string{
+	1001: "M1 BadVersion",
+	1002: "M2 UnsupportedSuite",
+	1003: "M3 BadContext",
+	1004: "M4 NoDataKeys",
+	1006: "M6 BadContentType",
+	1007: "M7 BadFrameLength",
+	1008: "M8 HeaderTooLong",
+	1010: "M10 Truncated",
+	1011: "M11 ReservedKey",
+	1012: "M12 ContextMismatch",
+	1014: "M14 ContextTooLong",
+	1023: "M23 Uncommitted",
+	1024: "M24 BadType",
+	1025: "M25 BadReserved",
+	1026: "M26 BadIvLength",
+	4004: "X4 EntropyFault",
+	4005: "X5 KeyringFault",
+	5000: "Memory",
+}
+
 func errorOf(code int, line string) *Error {
 	if line == "" {
-		switch code {
-		case 4004:
-			line = "X4 EntropyFault"
-		case 5000:
-			line = "Memory"
-		default:
-			line = fmt.Sprintf("code %d", code)
-		}
+		line = toldByNone[code]
+	}
+	if line == "" {
+		line = fmt.Sprintf("code %d", code)
 	}
 	return &Error{code, line}
 }

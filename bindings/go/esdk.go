@@ -33,6 +33,31 @@ func ReadKeyring(path string) (*Keyring, error) {
 	return NewKeyring(file)
 }
 
+// Openers has the numbers of the leaves that open a message, each by itself, when these pairs are given.
+//
+// A leaf is a raw key of the file. They are numbered from 1, a generator before the children, as the program's audit does it;
+// retired ones open, too. Of the message only its header is read, as by ListHeader; one of format 1.0 is 1023.
+func (k *Keyring) Openers(message []byte, context map[string]string) ([]int, error) {
+	s, err := newSession(k.file)
+	if err != nil {
+		return nil, err
+	}
+	defer s.close()
+	if err := s.context(context, nil); err != nil {
+		return nil, err
+	}
+	return s.openers(message)
+}
+
+// ListHeader is the listing of the header that a message begins with: the lines that the program's list prints.
+//
+// It wants no key, and so nothing of it is authenticated; its texts may hold characters that steer a terminal. What stands behind
+// the header isn't judged, and needn't be there: the first 65,536 bytes of a message mostly have it; where they don't, that is
+// 1010. With uncommitted headers of format 1.0 are listed, too.
+func ListHeader(message []byte, uncommitted bool) (string, error) {
+	return listing(message, uncommitted)
+}
+
 // String shows no key.
 func (*Keyring) String() string { return "esdk.Keyring" }
 

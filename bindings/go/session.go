@@ -11,7 +11,11 @@ import (
 	"unsafe"
 )
 
-const mostOfText = 65536
+const (
+	mostOfText = 65536
+	// A keyring file's tree has no more leaves.
+	mostLeaves = 64
+)
 
 // An address for a slice of no bytes, which may have none of its own.
 var nothing [1]byte
@@ -187,4 +191,42 @@ func (s *session) told() map[string]string {
 		pairs[key] = string(room[:length])
 	}
 	return pairs
+}
+
+// The leaves that open a message, each by itself, with the pairs that were put. The session stays set up.
+func (s *session) openers(message []byte) ([]int, error) {
+	var numbers [mostLeaves]C.uint32_t
+	var whole C.size_t
+	err := s.with(func(handle *C.esdk_handle) C.int32_t {
+		at, size := lent(message)
+		return C.esdk_openers(handle, at, size, &numbers[0], mostLeaves, &whole)
+	})
+	if err != nil {
+		return nil, err
+	}
+	leaves := make([]int, int(whole))
+	for at := range leaves {
+		leaves[at] = int(numbers[at])
+	}
+	return leaves, nil
+}
+
+// The listing of the header that a message begins with.
+func listing(message []byte, uncommitted bool) (string, error) {
+	if code := C.esdk_check(); code != C.ESDK_OK {
+		return "", errorOf(int(code), "")
+	}
+	at, size := lent(message)
+	room := make([]byte, 4096)
+	for {
+		to, most := lent(room)
+		var whole C.size_t
+		if code := C.esdk_list(at, size, C.bool(uncommitted), to, most, &whole); code != C.ESDK_OK {
+			return "", errorOf(int(code), "")
+		}
+		if whole <= most {
+			return string(room[:int(whole)]), nil
+		}
+		room = make([]byte, int(whole))
+	}
 }

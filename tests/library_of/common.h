@@ -52,6 +52,15 @@ static inline struct bytes file_of(const char *name) {
     return all;
 }
 
+/* These bytes in hexadecimal digits, on the output. */
+static inline void hex(const uint8_t *at, size_t len) {
+    static const char digits[] = "0123456789abcdef";
+    for (size_t i = 0; i < len; i++) {
+        putchar(digits[at[i] >> 4]);
+        putchar(digits[at[i] & 15]);
+    }
+}
+
 /* How a text or a message is passed: pieces of `cut` bytes, rooms of `room` bytes. Where it is `lazy`, what waits is left to
  * wait behind each piece, and taken at the end. */
 struct way {

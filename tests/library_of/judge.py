@@ -6,19 +6,38 @@ A wrapping key is (namespace, name, key); a context is a dict from texts to text
 
 from __future__ import annotations
 
+import importlib.util
 import pathlib
 import sys
+from collections.abc import Callable
 from dataclasses import dataclass, field
+from types import ModuleType
+from typing import TypeVar
 
 sys.dont_write_bytecode = True
-sys.path.insert(0, str(pathlib.Path(__file__).resolve().parents[2] / "cases"))
+CASES = pathlib.Path(__file__).resolve().parents[2] / "cases"
+sys.path.insert(0, str(CASES))
 
+import audits  # noqa: E402
 import keyrings  # noqa: E402
 import messages  # noqa: E402
 from contexts import joined  # noqa: E402
 
 # The number behind the letter is the code's, and its family is 1.
 MESSAGE_FAMILY = 1000
+Answer = TypeVar("Answer")
+
+
+def judge_of_cases() -> ModuleType:
+    """The module of the cases that has the listing, whose name is this one's, too."""
+    spec = importlib.util.spec_from_file_location("judge_of_cases", CASES / "judge.py")
+    assert spec is not None and spec.loader is not None
+    module = importlib.util.module_from_spec(spec)
+    spec.loader.exec_module(module)
+    return module
+
+
+listing = judge_of_cases().listing
 
 
 @dataclass
@@ -79,9 +98,40 @@ def judge(message: bytes, given: Given) -> Judged:
     except messages.Going:
         judged.line = "M10 Truncated"
     if judged.line:
-        judged.code = MESSAGE_FAMILY + int(judged.line.split()[0].removeprefix("M"))
+        judged.code = code_of(judged.line)
     judged.text = b"".join(parts)
     return judged
+
+
+def code_of(line: str) -> int:
+    """The code of a message's fault."""
+    return MESSAGE_FAMILY + int(line.split()[0].removeprefix("M"))
+
+
+def answered(ask: Callable[[], Answer], none: Answer) -> tuple[str, Answer]:
+    """An answer behind no line, or none behind the line of the fault."""
+    try:
+        return "", ask()
+    except messages.Fault as fault:
+        return str(fault), none
+    except messages.Going:
+        return "M10 Truncated", none
+
+
+def front(message: bytes, uncommitted: bool) -> messages.Header:
+    """The header that a message begins with."""
+    return messages.read_header(messages.Bytes(message), messages.Limits(uncommitted=uncommitted))
+
+
+def listed(message: bytes, uncommitted: bool) -> tuple[str, bytes]:
+    """The line of a fault, or the listing."""
+    return answered(lambda: listing(front(message, uncommitted)).encode(), b"")
+
+
+def openers(message: bytes, tree: keyrings.Multi, pairs: dict[str, str]) -> tuple[str, list[int]]:
+    """The line of a fault, or the numbers of the leaves that open it, each by itself."""
+    given = {key.encode(): value.encode() for key, value in pairs.items()}
+    return answered(lambda: audits.openers(tree, front(message, False), given), [])
 
 
 def wrapped_by(given: Given, random: bytes) -> tuple[bytes, list[messages.Entry]]:

@@ -25,14 +25,6 @@ static int ended(esdk_handle *handle, int32_t code) {
     return code == ESDK_OK ? 0 : 1;
 }
 
-static void hex(const uint8_t *at, size_t len) {
-    static const char digits[] = "0123456789abcdef";
-    for (size_t i = 0; i < len; i++) {
-        putchar(digits[at[i] >> 4]);
-        putchar(digits[at[i] & 15]);
-    }
-}
-
 static void show_context(esdk_handle *handle) {
     static uint8_t room[65535];
     int32_t count = esdk_pairs(handle);

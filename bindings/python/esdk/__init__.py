@@ -26,7 +26,8 @@ from collections.abc import Iterable, Mapping
 from typing import Any, Optional, Union
 
 from ._library import NOTHING as _NOWHERE
-from ._session import ANY_LENGTH, Session
+from ._library import Lent
+from ._session import ANY_LENGTH, WHOLE, Session, Sessions, listing
 from ._stream import Header, Pieces, Stream
 from .errors import (
     CallError,
@@ -53,17 +54,22 @@ __all__ = [
     "Stream",
     "decrypt",
     "encrypt",
+    "list_header",
     "stream",
 ]
 
 
 class Keyring:
-    """The bytes of a keyring file, which was found right: a key line, or JSON."""
+    """The bytes of a keyring file, which was found right: a key line, or JSON.
+
+    For `encrypt` and `decrypt` of what is short it keeps sessions of the library, which are freed with it.
+    """
 
     def __init__(self, file: Any) -> None:
         """Raises KeyringError where the file is refused."""
         self._file = bytes(file)
-        Session(self._file).close()
+        self._sessions = Sessions(self._file)
+        self._sessions.give_back(self._sessions.take())
 
     @classmethod
     def from_file(cls, path: Union[str, os.PathLike[str]]) -> Keyring:
@@ -75,6 +81,25 @@ class Keyring:
         key = base64.b64encode(wrapping_key).decode()
         node = {"raw": {"namespace": key_namespace, "name": key_name, "key": key}}
         return cls(json.dumps({"version": 1, "ring": node}, separators=(",", ":")).encode())
+
+    def openers(self, message: Any, encryption_context: Optional[Mapping[str, str]] = None) -> list[int]:
+        """The numbers of the leaves that open a message, each by itself, when these pairs are given.
+
+        A leaf is a raw key of the file. They are numbered from 1, a generator before the children, as the program's
+        `audit` does it; retired ones open, too. `message` is bytes-like, and only its header is read, which mostly is
+        in its first 65,536 bytes: where it isn't, that is 1010. A message of format 1.0 is 1023.
+        """
+        session = self._sessions.take()
+        try:
+            session.context(dict(encryption_context or {}), ())
+            with Lent(message) as lent:
+                return session.openers(*lent)
+        finally:
+            self._sessions.give_back(session)
+
+    def __reduce__(self) -> Any:
+        """A copy has the file, and sessions of its own."""
+        return type(self), (self._file,)
 
     def __repr__(self) -> str:
         return "<esdk.Keyring>"
@@ -106,14 +131,18 @@ def stream(
     context = dict(encryption_context or {})
     session = Session(keyring._file)
     try:
-        session.context(context, required_encryption_context_keys)
-        max_keys = _limit("max_encrypted_data_keys", max_encrypted_data_keys, 65535)
-        if opens:
-            session.open(max_keys, _limit("max_body_length", max_body_length, 2**64 - 1), bool(allow_uncommitted))
-        else:
-            frame = _number("frame_length", frame_length, 1, 2**32 - 1)
-            length = ANY_LENGTH if source_length is None else _number("source_length", source_length, 0, ANY_LENGTH - 1)
-            session.seal(frame, length, max_keys)
+        _begin(
+            session,
+            opens,
+            context,
+            required_encryption_context_keys,
+            frame_length,
+            source_length,
+            max_encrypted_data_keys,
+            max_body_length,
+            allow_uncommitted,
+        )
+        if not opens:
             # What the message begins with waits, and a call that takes nothing says so.
             session.take(_NOWHERE, 0)
         return Stream(session, Pieces(source), opens, context)
@@ -124,14 +153,70 @@ def stream(
 
 def encrypt(*, source: Any, keyring: Keyring, **words: Any) -> tuple[bytes, Header]:
     """The message of a text, and its header. The words are those of `stream`."""
+    if type(source) is bytes and len(source) <= WHOLE:
+        return _at_once(False, source, keyring, words)
     with stream(mode="e", source=source, keyring=keyring, **words) as message:
         return message.read(), message.header
 
 
 def decrypt(*, source: Any, keyring: Keyring, **words: Any) -> tuple[bytes, Header]:
     """The whole text of a message, and its header, or an exception. The words are those of `stream`."""
+    if type(source) is bytes and len(source) <= WHOLE:
+        return _at_once(True, source, keyring, words)
     with stream(mode="d", source=source, keyring=keyring, **words) as text:
         return text.read(), text.header
+
+
+def list_header(message: Any, uncommitted: bool = False) -> str:
+    """The listing of the header that a message begins with: the lines that the program's `list` prints.
+
+    It wants no key, and so nothing of it is authenticated; its texts may hold characters that steer a terminal.
+    `message` is bytes-like. What stands behind the header isn't judged, and needn't be there: the first 65,536 bytes of
+    a message mostly have it; where they don't, that is 1010. With `uncommitted` headers of format 1.0 are listed, too.
+    """
+    with Lent(message) as lent:
+        return listing(*lent, bool(uncommitted))
+
+
+def _at_once(opens: bool, source: bytes, keyring: Keyring, words: dict[str, Any]) -> tuple[bytes, Header]:
+    """What a stream of these words gives in all, by one call of the library."""
+    given = dict(words.pop("encryption_context", None) or {})
+    session = keyring._sessions.take()
+    try:
+        _begin(session, opens, given, **words)
+        whole = session.whole(source, opens)
+        context = session.whole_context() if opens else given
+    finally:
+        keyring._sessions.give_back(session)
+    assert context is not None
+    return whole, Header(context)
+
+
+def _begin(
+    session: Session,
+    opens: bool,
+    context: dict[str, str],
+    /,
+    required_encryption_context_keys: Iterable[str] = (),
+    frame_length: int = 4096,
+    source_length: Optional[int] = None,
+    max_encrypted_data_keys: Optional[int] = None,
+    max_body_length: Optional[int] = None,
+    allow_uncommitted: bool = False,
+) -> None:
+    """Begins a message by the words of `stream`."""
+    session.context(context, required_encryption_context_keys)
+    max_keys, max_unit, length = 0, 0, ANY_LENGTH
+    if max_encrypted_data_keys is not None:
+        max_keys = _number("max_encrypted_data_keys", max_encrypted_data_keys, 1, 65535)
+    if opens:
+        if max_body_length is not None:
+            max_unit = _number("max_body_length", max_body_length, 1, 2**64 - 1)
+        session.open(max_keys, max_unit, bool(allow_uncommitted))
+        return
+    if source_length is not None:
+        length = _number("source_length", source_length, 0, ANY_LENGTH - 1)
+    session.seal(_number("frame_length", frame_length, 1, 2**32 - 1), length, max_keys)
 
 
 def _number(name: str, value: int, least: int, most: int) -> int:
@@ -139,8 +224,3 @@ def _number(name: str, value: int, least: int, most: int) -> int:
     if not isinstance(value, int) or not least <= value <= most:
         raise ValueError(f"{name} is a number from {least} to {most}, and not {value!r}")
     return value
-
-
-def _limit(name: str, value: Optional[int], most: int) -> int:
-    """0 is no limit to the library."""
-    return 0 if value is None else _number(name, value, 1, most)

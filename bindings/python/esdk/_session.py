@@ -1,10 +1,10 @@
-"""One handle of the library."""
+"""A handle of the library, and those that a keyring keeps for its next messages."""
 
 from __future__ import annotations
 
 import ctypes
 from collections.abc import Iterable, Mapping
-from ctypes import byref, c_size_t
+from ctypes import addressof, byref, c_size_t
 from typing import Any, Optional
 
 from ._library import NOTHING, Handle, Lent, load
@@ -14,7 +14,14 @@ _library = load()
 
 # The longest line has a key of 65,535 bytes in it, and each of these may be written as six.
 _MOST_OF_LINE = 524288
-_MOST_OF_TEXT = 65536
+# A session's own room. Each text of a pair fits into it, and mostly what comes of a source of `WHOLE` bytes.
+_ROOM = 1 << 17
+# The most bytes of a source that one call of the library takes whole.
+WHOLE = 1 << 16
+# So many sessions of a keyring are kept for its next messages.
+_MOST_KEPT = 16
+# A keyring file's tree has no more leaves.
+_MOST_LEAVES = 64
 ANY_LENGTH = 2**64 - 1
 
 
@@ -23,9 +30,12 @@ class Session:
 
     def __init__(self, file: Any) -> None:
         self._handle = Handle()
-        self._at = byref(self._handle)
+        self._at = addressof(self._handle)
         self._written, self._waits = c_size_t(), c_size_t()
-        self._counts = (byref(self._written), byref(self._waits))
+        self._counts = addressof(self._written), addressof(self._waits)
+        self._room: Any = None
+        # So many bytes of it are text of a message that was opened.
+        self._text_in_room = 0
         self._freed = False
         try:
             with Lent(file) as lent:
@@ -45,6 +55,14 @@ class Session:
         if not getattr(self, "_freed", True) and _library is not None:
             self.close()
 
+    def again(self) -> bool:
+        """Sets it up for another message, with nothing left of the last one. False where that can't be done."""
+        self._waits.value = 0
+        if self._text_in_room:
+            self.room().raw = bytes(self._text_in_room)
+            self._text_in_room = 0
+        return not _library.esdk_again(self._at)
+
     def _judge(self, code: int) -> None:
         if code:
             raise error_of(code, self._line())
@@ -59,29 +77,58 @@ class Session:
 
     def context(self, pairs: Mapping[str, str], required: Iterable[str]) -> None:
         for key, value in pairs.items():
-            with Lent(key.encode()) as one, Lent(value.encode()) as other:
-                self._judge(_library.esdk_pair(self._at, *one, *other))
+            one, other = bytes(key.encode()), bytes(value.encode())
+            self._judge(_library.esdk_pair(self._at, one, len(one), other, len(other)))
         for key in required:
-            with Lent(key.encode()) as one:
-                self._judge(_library.esdk_require(self._at, *one))
+            one = bytes(key.encode())
+            self._judge(_library.esdk_require(self._at, one, len(one)))
 
     def seal(self, frame_length: int, length: int, max_keys: int) -> None:
+        """Begins a message that is sealed. What it begins with waits, and `waits` doesn't know of it yet."""
         self._judge(_library.esdk_seal(self._at, frame_length, length, max_keys))
 
     def open(self, max_keys: int, max_unit: int, uncommitted: bool) -> None:
         self._judge(_library.esdk_open(self._at, max_keys, max_unit, uncommitted))
 
-    def feed(self, address: int, count: int) -> None:
-        """Takes a piece. What it gives waits: so the piece and a room are never given to one call."""
-        self._judge(_library.esdk_feed(self._at, address, count, NOTHING, 0, *self._counts))
+    def feed(self, address: Any, count: int, room: int = NOTHING, size: int = 0) -> None:
+        """Takes a piece. The room, which lies apart from it, gets what it gives; what has no room waits."""
+        self._judge(_library.esdk_feed(self._at, address, count, room, size, *self._counts))
 
-    def finish(self) -> None:
-        """Says that no byte follows. What that gives waits."""
-        self._judge(_library.esdk_finish(self._at, NOTHING, 0, *self._counts))
+    def finish(self, room: int = NOTHING, size: int = 0) -> None:
+        """Says that no byte follows. The room gets what that gives; what has no room waits."""
+        self._judge(_library.esdk_finish(self._at, room, size, *self._counts))
 
-    def take(self, address: int, room: int) -> int:
+    def take(self, address: Any, room: int) -> int:
         """Hands out of what waits, and answers how many bytes that were."""
         self._judge(_library.esdk_take(self._at, address, room, *self._counts))
+        return self._written.value
+
+    def whole(self, source: bytes, opens: bool) -> bytes:
+        """The message of a whole text, or the text of a whole message; where that is refused, nothing of it."""
+        room = self._room or self.room()
+        self._judge(_library.esdk_whole(self._at, source, len(source), room, _ROOM, *self._counts))
+        written = self._written.value
+        if opens:
+            self._text_in_room = _ROOM if self._waits.value else written
+        front: bytes = room[:written]
+        return front + self._rest() if self._waits.value else front
+
+    def _rest(self) -> bytes:
+        """All that waits."""
+        room, parts = self.room(), []
+        while self._waits.value:
+            parts.append(room[: self.take(room, _ROOM)])
+        return b"".join(parts)
+
+    def room(self) -> Any:
+        """Its own room, which is no caller's. A slice of it is bytes."""
+        if self._room is None:
+            self._room = ctypes.create_string_buffer(_ROOM)
+        return self._room
+
+    @property
+    def written(self) -> int:
+        """How many bytes the last call handed out."""
         return self._written.value
 
     @property
@@ -94,12 +141,51 @@ class Session:
         count = _library.esdk_pairs(self._at)
         if count < 0:
             return None
-        room = ctypes.create_string_buffer(_MOST_OF_TEXT)
-        return {
-            self._text(_library.esdk_pair_key, at, room): self._text(_library.esdk_pair_value, at, room)
-            for at in range(count)
-        }
+        return {self._text(_library.esdk_pair_key, at): self._text(_library.esdk_pair_value, at) for at in range(count)}
 
-    def _text(self, function: Any, at: int, room: Any) -> str:
-        count: int = function(self._at, at, room, len(room))
-        return bytes(room.raw[:count]).decode()
+    def _text(self, function: Any, at: int) -> str:
+        room = self._room or self.room()
+        count: int = function(self._at, at, room, _ROOM)
+        text: bytes = room[:count]
+        return text.decode()
+
+    def openers(self, address: Any, count: int) -> list[int]:
+        """The leaves that open a message, each by itself, with the pairs that were put. It stays set up."""
+        numbers, whole = (ctypes.c_uint32 * _MOST_LEAVES)(), c_size_t()
+        self._judge(_library.esdk_openers(self._at, address, count, numbers, _MOST_LEAVES, byref(whole)))
+        return numbers[: whole.value]
+
+
+class Sessions:
+    """The sessions of a keyring file. Whoever takes one has it alone until it is given back, once."""
+
+    def __init__(self, file: bytes) -> None:
+        self._file = file
+        self._kept: list[Session] = []
+
+    def take(self) -> Session:
+        """A session that is set up."""
+        try:
+            return self._kept.pop()
+        except IndexError:
+            return Session(self._file)
+
+    def give_back(self, session: Session) -> None:
+        """Keeps it for another message, where few are kept and it can be set up again; else frees it."""
+        if len(self._kept) < _MOST_KEPT and session.again():
+            self._kept.append(session)
+        else:
+            session.close()
+
+
+def listing(address: Any, count: int, uncommitted: bool) -> str:
+    """The listing of the header that a message begins with."""
+    size, whole = 4096, c_size_t()
+    while True:
+        room = ctypes.create_string_buffer(size)
+        code = _library.esdk_list(address, count, uncommitted, room, size, byref(whole))
+        if code:
+            raise error_of(code, "")
+        if whole.value <= size:
+            return room.raw[: whole.value].decode()
+        size = whole.value

@@ -8,7 +8,7 @@ from collections.abc import Iterator
 from dataclasses import dataclass
 from typing import Any, Optional
 
-from ._library import Lent
+from ._library import NOTHING, Lent, unfilled
 from ._session import Session
 from .errors import EsdkError, NotFinished
 
@@ -32,21 +32,26 @@ class Pieces:
             if isinstance(source, str):
                 raise TypeError("a source is bytes-like or a file object, and this is a str: encode it")
             self._all = memoryview(source).cast("B")
+            # It stays where it is as long as the memoryview is there.
+            with Lent(self._all) as (self._address, self._left):
+                pass
 
     def forget(self) -> None:
         """Lets go of the source: a bytearray may change its length again."""
-        self._all, self._read = None, None
+        self._all, self._read, self._left = None, None, 0
 
-    def next(self) -> Any:
-        """The next piece; an empty one at the end alone."""
-        if self._all is not None:
-            piece, self._all = self._all[:PIECE], self._all[PIECE:]
-            return piece
-        assert self._read is not None
+    def next(self) -> tuple[Any, int]:
+        """The next piece, by its address or itself, and its length; an empty one at the end alone."""
+        if self._read is None:
+            address, count = self._address, min(self._left, PIECE)
+            self._address, self._left = address + count, self._left - count
+            return address, count
         piece = self._read(PIECE)
         if piece is None:
             raise BlockingIOError("the source has no bytes now, and isn't at its end")
-        return piece
+        if type(piece) is not bytes:
+            piece = memoryview(piece).tobytes()
+        return piece, len(piece)
 
 
 class Stream(io.RawIOBase):
@@ -80,32 +85,37 @@ class Stream(io.RawIOBase):
     def readinto(self, room: Any) -> int:
         """Fills the room, and less of it only at the end or before a fault. 0 says that the end was reached."""
         with self._used(), Lent(room, writable=True) as (address, size):
-            if size == 0:
-                return 0
-            try:
-                count = self._fill(address, size)
-            except BlockingIOError:
-                raise
-            except BaseException as fault:
-                # Bytes may be lost between two calls here: so there is no way to the end any more.
-                self._fault = fault
-                raise
-            self._at_end = count == 0
-            return count
+            return self._put(address, size, own=False) if size else 0
 
-    def _fill(self, address: int, size: int) -> int:
+    def _put(self, address: int, size: int, own: bool) -> int:
+        """Fills a room of some bytes: a stream's own, or a caller's."""
+        try:
+            count = self._fill(address, size, own)
+        except BlockingIOError:
+            raise
+        except BaseException as fault:
+            # Bytes may be lost between two calls here: so there is no way to the end any more.
+            self._fault = fault
+            raise
+        self._at_end = count == 0
+        return count
+
+    def _fill(self, address: int, size: int, own: bool) -> int:
         count = 0
         while count < size:
             if self._session.waits:
                 count += self._session.take(address + count, size - count)
                 continue
             try:
-                if not self._goes_on():
-                    break
+                # A caller's room may be the source, which no call reads while it writes there.
+                more = self._goes_on(address + count, size - count) if own else self._goes_on()
             except BlockingIOError:
                 if count == 0:
                     raise
                 break
+            if more is None:
+                break
+            count += more
         if count == 0 and self._fault is not None:
             raise self._fault
         return count
@@ -120,30 +130,35 @@ class Stream(io.RawIOBase):
             raise ValueError("the stream is closed")
         if size is None or size < 0:
             return self.readall()
-        room = bytearray(min(size, PIECE))
         parts: list[bytes] = []
         while size > 0:
+            wanted = min(size, PIECE)
             try:
-                count = self.readinto(memoryview(room)[: min(size, PIECE)])
+                part = self._part(wanted)
             except (EsdkError, BlockingIOError):
                 # The next call raises it.
                 if parts:
                     break
                 raise
-            if count == 0:
-                break
-            parts.append(bytes(memoryview(room)[:count]))
-            size -= count
-            if count < len(room):
+            parts.append(part)
+            size -= len(part)
+            if len(part) < wanted:
                 break
         return b"".join(parts)
+
+    def _part(self, size: int) -> bytes:
+        """So many bytes, or fewer."""
+        with self._used():
+            part, address = unfilled(size)
+            count = self._put(address, size, own=True)
+            return part if count == size else part[:count]
 
     def __iter__(self) -> Iterator[bytes]:
         return self
 
     def __next__(self) -> bytes:
         """A piece of at most 65,536 bytes, and not a line: io.BufferedReader over a stream gives lines."""
-        piece = self.read(PIECE)
+        piece = self._part(PIECE)
         if not piece:
             raise StopIteration
         return piece
@@ -155,7 +170,7 @@ class Stream(io.RawIOBase):
             return Header(dict(self._context))
         with self._used():
             context = self._session.whole_context()
-            while context is None and self._goes_on():
+            while context is None and self._goes_on() is not None:
                 context = self._session.whole_context()
             if context is None:
                 assert self._fault is not None
@@ -167,21 +182,23 @@ class Stream(io.RawIOBase):
             raise ValueError("the stream is closed")
         return _Use(self._in_use)
 
-    def _goes_on(self) -> bool:
-        """One call of the library, with the next piece or with the end. False where nothing is left to be called."""
+    def _goes_on(self, room: int = NOTHING, size: int = 0) -> Optional[int]:
+        """One call of the library, with the next piece or with the end; None where nothing is left to be called.
+
+        It answers how many bytes of the room were filled, also where the call was refused. The others wait.
+        """
         if self._said_end or self._fault is not None:
-            return False
-        piece = self._pieces.next()
+            return None
+        piece, count = self._pieces.next()
         try:
-            with Lent(piece) as (address, count):
-                if count:
-                    self._session.feed(address, count)
-                else:
-                    self._said_end = True
-                    self._session.finish()
+            if count:
+                self._session.feed(piece, count, room, size)
+            else:
+                self._said_end = True
+                self._session.finish(room, size)
         except EsdkError as fault:
             self._fault = fault
-        return True
+        return self._session.written
 
     def close(self) -> None:
         """Frees what the library holds, keys among it. It says nothing of what was read."""

@@ -2,8 +2,23 @@
 
 from __future__ import annotations
 
-# The codes of family 2, which have no line of their own; esdk.h says more.
-_CALLS = {
+# The codes of which the library tells no line: those of `list_header` and `openers`, and of family 2. esdk.h says more.
+_LINES = {
+    1001: "M1 BadVersion",
+    1002: "M2 UnsupportedSuite",
+    1003: "M3 BadContext",
+    1004: "M4 NoDataKeys",
+    1006: "M6 BadContentType",
+    1007: "M7 BadFrameLength",
+    1008: "M8 HeaderTooLong",
+    1010: "M10 Truncated",
+    1011: "M11 ReservedKey",
+    1012: "M12 ContextMismatch",
+    1014: "M14 ContextTooLong",
+    1023: "M23 Uncommitted",
+    1024: "M24 BadType",
+    1025: "M25 BadReserved",
+    1026: "M26 BadIvLength",
     2001: "there is no session",
     2002: "the call doesn't fit",
     2003: "the session has ended",
@@ -11,12 +26,16 @@ _CALLS = {
     2005: "a frame length of 0",
     2006: "another number of random bytes is wanted",
     4004: "X4 EntropyFault",
+    4005: "X5 KeyringFault",
     5000: "Memory",
 }
 
 
 class EsdkError(Exception):
-    """`code` is the library's number, such as 1020, and `line` the program's line, such as `M20 UnitTag 3`."""
+    """`code` is the library's number, such as 1020, and `line` the program's line, such as `M20 UnitTag 3`.
+
+    The line of `list_header` and of `openers` is without what stands behind the name: `M1 BadVersion`.
+    """
 
     def __init__(self, code: int, line: str) -> None:
         super().__init__(code, line)
@@ -67,4 +86,4 @@ _FAMILIES = {
 
 def error_of(code: int, line: str) -> EsdkError:
     """The exception of a code, and of the session's line where it has one."""
-    return _FAMILIES.get(code // 1000, EsdkError)(code, line or _CALLS.get(code, f"code {code}"))
+    return _FAMILIES.get(code // 1000, EsdkError)(code, line or _LINES.get(code, f"code {code}"))

@@ -1,18 +1,11 @@
-"""The package over a library: ESDK_LIBRARY=FOLDER PYTHONPATH=. python3 -m unittest discover -s tests
-
-What is expected comes from vectors/ of the checkout: its texts, and its reader and writer of the format over the package
-`cryptography`, which shares nothing with the library.
-"""
+"""Messages and streams, over a library: ESDK_LIBRARY=FOLDER PYTHONPATH=. python3 -m unittest discover -s tests"""
 
 import array
-import base64
 import gc
 import io
-import json
 import os
 import pathlib
 import sys
-import tempfile
 import threading
 import time
 import tracemalloc
@@ -22,76 +15,11 @@ import esdk
 from esdk._library import Lent
 from esdk._session import ANY_LENGTH, Session
 
-VECTORS = pathlib.Path(__file__).resolve().parents[3] / "vectors"
-sys.dont_write_bytecode = True
-sys.path.insert(0, str(VECTORS))
-
-from opening import Refused, open_message, seal_block  # noqa: E402
+from support import FAULTS, RING, WRAPPING, Pieces, Refused, by_rooms, named, vectors
+from support import open_message, opened, seal_block, sealed
 
 # A test in C has each with each.
 CUTS_AND_ROOMS = ((1, 65536), (65536, 1), (15, 15), (4095, 4096), (4096, 4095), (65536, 65536))
-KEY = bytes(range(32))
-RING = esdk.Keyring(b"esdk-vectors first " + KEY.hex().encode())
-WRAPPING = ("esdk-vectors", "first", KEY)
-# What each altered message of vectors/ is refused for: which field was altered says it, by docs/FORMAT.md.
-FAULTS = {
-    "altered-message-id": (1016, "M16 Commitment"),
-    "altered-pair": (1015, "M15 NoKeyOpens"),
-    "altered-commitment": (1016, "M16 Commitment"),
-    "altered-header-tag": (1017, "M17 HeaderTag"),
-    "altered-content": (1020, "M20 UnitTag 1"),
-    "altered-tag": (1020, "M20 UnitTag 2"),
-    "altered-block": (1020, "M20 UnitTag 1"),
-    "cut": (1010, "M10 Truncated"),
-}
-
-
-def named(address):
-    return (VECTORS / address.removeprefix("file://")).read_bytes()
-
-
-def vectors():
-    """The tests of the manifest: the message's name and bytes, its keyring, and its text or None."""
-    keys = json.loads(named("keys.json"))["keys"]
-    for test in json.loads(named("manifest.json"))["tests"].values():
-        one = test["master-keys"][0]
-        ring = esdk.Keyring.raw_aes(
-            key_namespace=one["provider-id"],
-            key_name=keys[one["key"]]["key-id"],
-            wrapping_key=base64.b64decode(keys[one["key"]]["material"]),
-        )
-        text = test["result"].get("output")
-        yield test["ciphertext"].rpartition("/")[2], named(test["ciphertext"]), ring, text and named(text["plaintext"])
-
-
-class Pieces:
-    """A source that gives so many bytes at a time."""
-
-    def __init__(self, held, size):
-        self.rest = io.BytesIO(held)
-        self.size = size
-
-    def read(self, size):
-        return self.rest.read(min(size, self.size))
-
-
-def by_rooms(stream, size):
-    """All of a stream, by rooms of a size, and what was raised behind it."""
-    room, parts = bytearray(size), []
-    try:
-        while count := stream.readinto(room):
-            parts.append(bytes(room[:count]))
-    except esdk.EsdkError as error:
-        return b"".join(parts), error
-    return b"".join(parts), None
-
-
-def sealed(text, **words):
-    return esdk.encrypt(source=text, keyring=RING, **words)[0]
-
-
-def opened(message, **words):
-    return esdk.decrypt(source=message, keyring=RING, **words)[0]
 
 
 class Messages(unittest.TestCase):
@@ -159,6 +87,16 @@ class Messages(unittest.TestCase):
         self.assertNotEqual(one[3:35], other[3:35])
         self.assertNotEqual(one[-56:], other[-56:])
 
+    def test_short_sources_and_long_ones(self):
+        """Up to 65,536 bytes one call makes the message, and beyond a stream does; one of many frames has no room at once."""
+        text, context = os.urandom(65537), {"a": "1"}
+        for size, frame in ((0, 1), (65535, 4096), (65536, 65536), (65537, 4096), (5000, 1)):
+            for kind in (bytes, bytearray):
+                message = sealed(kind(text[:size]), frame_length=frame, encryption_context=context)
+                self.assertEqual(open_message(message, [WRAPPING]), (text[:size], context))
+                came, header = esdk.decrypt(source=kind(message), keyring=RING)
+                self.assertEqual((came, header.encryption_context), (text[:size], context))
+
     def test_required_keys(self):
         message = sealed(
             b"x", encryption_context={"tenant": "acme", "set": "a"}, required_encryption_context_keys=["tenant"]
@@ -219,6 +157,9 @@ class Messages(unittest.TestCase):
             self.assertRaises(ValueError, sealed, b"", **words)
         for words in ({"max_body_length": 0}, {"max_body_length": 2**64}):
             self.assertRaises(ValueError, opened, b"", **words)
+        for words in ({"frame": 1}, {"opens": True}, {"mode": "d"}):
+            for source in (b"", bytes(70000)):
+                self.assertRaises(TypeError, sealed, source, **words)
         self.assertRaises(ValueError, esdk.stream, mode="x", source=b"", keyring=RING)
         self.assertRaises(TypeError, sealed, "a text")
         self.assertRaises(TypeError, sealed, io.StringIO("a text"))
@@ -388,20 +329,20 @@ class Streams(unittest.TestCase):
         self.assertEqual(opened(seen[0]), b"hello")
 
     def test_many_streams_at_once(self):
-        wrong = []
+        right = []
 
         def work(seed):
             text = bytes([seed]) * 300000
             for _ in range(5):
-                if opened(sealed(text)) != text:
-                    wrong.append(seed)
+                if opened(sealed(text)) == text:
+                    right.append(seed)
 
         threads = [threading.Thread(target=work, args=(seed,)) for seed in range(8)]
         for thread in threads:
             thread.start()
         for thread in threads:
             thread.join()
-        self.assertEqual(wrong, [])
+        self.assertEqual(len(right), 40)
 
     def test_streams_that_are_dropped(self):
         for _ in range(2000):
@@ -409,22 +350,6 @@ class Streams(unittest.TestCase):
         gc.collect()
         held = int(pathlib.Path("/proc/self/statm").read_text().split()[1]) * os.sysconf("SC_PAGE_SIZE")
         self.assertLess(held, 1 << 29)
-
-    def test_a_keyring_of_a_file(self):
-        with tempfile.TemporaryDirectory() as folder:
-            path = pathlib.Path(folder, "a.key")
-            self.assertRaises(FileNotFoundError, esdk.Keyring.from_file, path)
-            path.write_bytes(RING._file)
-            for name in (path, str(path)):
-                text, _ = esdk.decrypt(source=sealed(b"hello"), keyring=esdk.Keyring.from_file(name))
-                self.assertEqual(text, b"hello")
-            path.write_bytes(b"a b")
-            with self.assertRaises(esdk.KeyringError) as caught:
-                esdk.Keyring.from_file(path)
-            self.assertEqual((caught.exception.code, caught.exception.line), (3002, "K2 BadShape 1"))
-
-    def test_a_keyring_shows_no_key(self):
-        self.assertNotIn(KEY.hex(), repr(RING) + str(RING))
 
 
 if __name__ == "__main__":

@@ -3,12 +3,38 @@
 use std::fmt;
 use std::io;
 
-/// A refusal: the library's number, such as 1020, and the program's line, such as `M20 UnitTag 3`.
+/// A refusal: the library's number, such as 1020, and the program's line, such as `M20 UnitTag 3`; that of `list_header` and of
+/// `openers` is without what stands behind the name.
 #[derive(Clone, Debug, PartialEq, Eq)]
 pub struct Error {
     code: i32,
     line: String,
 }
+
+/// Codes of which the library tells no line.
+const TOLD_BY_NONE: [(i32, &str); 21] = [
+    (1001, "M1 BadVersion"),
+    (1002, "M2 UnsupportedSuite"),
+    (1003, "M3 BadContext"),
+    (1004, "M4 NoDataKeys"),
+    (1006, "M6 BadContentType"),
+    (1007, "M7 BadFrameLength"),
+    (1008, "M8 HeaderTooLong"),
+    (1010, "M10 Truncated"),
+    (1011, "M11 ReservedKey"),
+    (1012, "M12 ContextMismatch"),
+    (1014, "M14 ContextTooLong"),
+    (1023, "M23 Uncommitted"),
+    (1024, "M24 BadType"),
+    (1025, "M25 BadReserved"),
+    (1026, "M26 BadIvLength"),
+    (2005, "a frame length of 0"),
+    (Error::OTHER_ABI, "the library is of another ABI"),
+    (2008, "the processor isn't an x86-64-v2 one"),
+    (4004, "X4 EntropyFault"),
+    (4005, "X5 KeyringFault"),
+    (5000, "Memory"),
+];
 
 /// What the number says first: the thousands of a code.
 #[derive(Clone, Copy, Debug, PartialEq, Eq)]
@@ -32,15 +58,11 @@ impl Error {
     pub(crate) const OTHER_ABI: i32 = 2007;
 
     pub(crate) fn new(code: i32, line: String) -> Error {
-        let line = match (line.is_empty(), code) {
-            (false, _) => line,
-            (true, 4004) => "X4 EntropyFault".to_string(),
-            (true, 5000) => "Memory".to_string(),
-            (true, 2005) => "a frame length of 0".to_string(),
-            (true, Error::OTHER_ABI) => "the library is of another ABI".to_string(),
-            (true, 2008) => "the processor isn't an x86-64-v2 one".to_string(),
-            (true, _) => format!("code {code}"),
-        };
+        if !line.is_empty() {
+            return Error { code, line };
+        }
+        let line = TOLD_BY_NONE.iter().find(|(told, _)| *told == code);
+        let line = line.map_or_else(|| format!("code {code}"), |(_, line)| line.to_string());
         Error { code, line }
     }
 

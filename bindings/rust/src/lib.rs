@@ -43,6 +43,27 @@ impl Keyring {
     pub fn from_file(path: impl AsRef<Path>) -> io::Result<Keyring> {
         Ok(Keyring::new(std::fs::read(path)?)?)
     }
+
+    /// The numbers of the leaves that open a message, each by itself, when these pairs are given.
+    ///
+    /// A leaf is a raw key of the file. They are numbered from 1, a generator before the children, as the program's `audit`
+    /// does it; retired ones open, too. Of the message only its header is read, as by `list_header`; one of format 1.0 is 1023.
+    pub fn openers(&self, message: &[u8], given: &[(&str, &str)]) -> Result<Vec<u32>, Error> {
+        let mut session = Session::new(&self.0)?;
+        for (key, value) in given {
+            session.pair(key, value)?;
+        }
+        session.openers(message)
+    }
+}
+
+/// The listing of the header that a message begins with: the lines that the program's `list` prints.
+///
+/// It wants no key, and so nothing of it is authenticated; its texts may hold characters that steer a terminal. What stands
+/// behind the header isn't judged, and needn't be there: the first 65,536 bytes of a message mostly have it; where they don't,
+/// that is 1010. With `uncommitted` headers of format 1.0 are listed, too.
+pub fn list_header(message: &[u8], uncommitted: bool) -> Result<String, Error> {
+    session::listing(message, uncommitted)
 }
 
 impl fmt::Debug for Keyring {

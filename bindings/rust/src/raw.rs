@@ -62,4 +62,20 @@ extern "C" {
     pub fn esdk_pairs(handle: *mut Handle) -> i32;
     pub fn esdk_pair_key(handle: *mut Handle, index: usize, room: *mut u8, len: usize) -> i32;
     pub fn esdk_pair_value(handle: *mut Handle, index: usize, room: *mut u8, len: usize) -> i32;
+    pub fn esdk_list(
+        message: *const u8,
+        message_len: usize,
+        uncommitted: bool,
+        room: *mut u8,
+        room_len: usize,
+        whole: *mut usize,
+    ) -> i32;
+    pub fn esdk_openers(
+        handle: *mut Handle,
+        message: *const u8,
+        message_len: usize,
+        numbers: *mut u32,
+        numbers_len: usize,
+        whole: *mut usize,
+    ) -> i32;
 }

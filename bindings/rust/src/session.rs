@@ -2,7 +2,7 @@
 //!
 //! Each call in `unsafe` meets what esdk.h asks of a caller: the handle was all zero, and only the library wrote it since;
 //! it is moved, and never copied, and `&mut self` keeps a second call out. A slice's pointer isn't null, and what the
-//! library writes is borrowed as `&mut`, so that nothing overlaps it. `Session::new` calls `esdk_check` first.
+//! library writes is borrowed as `&mut`, so that nothing overlaps it. `esdk_check` is called first.
 
 use crate::error::Error;
 use crate::raw::{self, Handle};
@@ -10,6 +10,9 @@ use crate::Context;
 
 /// The longest text of a pair.
 const MOST_OF_TEXT: usize = 65_535;
+
+/// The most leaves of a keyring file's tree.
+const MOST_LEAVES: usize = 64;
 
 pub(crate) struct Session {
     handle: Handle,
@@ -28,15 +31,8 @@ impl Drop for Session {
 
 impl Session {
     pub(crate) fn new(file: &[u8]) -> Result<Session, Error> {
+        check()?;
         let mut session = Session { handle: Handle::new(), waits: 0 };
-        let fits = unsafe {
-            if raw::esdk_abi() == raw::ABI {
-                raw::esdk_check()
-            } else {
-                Error::OTHER_ABI
-            }
-        };
-        session.judge(fits)?;
         let code = unsafe { raw::esdk_new(&mut session.handle, file.as_ptr(), file.len()) };
         session.judge(code)?;
         Ok(session)
@@ -136,11 +132,66 @@ impl Session {
         (0..count).map(|at| Some((self.text(raw::esdk_pair_key, at)?, self.text(raw::esdk_pair_value, at)?))).collect()
     }
 
+    /// The leaves that open a message, each by itself, with the pairs that were put. The session stays set up.
+    pub(crate) fn openers(&mut self, message: &[u8]) -> Result<Vec<u32>, Error> {
+        let (mut numbers, mut whole) = (vec![0; MOST_LEAVES], 0);
+        let code = unsafe {
+            raw::esdk_openers(
+                &mut self.handle,
+                message.as_ptr(),
+                message.len(),
+                numbers.as_mut_ptr(),
+                numbers.len(),
+                &mut whole,
+            )
+        };
+        self.judge(code)?;
+        numbers.truncate(whole);
+        Ok(numbers)
+    }
+
     fn text(&mut self, tell: Tell, at: usize) -> Option<String> {
         let mut room = vec![0; MOST_OF_TEXT];
         let count = unsafe { tell(&mut self.handle, at, room.as_mut_ptr(), room.len()) };
         room.truncate(usize::try_from(count).ok()?);
         String::from_utf8(room).ok()
+    }
+}
+
+/// Whether the library is of this ABI, and the processor one of its.
+fn check() -> Result<(), Error> {
+    let fits = unsafe {
+        if raw::esdk_abi() == raw::ABI {
+            raw::esdk_check()
+        } else {
+            Error::OTHER_ABI
+        }
+    };
+    if fits == 0 { Ok(()) } else { Err(Error::new(fits, String::new())) }
+}
+
+/// The listing of the header that a message begins with.
+pub(crate) fn listing(message: &[u8], uncommitted: bool) -> Result<String, Error> {
+    check()?;
+    let (mut room, mut whole) = (vec![0; 4096], 0);
+    loop {
+        let code = unsafe {
+            raw::esdk_list(
+                message.as_ptr(),
+                message.len(),
+                uncommitted,
+                room.as_mut_ptr(),
+                room.len(),
+                &mut whole,
+            )
+        };
+        if code != 0 {
+            return Err(Error::new(code, String::new()));
+        }
+        if whole <= room.len() {
+            return Ok(String::from_utf8_lossy(&room[..whole]).into_owned());
+        }
+        room.resize(whole, 0);
     }
 }
 

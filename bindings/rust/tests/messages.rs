@@ -1,6 +1,6 @@
 //! The crate over a library: ESDK_LIBRARY=FOLDER cargo test. What is expected comes from vectors/ of the checkout.
 
-use esdk::{Error, Keyring, Kind, Opening, Sealing};
+use esdk::{Error, Keyring, Kind, Opening, Sealing, list_header};
 use std::io::{self, Read, Write};
 use std::path::PathBuf;
 use std::{fs, thread};
@@ -162,4 +162,55 @@ fn a_reader_goes_to_another_thread() {
         let (text, _) = Opening::new().all(&ring(), &one.join().unwrap()).unwrap();
         assert!(text.len() == 300_000 && text.iter().all(|byte| *byte == 7));
     }
+}
+
+// By docs/FORMAT.md, "The listing", of ciphertexts/two-keys.
+const LISTING: &str = "\
+version: 2
+suite: 0478
+message-id: ab21ae9181382711186563d2a944a8d9ec4d9ca649c9911590b521ff54da934f
+context: {\"purpose\":\"test\"}
+data-keys: 2
+data-key 1: provider=6573646b2d766563746f7273 info=6669727374000000800000000c6258ce87b4e2cd4de9046544 \
+ciphertext=1cd7501ff9d2b31ea825099aebee180baf6f4d4bb0eb79b3776b878ff4e20e0691bffeaca8e42eb350bbc178db426b02
+data-key 2: provider=6573646b2d766563746f7273 info=7365636f6e64000000800000000c88f0baa1bbf9093eb1ac52b3 \
+ciphertext=14d7d72e683bc1e16b0db77a1eb98b7ee42805db6e8a8b243c2359620c8342a37e605b3f8939f9e0ea9511da31ce2557
+content: framed
+frame-length: 4096
+commitment: f854fa6c3c6e0b5299fa86c8a210514b4413f29fc0ae863c61b0e6e392e5c14f
+tag: b0b2ac20492c3fe5b9c992bfe816091b
+";
+
+fn refused<T: std::fmt::Debug>(asked: Result<T, Error>) -> (i32, String) {
+    let error = asked.unwrap_err();
+    (error.code(), error.line().to_string())
+}
+
+#[test]
+fn a_header_is_listed_without_a_key() {
+    let two = named("ciphertexts/two-keys");
+    assert_eq!(list_header(&two, false).unwrap(), LISTING);
+    assert_eq!(list_header(&two[..292], true).unwrap(), LISTING);
+    assert_eq!(refused(list_header(&two[..291], false)), (1010, "M10 Truncated".into()));
+    assert_eq!(refused(list_header(b"", false)), (1010, "M10 Truncated".into()));
+    assert_eq!(refused(list_header(b"x", false)), (1001, "M1 BadVersion".into()));
+    assert_eq!(refused(list_header(b"\x01\x80\x01\x78", false)), (1023, "M23 Uncommitted".into()));
+    assert_eq!(refused(list_header(b"\x01\x80\x01\x78", true)), (1010, "M10 Truncated".into()));
+    let long = Sealing::new().pair("a", &"x".repeat(60_000)).all(&ring(), b"").unwrap();
+    assert!(list_header(&long, false).unwrap().contains(&format!("\ncontext: {{\"a\":\"{}\"}}\n", "x".repeat(60_000))));
+}
+
+#[test]
+fn the_leaves_that_open_a_message_are_told() {
+    let two = named("ciphertexts/two-keys");
+    assert_eq!(ring().openers(&two, &[]).unwrap(), [1]);
+    assert_eq!(ring_of("second", 128).openers(&two, &[]).unwrap(), [1]);
+    assert!(ring_of("second", 0).openers(&two, &[]).unwrap().is_empty());
+    assert!(ring().openers(&named("ciphertexts/altered-header-tag"), &[]).unwrap().is_empty());
+    assert_eq!(ring().openers(&named("ciphertexts/altered-content"), &[]).unwrap(), [1]);
+    assert_eq!(refused(ring().openers(&two, &[("purpose", "x")])), (1012, "M12 ContextMismatch".into()));
+    assert_eq!(refused(ring().openers(&two[..50], &[])), (1010, "M10 Truncated".into()));
+    let message = Sealing::new().pair("tenant", "acme").require("tenant").all(&ring(), b"").unwrap();
+    assert!(ring().openers(&message, &[]).unwrap().is_empty());
+    assert_eq!(ring().openers(&message, &[("tenant", "acme")]).unwrap(), [1]);
 }
