@@ -259,6 +259,26 @@ replaced_between() {
     same_text "an audit that names a message twice" output 'message 1 opened-by 1' 'message 2 opened-by 1' 'message 3 opened-by 1' 'leaf 1 needed-for 1 2 3'
 }
 
+# A FIFO that takes the name of a message between the look at it and the opening: the run waits until somebody opens its other end, and it isn't read.
+late_fifo() {
+    local status=0 pid
+    strace -qq -o trace true 2>/dev/null || return 0
+    cp framed late
+    mkfifo late_fifo
+    strace -qq -o trace -P late -e trace=openat -e inject=openat:delay_enter=2000000 "$program" extract --keyring ring --from late --at 0 --count 4 >output 2>report &
+    pid=$!
+    sleep 1
+    mv late_fifo late
+    sleep 2
+    kill -0 "$pid" || fail "a FIFO that takes a message's name" "the run doesn't wait"
+    : >late
+    wait "$pid" || status=$?
+    sed -i '/^strace: /d' report
+    ended "extract of a FIFO that takes a message's name" "$status" 4 'esdk: X3 ShelfFault'
+    [ ! -s output ] || fail "extract of a FIFO that takes a message's name" "something was written"
+    rm late
+}
+
 # ---- a kill at each write
 
 # Reseals in frames of a length by a program that is killed: killed_reseal PROGRAM.. --frame LENGTH
@@ -473,6 +493,7 @@ commands() {
     files_of_commands
     changing_messages
     replaced_between
+    late_fifo
     one_file_of_reseal
     "$program" encrypt --keyring old <large >old_large
     killed_reseals
