@@ -7,3 +7,4 @@ pub mod Pages
 pub mod Positions
 pub mod Schedule
 pub mod SecondRound
+pub mod Sixteens

@@ -1,9 +1,8 @@
 -- The first round on the counter blocks of a page, which differ in their last byte alone.
-use Rattle.std.proofs.Common.{◌≡◌, ℕ, ◌+◌, ◌-◌, ◌/◌, ◌%◌, ◌^◌, ◌<◌, Bool, true, false, List, [], ◌∷◌, ◌++◌, length, cond, map, get_or, bit_xor, eqb, refl, sym, ap, ◌∙◌, subst, inl, inr, arith, length-append}
+use Rattle.std.proofs.Common.{◌≡◌, ℕ, ◌+◌, ◌/◌, ◌%◌, ◌^◌, ◌<◌, Bool, true, false, List, [], ◌∷◌, ◌++◌, length, cond, map, get_or, bit_xor, eqb, refl, sym, ap, ◌∙◌, arith, length-append}
 use Rattle.std.specs.List.{range_with_len}
 use Rattle.std.specs.Int.{bytes_high_first, w32, to_be_bytes}
 use Rattle.std.specs.Int.Bits.{xor_assoc, xor_self, xor_zero_r}
-use Rattle.std.proofs.lemmas.Bool.{cases_lt}
 use Rattle.std.proofs.lemmas.Nat.{xor_comm, xor_lt}
 use Rattle.std.proofs.lemmas.List.{get_or_append_left, get_or-append_right}
 use Rattle.cipher_spec.specs.Field.{field_product, inverse, xtime}
@@ -12,19 +11,11 @@ use Rattle.cipher_spec.specs.Gcm.{counter}
 use Rattle.cipher_spec.proofs.Computed.{same_below}
 use Rattle.plane_core.specs.Bits.{mixed_byte}
 use Rattle.plane_core.specs.Places.{shifted, below}
-use Rattle.plane_core.proofs.Blocks.{each_of_eight}
 use Rattle.plane_core.proofs.States.{mix_is, same_state}
+use Rattle.plane_core.proofs.WideBlocks.{each_of_sixteen}
 use Rattle.aes_core.specs.Counters.{added, column_byte, image, last_key_byte, page_bytes, page_state}
 use Rattle.aes_core.proofs.Constants.{swap_inner, sub_byte_below}
 use Rattle.aes_core.proofs.CounterBlocks.{counter-later, page_split}
-
-pub each_of_sixteen : (P : ℕ → Type 0) → P 0 → P 1 → P 2 → P 3 → P 4 → P 5 → P 6 → P 7 → P 8 → P 9 → P 10 → P 11 → P 12 → P 13 → P 14 → P 15 → (j : ℕ) → j < 16 → P j
-each_of_sixteen P p0 p1 p2 p3 p4 p5 p6 p7 p8 p9 p10 p11 p12 p13 p14 p15 j h = elim (cases_lt j 8) [
-  | inl l ↦ each_of_eight P p0 p1 p2 p3 p4 p5 p6 p7 j l
-  | inr g ↦
-      let e : 8 + (j - 8) ≡ j = omega arith in
-      subst P e (each_of_eight (λ i. P (8 + i)) p8 p9 p10 p11 p12 p13 p14 p15 (j - 8) (omega arith))
-]
 
 -- ---- MixColumns of sums
 

@@ -11,11 +11,12 @@ use Rattle.plane_core.specs.Bits.{block, byte_of, mixed_byte}
 use Rattle.plane_core.specs.Places.{lane, lane_bit}
 use Rattle.plane_core.proofs.Blocks.{each_of_four}
 use Rattle.plane_core.proofs.States.{same_state}
+use Rattle.plane_core.proofs.WideBlocks.{each_of_sixteen}
 use Rattle.aes_core.specs.Column.{share}
 use Rattle.aes_core.specs.Counters.{added, column_byte, four_times, image, lane_byte, last_byte, last_key_byte, page_bytes, page_rest, page_state, quad_images, row_for, second_image, spread, without_column}
 use Rattle.aes_core.specs.declared.second_round.TheConstants.{ONCE, TWICE}
 use Rattle.aes_core.proofs.ImagePlanes.{lane_at, once_from, state_byte, state_from, twice_from}
-use Rattle.aes_core.proofs.Pages.{cond_below, each_of_sixteen, from_zero, mixed_at, page_law, round_apart, subbed, unmasked_below}
+use Rattle.aes_core.proofs.Pages.{cond_below, from_zero, mixed_at, page_law, round_apart, subbed, unmasked_below}
 use Rattle.aes_core.proofs.Positions.{same_within}
 
 -- ---- ShiftRows and MixColumns on column 0

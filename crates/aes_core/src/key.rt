@@ -15,8 +15,9 @@ use crate::cipher::cipher;
 use crate::counter::counter_blocks;
 use crate::key_schedule::round_keys;
 use crate::page::{CounterPage, group_states, page_of, turn};
-use crate::{eight, four, last_byte};
+use crate::{eight, four, last_byte, sixteen};
 use plane_core::planes::Planes;
+use plane_core::sixteen::halves;
 use std::marker::Model;
 use std::simd::prelude::*;
 
@@ -87,6 +88,13 @@ impl Key256 {
         eight::cipher(&self.eights, &x)
     }
 
+    /// Sixteen blocks, each enciphered under the key.
+    pub fn blocks16(&self, x: [[u8; 16]; 16]) -> [[u8; 16]; 16]
+        ensures { result ≡ map (aes self.now) x }
+    {
+        sixteen::cipher(&self.eights, &x)
+    }
+
     /// The page that has the counter block of an initialization vector and a count.
     pub fn page(&self, iv: &[u8; 12], count: u32) -> CounterPage
         ensures page { IsPage self.now iv.now result }
@@ -135,5 +143,18 @@ impl Key256 {
     {
         let start = self.started(iv, count, page);
         cipher_from(&self.eights, &start)
+    }
+
+    /// The same for sixteen counter blocks.
+    pub fn counters16(&self, iv: &[u8; 12], count: u32, page: &mut CounterPage) -> [[u8; 16]; 16]
+        requires { IsPage self.now iv.now page.old }
+        ensures blocks { result
+            ≡ map (aes self.now) (map (counter (iv.now ++ to_be_bytes w32 count))
+            (range_with_len 0 16)) }
+        ensures page { IsPage self.now iv.now page.new }
+    {
+        let first = self.started(iv, count, page);
+        let second = self.started(iv, count.wrapping_add(8), page);
+        sixteen::cipher_from(&self.eights, &halves(&first, &second))
     }
 }

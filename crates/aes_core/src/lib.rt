@@ -21,6 +21,7 @@ mod last_byte;
 mod page;
 mod sbox;
 mod second_round;
+mod sixteen;
 
 pub use counter::counter_block;
 pub use key::Key256;

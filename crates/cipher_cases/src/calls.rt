@@ -12,7 +12,7 @@ use suite_table::{commitment, derived, suite_of};
 /// The most bytes of a text or of associated data.
 const MOST: usize = 1_048_576;
 
-/// One block, four or eight, enciphered by the function that takes so many.
+/// One block, four, eight or sixteen, enciphered by the function that takes so many.
 pub fn ecb(out: &mut String, key: &[u8], blocks: &[u8]) -> Result<(), Wrong> {
     let key = Key256::new(sized(key)?);
     match blocks_of(blocks)? {
@@ -22,7 +22,10 @@ pub fn ecb(out: &mut String, key: &[u8], blocks: &[u8]) -> Result<(), Wrong> {
             let eight = key.blocks8([*a, *b, *c, *d, *e, *f, *g, *h]);
             put(out, eight.as_flattened())
         }
-        _ => Err(Wrong("neither one block, four nor eight")),
+        blocks => match blocks.as_chunks() {
+            ([sixteen], []) => put(out, key.blocks16(*sixteen).as_flattened()),
+            _ => Err(Wrong("neither one block, four, eight nor sixteen")),
+        },
     }
 }
 
@@ -34,6 +37,18 @@ pub fn counters(out: &mut String, key: &[u8], iv: &[u8], count: &[u8]) -> Result
     let mut page = key.page(iv, count);
     let first = key.counters8(iv, count, &mut page);
     let second = key.counters8(iv, count.wrapping_add(8), &mut page);
+    put(out, first.as_flattened())?;
+    put_text(out, " ")?;
+    put(out, second.as_flattened())
+}
+
+/// Thirty-two counter blocks: sixteen, and sixteen behind them with the page that these left.
+pub fn wide_counters(out: &mut String, key: &[u8], iv: &[u8], count: &[u8]) -> Result<(), Wrong> {
+    let (key, iv) = (Key256::new(sized(key)?), sized(iv)?);
+    let count = u32::from_be_bytes(*sized(count)?);
+    let mut page = key.page(iv, count);
+    let first = key.counters16(iv, count, &mut page);
+    let second = key.counters16(iv, count.wrapping_add(16), &mut page);
     put(out, first.as_flattened())?;
     put_text(out, " ")?;
     put(out, second.as_flattened())

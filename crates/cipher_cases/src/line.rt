@@ -40,6 +40,7 @@ fn put_answer_of(out: &mut String, verb: &str, arguments: &[Vec<u8>]) -> Result<
         [id] if verb == "suite" => calls::suite(out, id),
         [first, second] => put_answer_of_two(out, verb, first, second),
         [key, iv, count] if verb == "counters" => calls::counters(out, key, iv, count),
+        [key, iv, count] if verb == "counters16" => calls::wide_counters(out, key, iv, count),
         [suite, key, id] if verb == "derived" => calls::derived_key(out, suite, key, id),
         [key, salt, info, held] if verb == "hkdf" => {
             calls::hkdf_sha512(out, key, salt, info, held)

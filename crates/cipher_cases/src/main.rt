@@ -7,8 +7,9 @@
 //!
 //! | Call | Answer |
 //! |---|---|
-//! | `ecb KEY BLOCKS` | one block, four or eight, enciphered by the function that takes so many |
+//! | `ecb KEY BLOCKS` | one block, four, eight or sixteen, by the function that takes so many |
 //! | `counters KEY IV COUNT` | eight enciphered counter blocks from the count on, and eight more |
+//! | `counters16 KEY IV COUNT` | sixteen, and sixteen more |
 //! | `ghash H BLOCKS` | the hash of the blocks, taken one by one |
 //! | `ghash4 H BLOCKS` | the same, taken by fours as long as there are four |
 //! | `seal KEY IV FIRST SECOND TEXT` | the ciphertext and the tag |

@@ -11,23 +11,23 @@ use Rattle.cipher_spec.proofs.GcmLemmas.{length-gctr, get_or-gctr}
 use Rattle.gcm_core.specs.Masks.{masked}
 use Rattle.gcm_core.proofs.Counting.{mask-past, gctr-masked}
 
--- block b of eight enciphered counter blocks
-masks-at : (key initial : List ℕ) (masks : List (List ℕ)) (b : ℕ) → masks ≡ map (aes key) (map (counter initial) (range_with_len 0 8)) → b < 8 → get_or masks b [] ≡ aes key (counter initial b)
-masks-at key initial masks b is h =
-    let counters = map (counter initial) (range_with_len 0 8) in
-    let long : length counters ≡ 8 = length-map-range_with_len (counter initial) 0 8 in
-    ap (λ l. get_or l b []) is ∙ get_or-map (aes key) counters b [] [] (omega arith) ∙ ap (aes key) (get_or-map-range_with_len (counter initial) 0 8 b b [] h (omega arith))
+-- block b of n enciphered counter blocks
+masks-at : (n : ℕ) (key initial : List ℕ) (masks : List (List ℕ)) (b : ℕ) → masks ≡ map (aes key) (map (counter initial) (range_with_len 0 n)) → b < n → get_or masks b [] ≡ aes key (counter initial b)
+masks-at n key initial masks b is h =
+    let counters = map (counter initial) (range_with_len 0 n) in
+    let long : length counters ≡ n = length-map-range_with_len (counter initial) 0 n in
+    ap (λ l. get_or l b []) is ∙ get_or-map (aes key) counters b [] [] (omega arith) ∙ ap (aes key) (get_or-map-range_with_len (counter initial) 0 n b b [] h (omega arith))
 
--- a byte of eight enciphered counter blocks
-mask-masks : (key initial : List ℕ) (masks : List (List ℕ)) (i : ℕ) → masks ≡ map (aes key) (map (counter initial) (range_with_len 0 8)) → i < 128 → get_or (get_or masks (i / 16) []) (i % 16) 0 ≡ mask key initial i
+-- a byte of n enciphered counter blocks
+mask-masks : (n : ℕ) (key initial : List ℕ) (masks : List (List ℕ)) (i : ℕ) → masks ≡ map (aes key) (map (counter initial) (range_with_len 0 n)) → i < 16 * n → get_or (get_or masks (i / 16) []) (i % 16) 0 ≡ mask key initial i
 unfolding mask
-mask-masks key initial masks i is h = ap (λ block. get_or block (i % 16) 0) (masks-at key initial masks (i / 16) is (omega arith))
+mask-masks n key initial masks i is h = ap (λ block. get_or block (i % 16) 0) (masks-at n key initial masks (i / 16) is (omega arith))
 
--- a text to which eight enciphered counter blocks were added is what GCTR gives
-pub gctr-group : (key initial text : List ℕ) (masks : List (List ℕ)) → masks ≡ map (aes key) (map (counter initial) (range_with_len 0 8)) → length text ≤ 128 → masked text masks ≡ gctr key initial text
-gctr-group key initial text masks is short =
+-- a text to which n enciphered counter blocks were added is what GCTR gives
+pub gctr-group : (n : ℕ) (key initial text : List ℕ) (masks : List (List ℕ)) → masks ≡ map (aes key) (map (counter initial) (range_with_len 0 n)) → length text ≤ 16 * n → masked text masks ≡ gctr key initial text
+gctr-group n key initial text masks is short =
     let f : ℕ → ℕ = λ i. bit_xor (get_or text i 0) (get_or (get_or masks (i / 16) []) (i % 16) 0) in
-    gctr-masked key initial text (masked text masks) (length-map-range_with_len f 0 (length text)) (λ i h. get_or-map-range_with_len f 0 (length text) i i 0 h (omega arith) ∙ ap (bit_xor (get_or text i 0)) (mask-masks key initial masks i is (omega arith)))
+    gctr-masked key initial text (masked text masks) (length-map-range_with_len f 0 (length text)) (λ i h. get_or-map-range_with_len f 0 (length text) i i 0 h (omega arith) ∙ ap (bit_xor (get_or text i 0)) (mask-masks n key initial masks i is (omega arith)))
 
 -- GCTR on whole blocks and then on more
 pub gctr-append : (key initial xs ys : List ℕ) (m : ℕ) → length xs ≡ 16 * m → gctr key initial (xs ++ ys) ≡ gctr key initial xs ++ gctr key (counter initial m) ys

@@ -1,8 +1,9 @@
 //! Authenticated encryption of a text where it lies: AES-256 in Galois/Counter Mode (NIST SP
 //! 800-38D), with initialization vectors of 12 bytes and tags of 16 bytes.
 //!
-//! A text is enciphered eight blocks at a time and hashed four at a time, piece by piece, so that a
-//! piece is still in the first cache when it is hashed. The functions whose names end in
+//! A text is enciphered eight blocks at a time, or sixteen in a program that is built for vectors
+//! of 32 bytes, and hashed four at a time, piece by piece, so that a piece is still in the first
+//! cache when it is hashed. The functions whose names end in
 //! `by_blocks` do the same one block at a time: they serve the ends of texts, and to measure the
 //! others by.
 //!

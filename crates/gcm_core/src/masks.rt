@@ -1,6 +1,6 @@
 //! Masks added to a text, which GCTR of SP 800-38D does (section 6.5).
 
-ghost use Rattle.std.specs.Prelude.{◌≡◌, ◌+◌, ◌<◌, ◌≤◌, ℕ, length, slice_index, bit_xor};
+ghost use Rattle.std.specs.Prelude.{◌≡◌, ◌+◌, ◌*◌, ◌<◌, ◌≤◌, ℕ, length, slice_index, bit_xor};
 ghost use Rattle.gcm_core.specs.Masks.{masked};
 
 use std::simd::prelude::*;
@@ -35,10 +35,10 @@ fn add_whole_mask(text: &mut [u8], at: usize, mask: &[u8; 16])
     block.copy_to_slice(&mut text[at..at + 16]);
 }
 
-/// Adds eight masks in a row to the text, as far as it reaches.
+/// Adds masks in a row to the text, as far as it reaches.
 #[inline(always)]
-pub fn add_masks(text: &mut [u8], masks: &[[u8; 16]; 8])
-    requires { length text.old ≤ 128 }
+pub fn add_masks(text: &mut [u8], masks: &[[u8; 16]])
+    requires { length text.old ≤ 16 * length masks.now }
     ensures { text.new ≡ masked text.old masks.now }
 {
     let whole = text.len() / 16;

@@ -7,7 +7,8 @@ use Rattle.std.proofs.lemmas.Bool.{cases_lt}
 use Rattle.std.proofs.lemmas.List.{get_or_past}
 use Rattle.std.proofs.lemmas.Simd.{get_or-replicate}
 use Rattle.std.proofs.lemmas.Nat.{mod-pow-add, mul-le, pow-add, pow_pos, shl-shr, xor_comm, xor_mod, xor_shr}
-use Rattle.ghash_core.specs.Tables.{byte_of, folded, word}
+use Rattle.ghash_core.specs.Tables.{byte_of, folded, half_lanes, word}
+use Rattle.ghash_core.proofs.Lanes.{half_long, lane_of_half}
 use Rattle.ghash_core.proofs.Shifts.{folded_is, moved, moved-nothing, moved-sum, moved_over}
 use Rattle.ghash_core.proofs.Sums.{xor-shl, xsum, xsum-append, xsum-each, xsum-exchange, xsum-front, xsum-lt, xsum-more, xsum-none, xsum-same, xsum-shl, xsum-xor}
 
@@ -90,7 +91,7 @@ unfolding lane_sum
 lane_sum-none f o l = xsum-none (λ e. word (plane_number f (o + e)) l * 2 ^ (8 * e))
 
 -- the step of `next`
-pub lane_sum-next : (f : ℕ → ℕ) (p : List ℕ) (o l k before after : ℕ) → k < 8 → length p ≡ 16
+lane_sum-next : (f : ℕ → ℕ) (p : List ℕ) (o l k before after : ℕ) → k < 8 → length p ≡ 16
     → ((i : ℕ) → i < 16 → get_or p i 0 ≡ byte_of (f i) (o + k))
     → before ≡ lane_sum f o l k * 2 ^ (72 - 8 * k)
     → after ≡ bit_xor (before / 2 ^ 8) (word (number_l 256 p) l * 2 ^ 64)
@@ -201,7 +202,16 @@ lanes_folded f k a b c d r eight small ea eb ec ed is =
     is ∙ ap (λ n. folded (bit_xor (bit_xor n (b * 2 ^ 64)) (bit_xor (c * 2 ^ 64) (d * 2 ^ 128)))) fa ∙ ap (λ n. folded (bit_xor (bit_xor (lane_sum f 0 0 8 * 2 ^ 8) (n * 2 ^ 64)) (bit_xor (c * 2 ^ 64) (d * 2 ^ 128)))) fb ∙ ap (λ n. folded (bit_xor (bit_xor (lane_sum f 0 0 8 * 2 ^ 8) (lane_sum f 0 1 8 * 2 ^ 8 * 2 ^ 64)) (bit_xor (n * 2 ^ 64) (d * 2 ^ 128)))) fc ∙ ap (λ n. folded (bit_xor (bit_xor (lane_sum f 0 0 8 * 2 ^ 8) (lane_sum f 0 1 8 * 2 ^ 8 * 2 ^ 64)) (bit_xor (lane_sum f 8 0 8 * 2 ^ 8 * 2 ^ 64) (n * 2 ^ 128)))) fd ∙ ap folded (lanes_joined f small) ∙ blocks_folded f
 
 -- before the first step
-pub lanes_begun : (f : ℕ → ℕ) (o i : ℕ) → i < 2 → get_or (replicate 2 0) i 0 * 2 ^ 64 + get_or (replicate 2 0) i 0 ≡ lane_sum f o i 0 * 2 ^ (72 - 8 * 0)
-lanes_begun f o i within =
-    let e : get_or (replicate {A = ℕ} 2 0) i 0 ≡ 0 = get_or-replicate 2 i 0 0 within in
-    ap (λ z. z * 2 ^ 64 + z) e ∙ ap (λ s. s * 2 ^ 72) (sym (lane_sum-none f o i))
+pub lanes_begun : (f : ℕ → ℕ) (o l m : ℕ) → m < 4 → get_or (replicate 4 0) m 0 * 2 ^ 64 + get_or (replicate 4 0) m 0 ≡ lane_sum f o l 0 * 2 ^ (72 - 8 * 0)
+lanes_begun f o l m within =
+    let e : get_or (replicate {A = ℕ} 4 0) m 0 ≡ 0 = get_or-replicate 4 m 0 0 within in
+    ap (λ z. z * 2 ^ 64 + z) e ∙ ap (λ s. s * 2 ^ 72) (sym (lane_sum-none f o l))
+
+-- the step of `next` for a half of a vector, which has the bytes eight places further
+pub half_sum-next : (f : ℕ → ℕ) (p : List ℕ) (t l k before after : ℕ) → k < 8 → t < 2 → length p ≡ 32
+    → ((i : ℕ) → i < 16 → get_or p (16 * t + i) 0 ≡ byte_of (f i) (8 * t + k))
+    → before ≡ lane_sum f (8 * t) l k * 2 ^ (72 - 8 * k)
+    → after ≡ bit_xor (before / 2 ^ 8) (word (number_l 256 (half_lanes p t)) l * 2 ^ 64)
+    → after ≡ lane_sum f (8 * t) l (k + 1) * 2 ^ (72 - 8 * (k + 1))
+half_sum-next f p t l k before after within half long is was now =
+    lane_sum-next f (half_lanes p t) (8 * t) l k before after within (half_long p t long half) (λ i h. lane_of_half p t i h ∙ is i h) was now

@@ -1,11 +1,14 @@
--- What the lanes of vectors have: of 16 bytes, and of two words.
-use Rattle.std.proofs.Common.{◌≡◌, ℕ, zero, suc, List, ◌+◌, ◌*◌, ◌/◌, ◌%◌, ◌^◌, ◌<◌, length, replicate, get_or, bit_and, bit_xor, w8, refl, sym, ap, ◌∙◌, arith}
+-- What the lanes of vectors have: of 32 bytes, and of two or four words.
+use Rattle.std.proofs.Common.{◌≡◌, ℕ, zero, suc, List, ◌+◌, ◌*◌, ◌/◌, ◌%◌, ◌^◌, ◌<◌, ◌≤◌, ◌++◌, Fits, length, map, replicate, get_or, bit_and, bit_xor, w8, refl, sym, ap, ◌∙◌, arith}
 use Rattle.std.specs.Int.Bits.{xor_assoc, xor_shifted, xor_zero_l, xor_zero_r}
-use Rattle.std.specs.Simd.Lanes.{digits_l, number_l, zip2}
-use Rattle.std.proofs.lemmas.List.{get_or-map}
+use Rattle.std.specs.List.{range_with_len}
+use Rattle.std.specs.Simd.Lanes.{Each1, chunk, digits_l, number_l, zip2}
+use Rattle.std.proofs.lemmas.Grind.{same_number_lists}
+use Rattle.std.proofs.lemmas.List.{get_or-append-add, get_or-map, get_or_append_left}
+use Rattle.std.proofs.lemmas.List.FromFn.{get_or-map-range_with_len}
 use Rattle.std.proofs.lemmas.Nat.{and_mask, xor_block, xor_comm, xor_lt, xor_mod, xor_shr}
-use Rattle.std.proofs.lemmas.Simd.{get_or-swz_l_below, get_or-zip2, length-replicate, length-swz_l, length-zip2, swz_l, zip2_splat}
-use Rattle.ghash_core.specs.Tables.{byte_of, byte_times, folded, IsPlane, word}
+use Rattle.std.proofs.lemmas.Simd.{below_from_Fits, Each1-chunk, get_or-chunk, get_or-swz_l_below, get_or-zip2, get_or_wider, length-chunk, length-replicate, length-swz_l, length-zip2, swz_l, zip2_splat}
+use Rattle.ghash_core.specs.Tables.{byte_of, byte_times, folded, half_lanes, IsPlane, word}
 use Rattle.ghash_core.specs.declared.planes.Plane.{Plane}
 use Rattle.ghash_core.proofs.Linear.{xor_pairs}
 use Rattle.ghash_core.proofs.Products.{entries_added}
@@ -27,30 +30,67 @@ long_of_one f x n s h = long_of_two f x (replicate n s) n h (length-replicate n 
 
 -- ---- a table of bytes
 
-pub looked_lane : (table v : List ℕ) (i : ℕ) → length v ≡ 16 → i < 16 → get_or (swz_l w8 16 table 0 (zip2 bit_and v (replicate 16 15))) i 0 ≡ get_or table (get_or v i 0 % 16) 0
-looked_lane table v i long within =
-    let at = zip2 bit_and v (replicate 16 15) in
-    let is : get_or at i 0 ≡ get_or v i 0 % 16 = lane_of_one bit_and v 16 i 15 long within ∙ and_mask (get_or v i 0) 4 in
-    let far = long_of_one bit_and v 16 15 long in
-    let e : 16 * ((0 + i) / 16) + get_or at i 0 ≡ get_or at i 0 = omega arith in
-    get_or-swz_l_below w8 16 table 0 at i (omega (arith, far)) (omega (arith, is)) ∙ ap (λ k. get_or table k 0) (e ∙ is)
+-- a lane of the table's half
+pub looked_lane : (table v : List ℕ) (t i : ℕ) → length v ≡ 32 → t < 2 → i < 16
+    → get_or (swz_l w8 16 table 0 (zip2 bit_and v (replicate 32 15))) (16 * t + i) 0 ≡ get_or table (16 * t + get_or v (16 * t + i) 0 % 16) 0
+looked_lane table v t i long half within =
+    let at = zip2 bit_and v (replicate 32 15) in
+    let m = 16 * t + i in
+    let is : get_or at m 0 ≡ get_or v m 0 % 16 = lane_of_one bit_and v 32 m 15 long (omega arith) ∙ and_mask (get_or v m 0) 4 in
+    let far = long_of_one bit_and v 32 15 long in
+    let e : 16 * ((0 + m) / 16) + get_or at m 0 ≡ 16 * t + get_or at m 0 = omega arith in
+    get_or-swz_l_below w8 16 table 0 at m (omega (arith, far)) (omega (arith, is)) ∙ ap (λ k. get_or table k 0) (e ∙ ap (λ n. 16 * t + n) is)
 
-pub looked_long : (table v : List ℕ) → length v ≡ 16 → length (swz_l w8 16 table 0 (zip2 bit_and v (replicate 16 15))) ≡ 16
+pub looked_long : (table v : List ℕ) → length v ≡ 32 → length (swz_l w8 16 table 0 (zip2 bit_and v (replicate 32 15))) ≡ 32
 looked_long table v long =
-    length-swz_l w8 16 table 0 (zip2 bit_and v (replicate 16 15)) ∙ long_of_one bit_and v 16 15 long
+    length-swz_l w8 16 table 0 (zip2 bit_and v (replicate 32 15)) ∙ long_of_one bit_and v 32 15 long
 
 -- what the two look-ups of `added` give
-pub added_lane : (h k i : ℕ) (plane : Plane) (x r s : List ℕ) → IsPlane plane h k → i < 16 → length x ≡ 16 → length r ≡ 16 → length s ≡ 16 → get_or x i 0 < 256
-    → get_or r i 0 ≡ get_or plane.upper (get_or (zip2 (λ x s. x / 2 ^ s) x (replicate 16 4)) i 0 % 16) 0
-    → get_or s i 0 ≡ get_or plane.lower (get_or x i 0 % 16) 0
-    → get_or (zip2 bit_xor r s) i 0 ≡ byte_of (byte_times h (get_or x i 0)) k
-added_lane h k i plane x r s is within long lr ls small er es =
-    let b = get_or x i 0 in
-    let down : get_or (zip2 (λ x s. x / 2 ^ s) x (replicate 16 4)) i 0 ≡ get_or x i 0 / 16 = lane_of_one (λ x s. x / 2 ^ s) x 16 i 4 long within in
-    let up : get_or (zip2 (λ x s. x / 2 ^ s) x (replicate 16 4)) i 0 % 16 ≡ b / 16 = omega (arith, down) in
-    let first : get_or r i 0 ≡ _ = er ∙ ap (λ j. get_or plane.upper j 0) up ∙ (is (b / 16) (omega arith)).0 in
-    let second : get_or s i 0 ≡ _ = es ∙ (is (b % 16) (omega arith)).1 in
-    lane_of_two bit_xor r s 16 i lr ls within ∙ ap (λ n. bit_xor n (get_or s i 0)) first ∙ ap (bit_xor _) second ∙ entries_added h b k
+pub added_lane : (h k t i : ℕ) (plane : Plane) (x r s : List ℕ) → IsPlane plane h k → t < 2 → i < 16 → length x ≡ 32 → length r ≡ 32 → length s ≡ 32 → get_or x (16 * t + i) 0 < 256
+    → get_or r (16 * t + i) 0 ≡ get_or plane.upper (16 * t + get_or (zip2 (λ x s. x / 2 ^ s) x (replicate 32 4)) (16 * t + i) 0 % 16) 0
+    → get_or s (16 * t + i) 0 ≡ get_or plane.lower (16 * t + get_or x (16 * t + i) 0 % 16) 0
+    → get_or (zip2 bit_xor r s) (16 * t + i) 0 ≡ byte_of (byte_times h (get_or x (16 * t + i) 0)) (8 * t + k)
+added_lane h k t i plane x r s is half within long lr ls small er es =
+    let m = 16 * t + i in
+    let b = get_or x m 0 in
+    let down : get_or (zip2 (λ x s. x / 2 ^ s) x (replicate 32 4)) m 0 ≡ get_or x m 0 / 16 = lane_of_one (λ x s. x / 2 ^ s) x 32 m 4 long (omega arith) in
+    let up : get_or (zip2 (λ x s. x / 2 ^ s) x (replicate 32 4)) m 0 % 16 ≡ b / 16 = omega (arith, down) in
+    let first : get_or r m 0 ≡ _ = er ∙ ap (λ j. get_or plane.upper (16 * t + j) 0) up ∙ (is t (b / 16) half (omega arith)).0 in
+    let second : get_or s m 0 ≡ _ = es ∙ (is t (b % 16) half (omega arith)).1 in
+    lane_of_two bit_xor r s 32 m lr ls (omega arith) ∙ ap (λ n. bit_xor n (get_or s m 0)) first ∙ ap (bit_xor _) second ∙ entries_added h b (8 * t + k)
+
+-- ---- halves
+
+-- a lane of either half
+pub either_half : (v : List ℕ) (g : ℕ → ℕ → ℕ) → ((i : ℕ) → i < 16 → get_or v i 0 ≡ g 0 i) → ((i : ℕ) → i < 16 → get_or v (16 + i) 0 ≡ g 1 i)
+    → (t i : ℕ) → t < 2 → i < 16 → get_or v (16 * t + i) 0 ≡ g t i
+either_half v g low high zero i half within = let e : 16 * 0 + i ≡ i = omega arith in ap (λ k. get_or v k 0) e ∙ low i within
+either_half v g low high (suc zero) i half within = high i within
+either_half v g low high (suc (suc t)) i half within = absurd (omega arith)
+
+pub lane_joined : (a b : List ℕ) → length a ≡ 16 → (j : ℕ) → j < 16 → get_or (map (λ k. get_or (a ++ b) k 0) (range_with_len 0 32)) j 0 ≡ get_or a j 0
+lane_joined a b long j h =
+    get_or-map-range_with_len (λ k. get_or (a ++ b) k 0) 0 32 j j 0 (omega arith) (omega arith)
+    ∙ get_or_append_left a b 0 j (omega arith)
+
+pub lane_joined_high : (a b : List ℕ) → length a ≡ 16 → (j : ℕ) → j < 16 → get_or (map (λ k. get_or (a ++ b) k 0) (range_with_len 0 32)) (16 + j) 0 ≡ get_or b j 0
+lane_joined_high a b long j h =
+    let m : length a + j ≡ 16 + j = omega arith in
+    get_or-map-range_with_len (λ k. get_or (a ++ b) k 0) 0 32 (16 + j) (16 + j) 0 (omega arith) (omega arith)
+    ∙ ap (λ k. get_or (a ++ b) k 0) (sym m) ∙ get_or-append-add a b j 0
+
+-- two of four lanes
+pub lane_cut : (v : List ℕ) → length v ≡ 4 → (n j : ℕ) → n ≤ 2 → j < 2 → get_or (map (λ k. get_or (v ++ v) k 0) (range_with_len n 2)) j 0 ≡ get_or v (n + j) 0
+lane_cut v long n j l h =
+    get_or-map-range_with_len (λ k. get_or (v ++ v) k 0) n 2 j (n + j) 0 h refl
+    ∙ get_or_append_left v v 0 (n + j) (omega arith)
+
+-- a lane of a half, and how many it has
+pub lane_of_half : (v : List ℕ) (t j : ℕ) → j < 16 → get_or (half_lanes v t) j 0 ≡ get_or v (16 * t + j) 0
+lane_of_half v t j h = get_or-chunk (16 * t) 16 v j 0 h
+
+pub half_long : (v : List ℕ) (t : ℕ) → length v ≡ 32 → t < 2 → length (half_lanes v t) ≡ 16
+half_long v t long half = length-chunk (16 * t) 16 v (omega arith)
 
 -- ---- words
 
@@ -69,22 +109,46 @@ pair_moved h l h' l' w sh sl eh el =
     let block = xor_block 64 q w t 0 small (omega arith) in
     rw (eh, joined) (sym (ap (λ n. bit_xor n (w * 2 ^ 64)) further ∙ ap (bit_xor (q * 2 ^ 64 + t)) none ∙ block ∙ ap (λ n. bit_xor q w * 2 ^ 64 + n) (xor_zero_r t)))
 
-pub lower_lane : (high low : List ℕ) (i : ℕ) → length high ≡ 2 → length low ≡ 2 → i < 2 → get_or (zip2 bit_xor (zip2 (λ x s. x / 2 ^ s) low (replicate 2 8)) (zip2 (λ x s. x * 2 ^ s % 2 ^ 64) high (replicate 2 56))) i 0 ≡ bit_xor (get_or low i 0 / 2 ^ 8) (get_or high i 0 * 2 ^ 56 % 2 ^ 64)
+pub lower_lane : (high low : List ℕ) (i : ℕ) → length high ≡ 4 → length low ≡ 4 → i < 4 → get_or (zip2 bit_xor (zip2 (λ x s. x / 2 ^ s) low (replicate 4 8)) (zip2 (λ x s. x * 2 ^ s % 2 ^ 64) high (replicate 4 56))) i 0 ≡ bit_xor (get_or low i 0 / 2 ^ 8) (get_or high i 0 * 2 ^ 56 % 2 ^ 64)
 lower_lane high low i lh ll within =
     let down = λ (x s : ℕ). x / 2 ^ s in
     let up = λ (x s : ℕ). x * 2 ^ s % 2 ^ 64 in
-    lane_of_two bit_xor (zip2 down low (replicate 2 8)) (zip2 up high (replicate 2 56)) 2 i (long_of_one down low 2 8 ll) (long_of_one up high 2 56 lh) within ∙ ap (λ n. bit_xor n (get_or (zip2 up high (replicate 2 56)) i 0)) (lane_of_one down low 2 i 8 ll within) ∙ ap (bit_xor (get_or low i 0 / 2 ^ 8)) (lane_of_one up high 2 i 56 lh within)
+    lane_of_two bit_xor (zip2 down low (replicate 4 8)) (zip2 up high (replicate 4 56)) 4 i (long_of_one down low 4 8 ll) (long_of_one up high 4 56 lh) within ∙ ap (λ n. bit_xor n (get_or (zip2 up high (replicate 4 56)) i 0)) (lane_of_one down low 4 i 8 ll within) ∙ ap (bit_xor (get_or low i 0 / 2 ^ 8)) (lane_of_one up high 4 i 56 lh within)
 
 word_lane : (n i : ℕ) → i < 2 → get_or (digits_l (2 ^ 64) 2 n) i 0 ≡ word n i
 word_lane n zero within = refl
 word_lane n (suc zero) within = refl
 word_lane n (suc (suc i)) within = absurd (omega arith)
 
-pub upper_lane : (high plane : List ℕ) (i : ℕ) → length high ≡ 2 → i < 2 → get_or (zip2 bit_xor (zip2 (λ x s. x / 2 ^ s) high (replicate 2 8)) (digits_l (2 ^ 64) 2 (number_l 256 plane))) i 0 ≡ bit_xor (get_or high i 0 / 2 ^ 8) (word (number_l 256 plane) i)
-upper_lane high plane i lh within =
+-- the words of a half are two of the whole
+words_of_half : (plane : List ℕ) (t l : ℕ) → length plane ≡ 32 → Each1 (Fits w8) plane → t < 2 → l < 2
+    → get_or (digits_l (2 ^ 64) 4 (number_l 256 plane)) (2 * t + l) 0 ≡ word (number_l 256 (half_lanes plane t)) l
+words_of_half plane t l long fits half within =
+    let m = 2 * t + l in
+    let part = half_lanes plane t in
+    let small : Each1 (λ x. x < 256) plane = below_from_Fits w8 plane fits in
+    let long_part = half_long plane t long half in
+    let whole_long : length (chunk (8 * m) 8 plane) ≡ 8 = length-chunk (8 * m) 8 plane (omega arith) in
+    let part_long : length (chunk (8 * l) 8 part) ≡ 8 = length-chunk (8 * l) 8 part (omega (arith, long_part)) in
+    let same : chunk (8 * m) 8 plane ≡ chunk (8 * l) 8 part =
+    same_number_lists (chunk (8 * m) 8 plane) (chunk (8 * l) 8 part) (whole_long ∙ sym part_long) (λ k h.
+    let few : k < 8 = omega (arith, whole_long) in
+    let e : 8 * m + k ≡ 16 * t + (8 * l + k) = omega arith in
+    get_or-chunk (8 * m) 8 plane k 0 few ∙ ap (λ i. get_or plane i 0) e
+    ∙ sym (get_or-chunk (8 * l) 8 part k 0 few ∙ lane_of_half plane t (8 * l + k) (omega arith))) in
+    get_or_wider 256 8 (2 ^ 64) 4 plane m refl small (omega arith) ∙ ap (number_l 256) same
+    ∙ sym (get_or_wider 256 8 (2 ^ 64) 2 part l refl (Each1-chunk (λ x. x < 256) (16 * t) 16 plane small) within)
+    ∙ word_lane (number_l 256 part) l within
+
+pub upper_lane : (high plane : List ℕ) (t l : ℕ) → length high ≡ 4 → length plane ≡ 32 → Each1 (Fits w8) plane → t < 2 → l < 2
+    → get_or (zip2 bit_xor (zip2 (λ x s. x / 2 ^ s) high (replicate 4 8)) (digits_l (2 ^ 64) 4 (number_l 256 plane))) (2 * t + l) 0
+    ≡ bit_xor (get_or high (2 * t + l) 0 / 2 ^ 8) (word (number_l 256 (half_lanes plane t)) l)
+upper_lane high plane t l lh lp fits half within =
+    let m = 2 * t + l in
     let down = λ (x s : ℕ). x / 2 ^ s in
-    let words = digits_l (2 ^ 64) 2 (number_l 256 plane) in
-    lane_of_two bit_xor (zip2 down high (replicate 2 8)) words 2 i (long_of_one down high 2 8 lh) refl within ∙ ap (λ n. bit_xor n (get_or words i 0)) (lane_of_one down high 2 i 8 lh within) ∙ ap (bit_xor (get_or high i 0 / 2 ^ 8)) (word_lane (number_l 256 plane) i within)
+    let words = digits_l (2 ^ 64) 4 (number_l 256 plane) in
+    lane_of_two bit_xor (zip2 down high (replicate 4 8)) words 4 m (long_of_one down high 4 8 lh) refl (omega arith)
+    ∙ ap (λ n. bit_xor n (get_or words m 0)) (lane_of_one down high 4 m 8 lh (omega arith)) ∙ ap (bit_xor (get_or high m 0 / 2 ^ 8)) (words_of_half plane t l lp fits half within)
 
 -- ---- 256 bits of four pairs of words
 

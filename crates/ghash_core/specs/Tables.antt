@@ -1,5 +1,5 @@
 -- The tables by which a product of blocks is looked up, byte by byte of the product.
-use Rattle.std.specs.Prelude.{◌≡◌, ℕ, Bool, true, false, zero, suc, ◌+◌, ◌*◌, ◌/◌, ◌%◌, ◌^◌, ◌<◌, List, bit_xor, slice_index, slice_index_or, leb, ◌⊎◌, if◌then◌else◌}
+use Rattle.std.specs.Prelude.{◌≡◌, ℕ, Bool, true, false, zero, suc, ◌+◌, ◌*◌, ◌/◌, ◌%◌, ◌^◌, ◌<◌, List, take, drop, bit_xor, slice_index, slice_index_or, leb, ◌⊎◌, if◌then◌else◌}
 use Rattle.cipher_spec.specs.Field.{add_if}
 use Rattle.cipher_spec.specs.Ghash.{half, times}
 use Rattle.ghash_core.specs.declared.planes.Plane.{Plane}
@@ -34,16 +34,17 @@ byte_times y b = bit_xor (nibble_times y (b / 16)) (nibble_times (sixteenth y) (
 abbrev pub byte_of : ℕ → ℕ → ℕ
 byte_of x k = x / 2 ^ (8 * k) % 256
 
--- byte k of what each value of the upper four bits of a byte adds to a product by h, and of what
--- each value of the lower four adds
+-- in the lower half byte k of what each value of the upper four bits of a byte adds to a product by
+-- h, and of what each value of the lower four adds; in the upper half byte k + 8
 abbrev pub IsPlane : Plane → ℕ → ℕ → Type 0
 IsPlane plane h k =
-    (n : ℕ) → n < 16 → (slice_index plane.upper n ≡ byte_of (nibble_times h n) k)
-    × (slice_index plane.lower n ≡ byte_of (nibble_times (sixteenth h) n) k)
+    (t n : ℕ) → t < 2 → n < 16
+    → (slice_index plane.upper (16 * t + n) ≡ byte_of (nibble_times h n) (8 * t + k))
+    × (slice_index plane.lower (16 * t + n) ≡ byte_of (nibble_times (sixteenth h) n) (8 * t + k))
 
--- plane k serves byte k
+-- plane k serves byte k and byte k + 8
 abbrev pub IsPlanes : List Plane → ℕ → Type 0
-IsPlanes planes h = (k : ℕ) → k < 16 → (plane : Plane) → IsPlane (slice_index_or planes k plane) h k
+IsPlanes planes h = (k : ℕ) → k < 8 → (plane : Plane) → IsPlane (slice_index_or planes k plane) h k
 
 -- the planes of h and of its next three powers
 pub record IsPowers (powers : Powers) (h : ℕ) : Type 0 where
@@ -57,6 +58,10 @@ pub record IsPowers (powers : Powers) (h : ℕ) : Type 0 where
 abbrev pub settled : ℕ → ℕ → Bool → ℕ
 settled h hash true = times hash h
 settled h hash false = hash
+
+-- a half of a vector of 32 bytes, the lower one first
+abbrev pub half_lanes : List ℕ → ℕ → List ℕ
+half_lanes v t = take 16 (drop (16 * t) v)
 
 -- the lower and the upper half of a number of 128 bits
 abbrev pub word : ℕ → ℕ → ℕ

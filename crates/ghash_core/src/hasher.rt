@@ -36,14 +36,14 @@ impl Model for Ghash {
 /// Planes of zeros, in whose place others are put.
 fn no_powers() -> Powers {
     let none = Plane {
-        upper: u8x16::splat(0),
-        lower: u8x16::splat(0),
+        upper: u8x32::splat(0),
+        lower: u8x32::splat(0),
     };
     Powers {
-        one: [none; 16],
-        two: [none; 16],
-        three: [none; 16],
-        four: [none; 16],
+        one: [none; 8],
+        two: [none; 8],
+        three: [none; 8],
+        four: [none; 8],
     }
 }
 

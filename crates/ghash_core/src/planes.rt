@@ -1,27 +1,29 @@
 //! The tables by which a product of blocks is looked up.
 //!
 //! A product by one block is a sum over the groups of four bits of the other factor. A table has
-//! for each byte of the product what the 16 values of a group add to it, and lies in one vector:
+//! for each byte of the product what the 16 values of a group add to it, and lies in half a vector:
 //! there all bytes of a block look up at once, by a shuffle, so that no address depends on a
-//! secret.
+//! secret. The other half has the table of the byte eight places further, and the same block looks
+//! up in both.
 
-ghost use Rattle.std.specs.Prelude.{◌≡◌, ◌<◌, ℕ, length, slice_index};
+ghost use Rattle.std.specs.Prelude.{◌≡◌, ◌+◌, ◌*◌, ◌<◌, ℕ, length, slice_index};
 ghost use Rattle.cipher_spec.specs.Ghash.{half};
 ghost use Rattle.ghash_core.specs.Tables.{AreMarks, chosen, marked, IsPlanes};
 
-use crate::vector::bytes;
+use crate::vector::{bytes, joined};
 use std::simd::prelude::*;
 
-/// For one byte of a product, what the upper four bits of a byte add to it, and what the lower four
-/// bits add.
+/// For two bytes of a product, one in each half, what the upper four bits of a byte add to it, and
+/// what the lower four bits add.
 #[derive(Clone, Copy)]
 pub struct Plane {
-    pub upper: u8x16,
-    pub lower: u8x16,
+    pub upper: u8x32,
+    pub lower: u8x32,
 }
 
-/// The planes of the bytes of a product, its last byte first.
-pub type Planes = [Plane; 16];
+/// The planes of the bytes of a product: plane k serves byte k, counted from the last, and byte
+/// k + 8.
+pub type Planes = [Plane; 8];
 
 /// The bits 11100001 and then 120 zeros: R of the standard.
 const REDUCTION: u128 = 0xe100_0000_0000_0000_0000_0000_0000_0000;
@@ -83,6 +85,17 @@ fn choices(k: usize, y: u8x16, a: u8x16, b: u8x16, c: u8x16) -> u8x16
     eight ^ four ^ two ^ one
 }
 
+/// The same for bytes `k` and `k + 8`, one in each half.
+#[inline(always)]
+fn both_choices(k: usize, y: u8x16, a: u8x16, b: u8x16, c: u8x16) -> u8x32
+    requires { k < 8 }
+    ensures { (t n : ℕ) → t < 2 → n < 16 → slice_index result (16 * t + n)
+        ≡ chosen (slice_index y (8 * t + k)) (slice_index a (8 * t + k))
+        (slice_index b (8 * t + k)) (slice_index c (8 * t + k)) n }
+{
+    joined(choices(k, y, a, b, c), choices(k + 8, y, a, b, c))
+}
+
 /// Puts the planes of h in the place of others.
 // What it fills is 512 bytes, of which no copy is to be made: so the function stays one of its own.
 #[inline(never)]
@@ -104,10 +117,9 @@ pub fn put_planes(planes: &mut Planes, h: u128)
     let h5 = bytes(e);
     let h6 = bytes(f);
     let h7 = bytes(g);
-    'each: for k in 0..16 {
-        planes[k] = Plane {
-            upper: choices(k, h0, h1, h2, h3),
-            lower: choices(k, h4, h5, h6, h7),
-        };
+    'each: for k in 0..8 {
+        let upper = both_choices(k, h0, h1, h2, h3);
+        let lower = both_choices(k, h4, h5, h6, h7);
+        planes[k] = Plane { upper, lower };
     }
 }

@@ -1,31 +1,32 @@
 //! The product of blocks (SP 800-38D, section 6.3) by planes of one factor.
 
-ghost use Rattle.std.specs.Prelude.{◌≡◌, ◌*◌, ◌/◌, ◌%◌, ◌^◌, ◌<◌, ℕ, bit_xor, length, not, slice_index};
+ghost use Rattle.std.specs.Prelude.{◌≡◌, ◌+◌, ◌*◌, ◌/◌, ◌%◌, ◌^◌, ◌<◌, ℕ, bit_xor, length, not, slice_index};
 ghost use Rattle.cipher_spec.specs.Ghash.{times};
 ghost use Rattle.ghash_core.specs.Tables.{byte_of, byte_times, settled, IsPlane, IsPlanes, IsPowers};
 
 use crate::planes::{Plane, Planes, put_planes};
-use crate::vector::{Pairs, bytes, folded, next};
+use crate::vector::{Numbers, bytes_twice, gathered, next};
 use std::simd::prelude::*;
 
-/// The entries that the lower four bits of each byte of v name.
+/// The entries that the lower four bits of each byte of v name, in the table of its half.
 #[inline(always)]
-fn looked(table: u8x16, v: u8x16) -> u8x16
-    ensures lanes { (i : ℕ) → i < 16 → slice_index result i
-        ≡ slice_index table (slice_index v i % 16) }
-    ensures long { length result ≡ 16 }
+fn looked(table: u8x32, v: u8x32) -> u8x32
+    ensures lanes { (t i : ℕ) → t < 2 → i < 16 → slice_index result (16 * t + i)
+        ≡ slice_index table (16 * t + slice_index v (16 * t + i) % 16) }
+    ensures long { length result ≡ 32 }
 {
-    table.swizzle_dyn(v & u8x16::splat(15))
+    table.swizzle_dyn_within::<16>(v & u8x32::splat(15))
 }
 
-/// One byte of the product of each byte of x.
+/// Two bytes of the product of each byte of x, which each half has.
 #[inline(always)]
-fn added(plane: &Plane, x: u8x16) -> u8x16
-    ensures lanes { (h k : ℕ) → IsPlane plane.now h k → (i : ℕ) → i < 16 → slice_index result i
-        ≡ byte_of (byte_times h (slice_index x i)) k }
-    ensures long { length result ≡ 16 }
+fn added(plane: &Plane, x: u8x32) -> u8x32
+    ensures lanes { (h k : ℕ) → IsPlane plane.now h k → (t i : ℕ) → t < 2 → i < 16
+        → slice_index result (16 * t + i)
+        ≡ byte_of (byte_times h (slice_index x (16 * t + i))) (8 * t + k) }
+    ensures long { length result ≡ 32 }
 {
-    looked(plane.upper, x >> u8x16::splat(4)) ^ looked(plane.lower, x)
+    looked(plane.upper, x >> u8x32::splat(4)) ^ looked(plane.lower, x)
 }
 
 /// The product of x and the block h whose planes these are.
@@ -33,20 +34,17 @@ fn added(plane: &Plane, x: u8x16) -> u8x16
 pub fn times(x: u128, planes: &Planes) -> u128
     ensures { (h : ℕ) → h < 2 ^ 128 → IsPlanes planes.now h → result ≡ times x h }
 {
-    let v = bytes(x);
-    let none = u64x2::splat(0);
-    let mut a = Pairs {
+    let v = bytes_twice(x);
+    let none = u64x4::splat(0);
+    let mut sums = Numbers {
         high: none,
         low: none,
     };
-    let mut b = a;
     'each: for k in 0..8 {
         let p = added(&planes[k], v);
-        let q = added(&planes[k + 8], v);
-        a = next(a.high, a.low, p);
-        b = next(b.high, b.low, q);
+        sums = next(sums.high, sums.low, p);
     }
-    folded(a.high, a.low, b.high, b.low)
+    gathered(sums.high, sums.low)
 }
 
 /// The planes of a block and of its next three powers.
@@ -74,10 +72,10 @@ pub fn put_powers(powers: &mut Powers, h: u128)
 
 /// The sum of two vectors.
 #[inline(always)]
-fn sum_of_two(a: u8x16, b: u8x16) -> u8x16
-    ensures lanes { (i : ℕ) → i < 16 → slice_index result i
+fn sum_of_two(a: u8x32, b: u8x32) -> u8x32
+    ensures lanes { (i : ℕ) → i < 32 → slice_index result i
         ≡ bit_xor (slice_index a i) (slice_index b i) }
-    ensures long { length result ≡ 16 }
+    ensures long { length result ≡ 32 }
 {
     a ^ b
 }
@@ -88,21 +86,18 @@ fn times_two(x: u128, y: u128, powers: &Powers) -> u128
     ensures { (h : ℕ) → IsPowers powers.now h → result
         ≡ bit_xor (times x (times h h)) (times y h) }
 {
-    let u = bytes(x);
-    let v = bytes(y);
-    let none = u64x2::splat(0);
-    let mut a = Pairs {
+    let u = bytes_twice(x);
+    let v = bytes_twice(y);
+    let none = u64x4::splat(0);
+    let mut sums = Numbers {
         high: none,
         low: none,
     };
-    let mut b = a;
     'each: for k in 0..8 {
         let p = sum_of_two(added(&powers.two[k], u), added(&powers.one[k], v));
-        let q = sum_of_two(added(&powers.two[k + 8], u), added(&powers.one[k + 8], v));
-        a = next(a.high, a.low, p);
-        b = next(b.high, b.low, q);
+        sums = next(sums.high, sums.low, p);
     }
-    folded(a.high, a.low, b.high, b.low)
+    gathered(sums.high, sums.low)
 }
 
 /// The hash of h with one more block, which is multiplied later where no block waits for that, and
@@ -131,11 +126,11 @@ pub fn settled(hash: u128, waiting: bool, powers: &Powers) -> u128
 
 /// The sum of four vectors.
 #[inline(always)]
-fn sum_of_four(a: u8x16, b: u8x16, c: u8x16, d: u8x16) -> u8x16
-    ensures lanes { (i : ℕ) → i < 16 → slice_index result i
+fn sum_of_four(a: u8x32, b: u8x32, c: u8x32, d: u8x32) -> u8x32
+    ensures lanes { (i : ℕ) → i < 32 → slice_index result i
         ≡ bit_xor (bit_xor (bit_xor (slice_index a i) (slice_index b i)) (slice_index c i))
         (slice_index d i) }
-    ensures long { length result ≡ 16 }
+    ensures long { length result ≡ 32 }
 {
     a ^ b ^ c ^ d
 }
@@ -148,16 +143,15 @@ pub fn times_four(w: u128, x: u128, y: u128, z: u128, powers: &Powers) -> u128
         ≡ bit_xor (bit_xor (bit_xor (times w (times h (times h (times h h))))
         (times x (times h (times h h)))) (times y (times h h))) (times z h) }
 {
-    let s = bytes(w);
-    let t = bytes(x);
-    let u = bytes(y);
-    let v = bytes(z);
-    let none = u64x2::splat(0);
-    let mut a = Pairs {
+    let s = bytes_twice(w);
+    let t = bytes_twice(x);
+    let u = bytes_twice(y);
+    let v = bytes_twice(z);
+    let none = u64x4::splat(0);
+    let mut sums = Numbers {
         high: none,
         low: none,
     };
-    let mut b = a;
     'each: for k in 0..8 {
         let p = sum_of_four(
             added(&powers.four[k], s),
@@ -165,14 +159,7 @@ pub fn times_four(w: u128, x: u128, y: u128, z: u128, powers: &Powers) -> u128
             added(&powers.two[k], u),
             added(&powers.one[k], v),
         );
-        let q = sum_of_four(
-            added(&powers.four[k + 8], s),
-            added(&powers.three[k + 8], t),
-            added(&powers.two[k + 8], u),
-            added(&powers.one[k + 8], v),
-        );
-        a = next(a.high, a.low, p);
-        b = next(b.high, b.low, q);
+        sums = next(sums.high, sums.low, p);
     }
-    folded(a.high, a.low, b.high, b.low)
+    gathered(sums.high, sums.low)
 }

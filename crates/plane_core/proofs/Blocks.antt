@@ -42,7 +42,7 @@ eight_blocks a0 a1 a2 a3 a4 a5 a6 a7 b0 b1 b2 b3 b4 b5 b6 b7 e0 e1 e2 e3 e4 e5 e
 
 -- each bit of the words r stands in p with its place in the byte and its word exchanged
 pub record IsTransposed {W : Type 0} (cell : W → ℕ → ℕ → ℕ) (p r : Planes W) : Type 0 where
-  cells : (q i k : ℕ) → q < 8 → i < 8 → cell (word_at p q) k i ≡ cell (word_at r i) k q
+  pub cells : (q i k : ℕ) → q < 8 → i < 8 → cell (word_at p q) k i ≡ cell (word_at r i) k q
 
 row_bit : {W : Type 0} → (cell : W → ℕ → ℕ → ℕ) → (w : W) (k i : ℕ) → i < 8 → get_or (row cell w k) i 0 ≡ cell w k i
 unfolding row
@@ -61,7 +61,7 @@ by_rows cell p r e = record {
 pub turned_round : {W : Type 0} → (cell : W → ℕ → ℕ → ℕ) → (p r : Planes W) → IsTransposed cell p r → IsTransposed cell r p
 turned_round cell p r e = record { cells = λ q i k h l. sym (e.cells i q k l h) }
 
-byte_from_bits : {P : Type 0} → (bit : P → ℕ → ℕ → ℕ) → (x : Planes P) (j b n : ℕ) → n < 256
+pub byte_from_bits : {P : Type 0} → (bit : P → ℕ → ℕ → ℕ) → (x : Planes P) (j b n : ℕ) → n < 256
     → ((q : ℕ) → q < 8 → bit (word_at x q) j b ≡ bit_at n q) → byte_of bit x j b ≡ n
 unfolding byte_of
 byte_from_bits bit x j b n h e =

@@ -6,5 +6,7 @@ pub mod Powers
 pub mod Rows
 pub mod Sbox
 pub mod States
+pub mod WideBlocks
+pub mod WideLanes
 pub mod Wires
 pub mod Words

@@ -27,6 +27,15 @@ lane j = 4 * (j % 4) + j / 4
 abbrev pub lane_bit : List ℕ → ℕ → ℕ → ℕ
 lane_bit v j b = bit_at (slice_index v (lane j)) b
 
+-- the lane of a vector of 32 that byte j of block b, of sixteen blocks, has in a plane: the first
+-- eight blocks are in the lower half
+abbrev pub wide_lane : ℕ → ℕ → ℕ
+wide_lane j b = 16 * (b % 16 / 8) + lane j
+
+-- the bit of byte j of block b in a vector of 32
+abbrev pub wide_bit : List ℕ → ℕ → ℕ → ℕ
+wide_bit v j b = bit_at (slice_index v (wide_lane j b)) (b % 8)
+
 -- a word of 64 bits, each bit moved n places down, around the end
 abbrev pub turned : ℕ → ℕ → ℕ
 turned w n = bit_xor (w / 2 ^ n) (w * 2 ^ (64 - n) % 2 ^ 64)

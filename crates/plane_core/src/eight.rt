@@ -21,7 +21,7 @@ fn exchanged(v: u8x16) -> u8x16
 
 /// A block as a vector, whose lanes go row by row.
 #[inline(always)]
-fn vector(x: [u8; 16]) -> u8x16
+pub(crate) fn vector(x: [u8; 16]) -> u8x16
     ensures lanes { (j : ℕ) → j < 16 → slice_index result (lane j) ≡ slice_index x j }
     ensures long { length x ≡ 16 }
     ensures bytes { (j : ℕ) → slice_index x j < 256 }
@@ -31,7 +31,7 @@ fn vector(x: [u8; 16]) -> u8x16
 
 /// A vector, whose lanes go row by row, as a block.
 #[inline(always)]
-fn array(v: u8x16) -> [u8; 16]
+pub(crate) fn array(v: u8x16) -> [u8; 16]
     ensures lanes { (j : ℕ) → j < 16 → slice_index v (lane j) ≡ slice_index result j }
     ensures long { length result ≡ 16 }
     ensures bytes { (j : ℕ) → slice_index result j < 256 }

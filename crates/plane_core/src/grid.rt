@@ -78,6 +78,38 @@ impl Grid for u8x16 {
     }
 }
 
+// The same on 32 bytes.
+impl Grid for u8x32 {
+    ghost cell = { λ v k i. bit_at (slice_index v k) i };
+
+    #[inline(always)]
+    fn ones(self, other: u8x32) -> Pair<u8x32> {
+        let differing = ((self >> u8x32::splat(1)) ^ other) & u8x32::splat(0x55);
+        Pair {
+            low: self ^ (differing << u8x32::splat(1)),
+            high: other ^ differing,
+        }
+    }
+
+    #[inline(always)]
+    fn twos(self, other: u8x32) -> Pair<u8x32> {
+        let differing = ((self >> u8x32::splat(2)) ^ other) & u8x32::splat(0x33);
+        Pair {
+            low: self ^ (differing << u8x32::splat(2)),
+            high: other ^ differing,
+        }
+    }
+
+    #[inline(always)]
+    fn fours(self, other: u8x32) -> Pair<u8x32> {
+        let differing = ((self >> u8x32::splat(4)) ^ other) & u8x32::splat(0x0f);
+        Pair {
+            low: self ^ (differing << u8x32::splat(4)),
+            high: other ^ differing,
+        }
+    }
+}
+
 // The same on eight bytes.
 impl Grid for u64 {
     ghost cell = { λ w k i. bit_at w (8 * (k % 8) + i) };

@@ -9,3 +9,4 @@ pub mod plane;
 pub mod planes;
 pub mod power;
 pub mod rounds;
+pub mod sixteen;

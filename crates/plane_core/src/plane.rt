@@ -3,7 +3,7 @@
 ghost use Rattle.std.specs.Prelude.{◌≡◌, ℕ, ◌+◌, ◌*◌, ◌/◌, ◌%◌, ◌<◌, bit_and, bit_xor, slice_index};
 ghost use Rattle.std.specs.Int.{bit_at};
 ghost use Rattle.plane_core.specs.Bits.{bit_is_small};
-ghost use Rattle.plane_core.specs.Places.{below, lane, lane_bit, shifted, spot, turned, word_bit};
+ghost use Rattle.plane_core.specs.Places.{below, lane, lane_bit, shifted, spot, turned, wide_bit, wide_lane, word_bit};
 
 use std::simd::prelude::*;
 
@@ -67,6 +67,47 @@ impl Plane for u8x16 {
     }
 
     ghost is_bit = { λ v j b. bit_is_small (slice_index v (lane j)) b };
+}
+
+// Sixteen blocks: a half of the lanes has eight of them, as a vector of 16 has.
+impl Plane for u8x32 {
+    ghost bit = { wide_bit };
+
+    #[inline(always)]
+    fn xor(self, other: u8x32) -> u8x32 {
+        self ^ other
+    }
+
+    #[inline(always)]
+    fn and(self, other: u8x32) -> u8x32 {
+        self & other
+    }
+
+    #[inline(always)]
+    fn shifted(self) -> u8x32 {
+        self.swizzle([
+            0, 1, 2, 3, 5, 6, 7, 4, 10, 11, 8, 9, 15, 12, 13, 14, 16, 17, 18, 19, 21, 22, 23, 20,
+            26, 27, 24, 25, 31, 28, 29, 30,
+        ])
+    }
+
+    #[inline(always)]
+    fn below(self) -> u8x32 {
+        self.swizzle([
+            4, 5, 6, 7, 8, 9, 10, 11, 12, 13, 14, 15, 0, 1, 2, 3, 20, 21, 22, 23, 24, 25, 26, 27,
+            28, 29, 30, 31, 16, 17, 18, 19,
+        ])
+    }
+
+    #[inline(always)]
+    fn two_below(self) -> u8x32 {
+        self.swizzle([
+            8, 9, 10, 11, 12, 13, 14, 15, 0, 1, 2, 3, 4, 5, 6, 7, 24, 25, 26, 27, 28, 29, 30, 31,
+            16, 17, 18, 19, 20, 21, 22, 23,
+        ])
+    }
+
+    ghost is_bit = { λ v j b. bit_is_small (slice_index v (wide_lane j b)) (b % 8) };
 }
 
 /// A word, each bit moved n places down, around the end.

@@ -4,4 +4,4 @@ use Rattle.plane_core.proofs.Lanes.{lane_moved}
 use Rattle.aes_core.proofs.cipher.one_below.Goals as goal
 
 pub returns : goal.returns
-returns c j h = lane_moved (λ j. shifted (below 1 j)) c.args.v c.fits-v.0 j h (omega arith)
+returns c j h = lane_moved 16 (λ j. shifted (below 1 j)) c.args.v c.fits-v.0 j h (omega arith)

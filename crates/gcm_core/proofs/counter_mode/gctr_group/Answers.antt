@@ -5,4 +5,4 @@ use Rattle.gcm_core.proofs.counter_mode.gctr_group.Goals as goal
 
 pub returns-clause-enciphered : goal.returns-clause-enciphered
 returns-clause-enciphered c =
-    c.add_masks.ensures ∙ gctr-group c.args.key.now (c.args.iv.now ++ to_be_bytes w32 c.args.first) c.args.text.now c.counters8-masks.result c.counters8-masks.ensures.blocks c.requires.short
+    c.add_masks.ensures ∙ gctr-group 8 c.args.key.now (c.args.iv.now ++ to_be_bytes w32 c.args.first) c.args.text.now c.counters8-masks.result c.counters8-masks.ensures.blocks c.requires.short

@@ -5,6 +5,6 @@ use Rattle.ghash_core.proofs.planes.put_planes.Given as goal
 
 abbrev pub invariant-each : goal.invariant-each
 invariant-each l = record {
-  long : length l.planes ≡ 16;
+  long : length l.planes ≡ 8;
   made : (k : ℕ) → k < l.k → (plane : Plane) → IsPlane (slice_index_or l.planes k plane) l.h k;
 }

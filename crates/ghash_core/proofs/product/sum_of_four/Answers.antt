@@ -11,12 +11,12 @@ returns c =
     let e = c.args.d in
     let ab = zip2 bit_xor a b in
     let abd = zip2 bit_xor ab d in
-    let long_ab = long_of_two bit_xor a b 16 c.fits-a.0 c.fits-b.0 in
-    let long_abd = long_of_two bit_xor ab d 16 long_ab c.fits-c.0 in
+    let long_ab = long_of_two bit_xor a b 32 c.fits-a.0 c.fits-b.0 in
+    let long_abd = long_of_two bit_xor ab d 32 long_ab c.fits-c.0 in
     record {
       lanes = λ i h.
-          lane_of_two bit_xor abd e 16 i long_abd c.fits-d.0 h
-          ∙ ap (λ n. bit_xor n (get_or e i 0)) (lane_of_two bit_xor ab d 16 i long_ab c.fits-c.0 h
-          ∙ ap (λ n. bit_xor n (get_or d i 0)) (lane_of_two bit_xor a b 16 i c.fits-a.0 c.fits-b.0 h));
-      long = long_of_two bit_xor abd e 16 long_abd c.fits-d.0;
+          lane_of_two bit_xor abd e 32 i long_abd c.fits-d.0 h
+          ∙ ap (λ n. bit_xor n (get_or e i 0)) (lane_of_two bit_xor ab d 32 i long_ab c.fits-c.0 h
+          ∙ ap (λ n. bit_xor n (get_or d i 0)) (lane_of_two bit_xor a b 32 i c.fits-a.0 c.fits-b.0 h));
+      long = long_of_two bit_xor abd e 32 long_abd c.fits-d.0;
     }

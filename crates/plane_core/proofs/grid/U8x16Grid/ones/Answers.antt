@@ -11,7 +11,7 @@ returns-clause-low c k =
     let a = c.args.self in
     let b = c.args.other in
     same_row _ (λ i. cond (is_even 1 i) (lane_cell a k i) (lane_cell b k (i - 1)))
-    (λ i h. lane_evens 1 0x55 tt tt a b c.fits-self.0 c.fits-other.0 c.fits-self.1 c.fits-other.1 k i h)
+    (λ i h. lane_evens 16 1 0x55 tt tt a b c.fits-self.0 c.fits-other.0 c.fits-self.1 c.fits-other.1 k i h)
 
 pub returns-clause-high : goal.returns-clause-high
 unfolding row
@@ -19,4 +19,4 @@ returns-clause-high c k =
     let a = c.args.self in
     let b = c.args.other in
     same_row _ (λ i. cond (is_even 1 i) (lane_cell a k (i + 1)) (lane_cell b k i))
-    (λ i h. lane_odds 1 0x55 tt tt a b c.fits-self.0 c.fits-other.0 c.fits-self.1 c.fits-other.1 k i h)
+    (λ i h. lane_odds 16 1 0x55 tt tt a b c.fits-self.0 c.fits-other.0 c.fits-self.1 c.fits-other.1 k i h)

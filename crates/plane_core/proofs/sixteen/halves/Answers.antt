@@ -1,0 +1,37 @@
+use Rattle.std.proofs.Common.{◌≡◌, ◌+◌, ℕ, List}
+use Rattle.plane_core.specs.declared.planes.Planes.{Planes}
+use Rattle.plane_core.specs.Grid.{word_at}
+use Rattle.plane_core.specs.Places.{lane_bit, wide_bit}
+use Rattle.plane_core.proofs.Blocks.{each_of_eight}
+use Rattle.plane_core.proofs.WideBlocks.{bit_low, bit_high, block_of_half}
+use Rattle.plane_core.proofs.sixteen.halves.Goals as goal
+
+pub returns-clause-low : goal.returns-clause-low
+returns-clause-low c b l =
+    let x : Planes (List ℕ) = c.args.x.now in
+    let p : Planes (List ℕ) = record { b0 = c.joined.result; b1 = c.joined-2.result; b2 = c.joined-3.result; b3 = c.joined-4.result; b4 = c.joined-5.result; b5 = c.joined-6.result; b6 = c.joined-7.result; b7 = c.joined-8.result } in
+    block_of_half p x b b (λ q j s h. each_of_eight (λ q. wide_bit (word_at p q) j b ≡ lane_bit (word_at x q) j b)
+    (bit_low c.joined.result x.b0 c.joined.ensures.low j b h l)
+    (bit_low c.joined-2.result x.b1 c.joined-2.ensures.low j b h l)
+    (bit_low c.joined-3.result x.b2 c.joined-3.ensures.low j b h l)
+    (bit_low c.joined-4.result x.b3 c.joined-4.ensures.low j b h l)
+    (bit_low c.joined-5.result x.b4 c.joined-5.ensures.low j b h l)
+    (bit_low c.joined-6.result x.b5 c.joined-6.ensures.low j b h l)
+    (bit_low c.joined-7.result x.b6 c.joined-7.ensures.low j b h l)
+    (bit_low c.joined-8.result x.b7 c.joined-8.ensures.low j b h l)
+    q s)
+
+pub returns-clause-high : goal.returns-clause-high
+returns-clause-high c b l =
+    let x : Planes (List ℕ) = c.args.y.now in
+    let p : Planes (List ℕ) = record { b0 = c.joined.result; b1 = c.joined-2.result; b2 = c.joined-3.result; b3 = c.joined-4.result; b4 = c.joined-5.result; b5 = c.joined-6.result; b6 = c.joined-7.result; b7 = c.joined-8.result } in
+    block_of_half p x (8 + b) b (λ q j s h. each_of_eight (λ q. wide_bit (word_at p q) j (8 + b) ≡ lane_bit (word_at x q) j b)
+    (bit_high c.joined.result x.b0 c.joined.ensures.high j b h l)
+    (bit_high c.joined-2.result x.b1 c.joined-2.ensures.high j b h l)
+    (bit_high c.joined-3.result x.b2 c.joined-3.ensures.high j b h l)
+    (bit_high c.joined-4.result x.b3 c.joined-4.ensures.high j b h l)
+    (bit_high c.joined-5.result x.b4 c.joined-5.ensures.high j b h l)
+    (bit_high c.joined-6.result x.b5 c.joined-6.ensures.high j b h l)
+    (bit_high c.joined-7.result x.b6 c.joined-7.ensures.high j b h l)
+    (bit_high c.joined-8.result x.b7 c.joined-8.ensures.high j b h l)
+    q s)
