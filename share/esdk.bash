@@ -31,7 +31,7 @@ _esdk_options() {
 # In the checkout `esdk` is the script, which has more words.
 _esdk_commands() {
     echo encrypt decrypt extract list batch audit gen migrate reseal
-    [ "$1" != ./esdk ] || echo help version build built install library package try
+    [ "$1" != ./esdk ] || echo help version build built wide install library package try
 }
 
 _esdk() {
