@@ -1,5 +1,5 @@
 -- What a run promises, by its course and by what it keeps.
-use Rattle.std.proofs.Common.{◌≡◌, ℕ, Bool, true, false, None, Ok, Err, inl, inr, sym, ap, subst, arith}
+use Rattle.std.proofs.Common.{◌≡◌, ℕ, List, [], Bool, true, false, None, Ok, Err, inl, inr, sym, ap, subst, arith}
 use Rattle.esdk_args.specs.declared.request.Request.{Request}
 use Rattle.esdk_args.specs.declared.request.Request.TheVariants as requests
 use Rattle.esdk_args.specs.declared.request.WordsFault.{WordsFault}
@@ -15,6 +15,8 @@ use Rattle.esdk_run.specs.Run.{RunsAs}
 use Rattle.esdk_run.specs.Trees.{IsUntouched, Trees}
 use Rattle.esdk_list.specs.List.{HasNoMemory}
 use Rattle.whole_input.specs.File.{LacksMemory}
+use Rattle.whole_input.specs.FileReads.{ReadsRow}
+use Rattle.whole_input.specs.FileReadsLaws.{row_none}
 use Rattle.esdk_run.specs.UnarmouredList.{ListEndsAs}
 use Rattle.esdk_run.proofs.Asked.{audit_asked, audited_asked, batch_asked, decrypt_asked, done_asked, encrypt_asked, extract_asked, judgement_asked, judgements_asked, jobs_asked, limits_asked, line_asked, migration_asked, openers_asked, others_asked, reads_asked, reseal_asked, round_trip_asked, whole_asked}
 use Rattle.esdk_run.proofs.EarlyEnds.{leaves_a_front}
@@ -100,8 +102,12 @@ unlisted true uncommitted before after output put unwritten is same =
     (unread_text before _ (λ seen. (lists_nothing uncommitted seen, same)))
 
 -- Memory ran out for a file that wasn't read.
-lacks_unread : (old new : ShelfState) → new ≡ old → LacksMemory old new
-lacks_unread old new same = record {
+lacks_unread : (old new : ShelfState) (name : List ℕ) → new ≡ old → LacksMemory old new name
+lacks_unread old new name same = record {
+  bytes = [];
+  read = subst (λ (s : ShelfState). ReadsRow name 0 old.calls s.calls []) (sym same) (row_none name 0 old.calls);
+  few = omega arith;
+  there = inl same;
   most = omega (arith, ap (λ (s : ShelfState). s.given) same);
   faults = ap (λ (s : ShelfState). s.faults) same;
 }
@@ -117,12 +123,12 @@ memory_runs trees (Ok (requests.Encrypt asked)) before after unchanged code none
 memory_runs trees (Ok (requests.Decrypt asked)) before after unchanged code none is input output entropy shelf still said =
     inr (record { failure = failures.Memory; because = inl (inl shelf, record { same = (input, output); none = none }); said = said })
 memory_runs trees (Ok (requests.Migrate asked)) before after unchanged code none is input output entropy shelf still said =
-    (none, inr (record { failure = failures.Memory; because = (inl (lacks_unread before.shelf after.shelf still), output); said = said }))
+    (none, inr (record { failure = failures.Memory; because = (inl (lacks_unread before.shelf after.shelf asked.keyring still), output); said = said }))
 memory_runs trees (Ok (requests.Batch name)) before after unchanged code none is input output entropy shelf still said =
     inr (record {
       failure = failures.Memory;
       because = (
-        inl (inl (record { cause = inl (inl (lacks_unread before.shelf after.shelf still)); stay = ap (λ (s : ShelfState). s.files) still }, record { same = entropy; none = none })),
+        inl (inl (record { cause = inl (inl (lacks_unread before.shelf after.shelf name still)); stay = ap (λ (s : ShelfState). s.files) still }, record { same = entropy; none = none })),
         output,
       );
       said = said;
@@ -132,7 +138,7 @@ memory_runs trees (Ok (requests.Gen seed size)) before after unchanged code none
 memory_runs trees (Ok (requests.Extract asked)) before after unchanged code none is input output entropy shelf still said =
     inr (record { failure = failures.Memory; because = inl (inl shelf, record { same = output; none = none }); said = said })
 memory_runs trees (Ok (requests.Audit name)) before after unchanged code none is input output entropy shelf still said =
-    inr (record { failure = failures.Memory; because = (inl (record { cause = inl (inl (lacks_unread before.shelf after.shelf still)); none = none }), output); said = said })
+    inr (record { failure = failures.Memory; because = (inl (record { cause = inl (inl (lacks_unread before.shelf after.shelf name still)); none = none }), output); said = said })
 memory_runs trees (Ok (requests.Reseal asked)) before after unchanged code none is input output entropy shelf still said =
     inr (record { failure = failures.Memory; because = inl (inl shelf, record { same = ((input, output), entropy); none = none }); said = said })
 memory_runs trees (Err fault) before after unchanged code none is input output entropy shelf still said =

@@ -84,8 +84,8 @@ pub record FindsNotAll (trees : Trees) (name : List ℕ) (old new : ShelfState)
   pub audits : Audits trees name old read file left leaves
   pub fails : FindsNotEach read new leaves left.faults file.messages failure
 
--- Memory ran out before there was anything to audit; or at a message; or for the lines, once it was
--- found of each.
+-- Memory ran out before there was anything to audit, with nothing read but the one file or both; or
+-- at a message; or once it was found of each.
 abbrev pub AuditLacksMemory : Trees → (name : List ℕ) → ShelfState → ShelfState → Type 0
 AuditLacksMemory trees name old new =
     HasNoAudit trees name old new failures.Memory

@@ -90,9 +90,9 @@ pub record RunsJobFile (trees : Trees) (name : List ℕ) (old new : ShelfState) 
   pub finished : AreFinished file.jobs read new lines
   pub failures : CountsFailures file.jobs (tally_of read entropy.faults tree.faults) (tally_of new spent.faults left.faults) lines
 
--- Both files were read, and the jobs had some of their turns, or none. Of the tree this is left, if
--- something is given back; no file changed but those that jobs write, and the shelf tells its files
--- where it did. It was called for these and for those that jobs read, and each job's file was
+-- Both files were read; which turns the jobs had isn't said. Of the tree this is left, if something
+-- is given back; no file that the shelf tells changed but those that jobs write, and it tells its
+-- files where it did. It was called for these and for those that jobs read, and each job's file was
 -- finished once at the most.
 pub record RunsSomeTurns (trees : Trees) (name : List ℕ) (old new : ShelfState) : Type 0 where
   pub file : JobFile
@@ -104,8 +104,8 @@ pub record RunsSomeTurns (trees : Trees) (name : List ℕ) (old new : ShelfState
   pub told : is_some new.files ≡ is_some read.files
   pub calls : CallsAtMost file.jobs read new
 
--- The job file of this name was read, no file of the shelf changed but those that its jobs write,
--- and the shelf tells its files where it did before.
+-- The job file of this name was read, no file that the shelf tells changed but those that its jobs
+-- write, and it tells its files where it did before.
 pub record ChangesOnlyWritten (name : List ℕ) (old new : ShelfState) : Type 0 where
   pub file : JobFile
   pub between : ShelfState
@@ -131,7 +131,7 @@ pub record LosesReport (trees : Trees) (name : List ℕ) (before after : Objects
   pub front : SinkFails before.output after.output (report_of lines)
 
 -- Why the jobs weren't run; `undrawn` says that the entropy is as before. Memory runs out before
--- there are jobs to run, with nothing drawn; or behind both files, before all turns were had.
+-- there are jobs to run, with nothing drawn; or once both files were read, as `RunsSomeTurns` says.
 abbrev pub JobsFail : Trees → List ℕ → ShelfState → ShelfState → Type 0 → Failure → Type 0
 JobsFail trees name old new undrawn (failures.File refusal) =
     HasNoJobs trees name old new (failures.File refusal) × IsUntouched trees undrawn

@@ -61,7 +61,7 @@ pub record EncryptsInput (trees : Trees) (asked : EncryptWords) (before after : 
   pub done : Encrypts (encrypt_asked asked context tree left) before.input after.input (output_gains asked.armour before.output after.output) before.entropy after.entropy
 
 -- The words give a context, the keyring file is read as a tree, and the encryption ended with this
--- error. With X4 no keyring was asked: the tree is given back as it was read.
+-- error. With X4 the tree that is given back means what it meant when it was read.
 pub record EncryptionFails (trees : Trees) (asked : EncryptWords) (before after : Objects) (untouched : Type 0) (error : EncryptError) : Type 0 where
   pub context : List KeyValue
   pub tree : KeyringMeaning

@@ -48,8 +48,8 @@ extract_reader asked given keys = reader_of (as_decryption asked) given keys
 
 -- ---- how it ends
 
--- The words give these pairs, and the keyring file is read as a tree; the message's file is read
--- behind it, from when the shelf was so.
+-- The words give these pairs, and the keyring file is read as a tree. Then this was the shelf, and
+-- it told the files that it told before.
 pub record HasTreeFor (trees : Trees) (asked : ExtractWords) (before after : Objects) : Type 0 where
   pub given : List KeyValue
   pub tree : KeyringMeaning
@@ -58,9 +58,9 @@ pub record HasTreeFor (trees : Trees) (asked : ExtractWords) (before after : Obj
   pub has : HasTree trees asked.pairs asked.keyring before.shelf middle given tree left
   pub files : middle.files ≡ before.shelf.files
 
--- No more of the message's file was read than the header, up to a piece behind it, and the slots
--- that the range names; where the manager answered, `Extracts` and `ExtractEnds` say: and the slots
--- that are taken.
+-- The shelf gave no more bytes than the header of the message, up to a piece behind it, and the
+-- slots that the range names; where the manager answered, `Extracts` and `ExtractEnds` say: and the
+-- slots that are taken. Which bytes it gave isn't said here.
 abbrev pub ReadsOfFile : ExtractWords → ShelfState → ShelfState → Type 0
 ReadsOfFile asked middle after = OnFile middle after asked.from
     (λ bytes. after.given ≤ middle.given + most_read no_limits (range_asked asked) bytes)

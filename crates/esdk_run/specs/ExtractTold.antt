@@ -33,8 +33,8 @@ abbrev pub extracted_by : Reader → List ℕ → ByteRange → Extraction
 extracted_by reader bytes range = extracted bytes reader.settings
     (unlocking bytes reader.settings reader.given reader.required reader.keys) range
 
--- No more was read than the keyring file and, of this message, what this reader reads: the header,
--- up to a piece behind it, and the slots that are taken.
+-- The shelf gave no more bytes than a keyring file may have, one piece, and what this reader reads
+-- of this message: the header, up to a piece behind it, and the slots that are taken.
 abbrev pub ReadsTaken : Reader → List ℕ → ByteRange → ShelfState → ShelfState → Type 0
 ReadsTaken reader bytes range old new = new.given ≤ old.given + most_file + most_piece
     + most_taken bytes reader.settings
@@ -49,8 +49,8 @@ pub record ReadsFile (trees : Trees) (asked : ExtractWords) (before : Objects)
   pub reads : Reads trees (as_decryption asked) given keys
   pub held : Holds before.shelf.files asked.from bytes
 
--- The output gained what is extracted, which no fault ends, and no slot was read behind those that
--- are taken.
+-- The output gained what is extracted, which no fault ends, and no more bytes were read than
+-- `ReadsTaken` says.
 pub record GainsRange (reader : Reader) (asked : ExtractWords) (bytes : List ℕ)
     (before after : Objects) : Type 0 where
   pub sound : (extracted_by reader bytes (range_asked asked)).fault ≡ None
@@ -58,8 +58,8 @@ pub record GainsRange (reader : Reader) (asked : ExtractWords) (bytes : List ℕ
       (extracted_by reader bytes (range_asked asked)).part
   pub read : ReadsTaken reader bytes (range_asked asked) before.shelf after.shelf
 
--- The output gained what is extracted before this fault, and the report the fault's line; no slot
--- was read behind the one that has it.
+-- The output gained what is extracted before this fault, and the report the fault's line; no more
+-- bytes were read than `ReadsTaken` says.
 pub record NamesExtractFault (reader : Reader) (asked : ExtractWords) (bytes : List ℕ)
     (before after : Objects) : Type 0 where
   pub fault : Fault
@@ -69,8 +69,8 @@ pub record NamesExtractFault (reader : Reader) (asked : ExtractWords) (bytes : L
   pub line : Gains (printed_line (fault_line fault)) before.report after.report
   pub read : ReadsTaken reader bytes (range_asked asked) before.shelf after.shelf
 
--- `extract` writes what is extracted of the file, and names the fault that ends it; of the file it
--- reads no slot behind those that are taken.
+-- `extract`, at status 0 and 1, writes what is extracted of the file, and names the fault that ends
+-- it; it reads no more bytes than `ReadsTaken` says.
 abbrev pub SaysWhatItExtracts : Trees → ExtractWords → Objects → Objects → ℕ → Type 0
 SaysWhatItExtracts trees asked before after code =
     (given : List KeyValue) (keys : List WrapKeyValue) (bytes : List ℕ)
@@ -129,9 +129,9 @@ ExtractsOfContent trees asked before after code =
 
 -- ---- how much is read
 
--- Of a file that the shelf tells no more is read than the header, up to a piece behind it, and the
--- slots that the range names, beside the keyring file; however the run ends. That it is no more
--- than the slots that are taken, `SaysWhatItExtracts` says.
+-- Where the shelf tells the message's file it gives no more bytes than a keyring file may have, one
+-- piece, the header, up to a piece behind it, and the slots that the range names; however the run
+-- ends. That it is no more than the slots that are taken, `SaysWhatItExtracts` says.
 abbrev pub ReadsNoMore : ExtractWords → Objects → Objects → Type 0
 ReadsNoMore asked before after = (bytes : List ℕ) → Holds before.shelf.files asked.from bytes
     → after.shelf.given ≤ before.shelf.given + most_file + most_piece

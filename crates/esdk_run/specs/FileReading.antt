@@ -27,10 +27,10 @@ pub record RefusesFile {A : Type 0} (read : List ℕ → Result A FileRefusal) (
 abbrev pub FileIsRefused : {A : Type 0} → (List ℕ → Result A FileRefusal) → ShelfState → ShelfState → List ℕ → FileRefusal → Type 0
 FileIsRefused read old new name refusal = ((refusal ≡ FileTooLong) × IsLong old new name) ⊎ RefusesFile read old new name refusal
 
--- Memory ran out: while the file was read, and no read failed; or once it was read.
+-- Memory ran out: before the file was read or while it was, and no read failed; or once it was read.
 abbrev pub FileLacksMemory : (old new : ShelfState) → (name : List ℕ) → Type 0
 FileLacksMemory old new name =
-    LacksMemory old new ⊎ ((bytes : List ℕ) × IsFile old new name bytes)
+    LacksMemory old new name ⊎ ((bytes : List ℕ) × IsFile old new name bytes)
 
 -- why there is no value
 abbrev pub FileFails : {A : Type 0} → (List ℕ → Result A FileRefusal) → ShelfState → ShelfState → List ℕ → Failure → Type 0

@@ -81,9 +81,9 @@ pub record ShowsWhatCame (file : AuditFile) (leaves : List (List WrapKeyValue))
   pub came : HaveCome middle.calls after.shelf.calls file.messages messages
   pub shows : ShowsOpeners leaves messages before after code
 
--- The calls of the shelf read the file of the audit, then the keyring file that it names, and then
--- the files of its messages. The lines are those of what came, where the leaves tell their wrapping
--- keys and none of them failed (none of a steady tree fails).
+-- The calls of the shelf read the file of the audit, and then the keyring file that it names. Where
+-- the leaves tell their wrapping keys and none of them failed (none of a steady tree fails), they
+-- then read the files of its messages, and the lines are those of what came.
 pub record AuditedWhatCame (trees : Trees) (name : List ℕ) (before after : Objects) (code : ℕ)
     : Type 0 where
   pub bytes : List ℕ

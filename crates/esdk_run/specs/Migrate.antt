@@ -40,7 +40,7 @@ pub record WritesFront (asked : MigrateWords) (old new : ShelfState) (before aft
   pub is : IsMigrated asked old new text
   pub failed : SinkFails before after text
 
--- Why the text wasn't written. `unwritten` says that the output is as before, as it is but where it failed. Want of memory is free.
+-- Why the text wasn't written. `unwritten` says that the output is as before, as it is but where it failed. Want of memory is as `FileLacksMemory` says.
 abbrev pub MigrateFails : MigrateWords → ShelfState → ShelfState → SinkState → SinkState → Type 0 → Failure → Type 0
 MigrateFails asked old new before after unwritten (failures.Outside outsides.SinkFault) = WritesFront asked old new before after
 MigrateFails asked old new before after unwritten failure = FileFails (value_asked asked) old new asked.keyring failure × unwritten

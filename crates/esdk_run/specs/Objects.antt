@@ -2,6 +2,7 @@
 use Rattle.std.specs.Prelude.{⊤}
 use Rattle.esdk_base.specs.Streams.{EntropyState, ShelfState, SinkState, SourceState}
 
+-- What a definition says of a shelf's files, as they lie there, it says where the shelf tells them.
 pub record Objects : Type 0 where
   pub input : SourceState
   pub output : SinkState

@@ -1,6 +1,8 @@
 -- What a run of the program promises, command by command. The whole course of a run, with each
--- failure and what it leaves, is `RunsAs` of Run.antt; what stands here follows from that and says
--- it in a user's words.
+-- failure and what it leaves, is `RunsAs` of Run.antt; what stands here of one command, but for
+-- `judged` and `ages`, follows from that and says it in a user's words. The line over a field
+-- leaves out on what it depends, which the definition says that the field names: what the objects
+-- tell, that a tree is given back and tells its keys, that none of its keyrings failed, the status.
 use Rattle.std.specs.Prelude.{◌≡◌, ℕ, ◌+◌, ◌≤◌, ◌^◌, false, Result, Ok}
 use Rattle.esdk_args.specs.declared.request.Request.{Request}
 use Rattle.esdk_args.specs.declared.request.Request.TheVariants as requests
@@ -49,7 +51,7 @@ ticks before after same = record { before = before; after = after; same = same }
 -- this status: first of every command, then command by command.
 pub record Promises (trees : Trees) (words : Words) (before after : Objects)
     (unchanged : Unchanged) (time : Ticks) (code : ℕ) : Type 0 where
-  -- Only `batch` changes files of the shelf.
+  -- Only `batch` changes files that the shelf tells.
   pub files : writes_shelf words ≡ false → after.shelf.files ≡ before.shelf.files
   -- `list` and `gen` leave the shelf alone, and so do words that are refused.
   pub shelf : reads_shelf words ≡ false → unchanged.shelf
@@ -67,7 +69,8 @@ pub record Promises (trees : Trees) (words : Words) (before after : Objects)
       (λ bytes. AgreesWith code
       (input_fault asked.uncommitted (outlook_of asked.armour bytes).bytes)))
   -- `encrypt`: a tree is given back only where the keyring file was read as one; and where a shelf
-  -- tells that it holds one, and doesn't fail, that is given back, unless memory runs out.
+  -- tells that it holds one, and doesn't fail, that is given back, unless the words' pairs are
+  -- refused or memory runs out.
   pub encrypt_tree : On requests.Encrypt words
       (λ asked. ComesBack trees asked.pairs asked.keyring before.shelf after.shelf code)
   -- `encrypt`: over any objects, once it is done the output gained the message of the bytes that came
@@ -118,7 +121,7 @@ pub record Promises (trees : Trees) (words : Words) (before after : Objects)
   -- called for the files of the jobs alone; the file of each job was finished once, for those who may
   -- read it, behind all that was written into it, or the shelf failed and the job isn't done.
   pub batched : On requests.Batch words (λ name. BatchesIfRun trees name before after code)
-  -- `batch`: however it ends, no file changed but those that jobs write.
+  -- `batch`: however it ends, no file that the shelf tells changed but those that jobs write.
   pub others : On requests.Batch words (λ name. KeepsOtherFiles name before.shelf after.shelf)
   -- `batch`: jobs that the shelf tells are run and reported, unless memory runs out or an object
   -- fails.
@@ -133,7 +136,8 @@ pub record Promises (trees : Trees) (words : Words) (before after : Objects)
   pub generator : (seed size : ℕ) → words ≡ Ok (requests.Gen seed size)
       → Generates seed size before.output after.output unchanged.output code
   -- `extract`: a tree is given back only where the keyring file was read as one; and where a shelf
-  -- tells that it holds one, and doesn't fail, that is given back, unless memory runs out.
+  -- tells that it holds one, and doesn't fail, that is given back, unless the words' pairs are
+  -- refused or memory runs out.
   pub extract_tree : On requests.Extract words
       (λ asked. ComesBackBefore trees asked.pairs asked.keyring before.shelf after.shelf code)
   -- `extract`: over any objects, once it is done the output gained the range of any bytes that
@@ -145,7 +149,7 @@ pub record Promises (trees : Trees) (words : Words) (before after : Objects)
   pub extract_fault : On requests.Extract words
       (λ asked. NamesIfFault trees asked before after code)
   -- `extract`: of a file that the shelf tells the range is written, and the fault that ends it is
-  -- named; no slot behind those that are taken is read.
+  -- named; no more bytes are read than for a keyring file, the header and the slots taken.
   pub extraction : On requests.Extract words
       (λ asked. SaysWhatItExtracts trees asked before after code)
   -- `extract`: a range without a fault is done, unless memory runs out or an object fails.
@@ -154,11 +158,12 @@ pub record Promises (trees : Trees) (words : Words) (before after : Objects)
   -- `extract`: of a whole message the bytes of the range are written, of those that `decrypt` writes.
   pub range_of_content : On requests.Extract words
       (λ asked. ExtractsOfContent trees asked before after code)
-  -- `extract`: however it ends, no more of the message's file is read than its header and the slots
-  -- of the range.
+  -- `extract`: however it ends, no more bytes are read than for a keyring file, and the header and
+  -- the slots of the range of a message's file that the shelf tells.
   pub extract_reads : On requests.Extract words (λ asked. ReadsNoMore asked before after)
   -- `reseal`: the first tree is given back, only where its keyring file was read as one; and where
-  -- a shelf tells that it holds one, and doesn't fail, that is given back, unless memory runs out.
+  -- a shelf tells that it holds one, and doesn't fail, that is given back, unless the words' pairs
+  -- are refused or memory runs out.
   pub reseal_tree : On requests.Reseal words
       (λ asked. ComesBackBefore trees asked.pairs asked.keyring before.shelf after.shelf code)
   -- `reseal`: the judgement of all bytes of the input is said. Of a whole message the output gains

@@ -63,7 +63,7 @@ pub record ReadsNoFault (reader : Reader) (before after : Objects) (cause : List
   pub sound : fault_of (judged_by reader bytes).verdict ≡ None
   pub because : cause bytes
 
--- Memory ran out, and nothing was written. What came before the last piece doesn't reach behind the unlocked header of a framed message, from where on no memory is taken.
+-- Memory ran out, and nothing was written. What came before the last piece doesn't reach behind the unlocked header of a framed message.
 pub record ReadsNothing (reader : Reader) (old new : Objects) : Type 0 where
   pub before : List ℕ
   pub last : List ℕ

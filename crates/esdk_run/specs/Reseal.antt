@@ -60,7 +60,7 @@ reseal_asked asked given tree left second = record {
 -- ---- the two files
 
 -- The words give these pairs, and the first keyring file is read as a tree, of which this is left.
--- Then this was the shelf.
+-- Then this was the shelf, and it told the files that it told before.
 pub record HasFirst (trees : Trees) (asked : ResealWords) (old : ShelfState) (given : List KeyValue)
     (tree left : KeyringMeaning) (between : ShelfState) : Type 0 where
   pub has : HasTree trees asked.pairs asked.keyring old between given tree left
@@ -75,7 +75,8 @@ pub record HasSecond (trees : Trees) (asked : ResealWords) (between new : ShelfS
   pub keys : List WrapKeyValue
   pub told : second.keys ≡ Some keys
 
--- The second file gives no tree for this reason. The first tree is given back as it was.
+-- The second file gives no tree for this reason; want of memory is as `FileLacksMemory` says. The
+-- first tree is given back as it was.
 pub record HasNoSecond (trees : Trees) (asked : ResealWords) (old new : ShelfState)
     (untouched : Type 0) (failure : Failure) : Type 0 where
   pub given : List KeyValue
@@ -110,7 +111,7 @@ Reseals trees asked before after context =
     (λ run unasked. ResealsInput run before.input after.input before.output after.output
     before.entropy after.entropy context)
 
--- The resealing ended with this error. With X4 no keyring was asked.
+-- The resealing ended with this error. With X4 both trees mean what they meant when they were read.
 abbrev pub ResealingFails : Trees → ResealWords → Objects → Objects → Unchanged → InputError
     → Type 0
 ResealingFails trees asked before after unchanged error =
@@ -118,12 +119,13 @@ ResealingFails trees asked before after unchanged error =
     (λ run unasked. ResealEnds run before.input after.input before.output after.output
     before.entropy after.entropy (same_streams unchanged) unasked error)
 
--- nothing was read but files, and nothing was written or drawn
+-- input, output and entropy are as before
 abbrev pub untouched : Unchanged → Type 0
 untouched unchanged = same_streams unchanged × unchanged.entropy
 
 -- Why an input wasn't resealed, and what that left. Memory runs out before there is a tree, with
--- nothing read but its file; or at the second file; or in the resealing.
+-- nothing read but its file; or at the second file, with nothing read but both; or in the
+-- resealing.
 abbrev pub ResealFails : Trees → ResealWords → Objects → Objects → Unchanged → Failure → Type 0
 ResealFails trees asked before after unchanged (failures.File refusal) =
     (HasNoTree trees asked.pairs asked.keyring before.shelf after.shelf (failures.File refusal)

@@ -92,7 +92,7 @@ pub record ShowsResealed (reader : Reader) (writer : List KeyValue → List KeyV
 
 -- All of the input's bytes have this fault. The output gained the new header and all frames but the
 -- last of what they release, and nothing where they aren't unlocked; and that is a whole message to
--- nobody. The report gained the fault's line.
+-- nobody who allows so many entries and frames of this length. The report gained the fault's line.
 pub record NamesResealFault (reader : Reader) (writer : List KeyValue → List KeyValue → Writer)
     (others : List WrapKeyValue) (size : ℕ) (bytes : List ℕ) (before after : Objects) : Type 0 where
   pub fault : Fault

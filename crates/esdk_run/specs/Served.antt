@@ -71,8 +71,8 @@ KeepsLimits name before after code = (code ≡ 0) ⊎ (code ≡ 7) → ShowsLimi
 
 -- ---- the files
 
--- The shelf keeps its files, or no others changed but those that the jobs of the file of this name
--- write. So it is however a batch ends.
+-- The shelf keeps the files that it tells, or no others of them changed but those that the jobs of
+-- the file of this name write. So it is however a batch ends.
 abbrev pub KeepsOtherFiles : List ℕ → ShelfState → ShelfState → Type 0
 KeepsOtherFiles name old new = (new.files ≡ old.files) ⊎ ChangesOnlyWritten name old new
 

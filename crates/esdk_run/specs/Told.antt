@@ -88,7 +88,7 @@ pub record NothingFails (before after : Objects) : Type 0 where
   pub writing : Stayed before.output.faults after.output.faults
   pub reporting : Stayed before.report.faults after.report.faults
 
--- all is done, or memory ran out
+-- the status is 0, or 5 for want of memory; what was done at 0 other clauses say
 abbrev pub IsDoneOrMemory : ℕ → Type 0
 IsDoneOrMemory code = (code ≡ 0) ⊎ (code ≡ 5)
 

@@ -6,7 +6,7 @@ use Rattle.esdk_base.specs.Shelf.{Files, Holds, is_missing}
 use Rattle.esdk_base.specs.Streams.{FailsToRead, ShelfState}
 use Rattle.whole_input.specs.declared.file.FileError.{FileError}
 use Rattle.whole_input.specs.declared.file.FileError.TheVariants.{Shelf, TooLong, Memory}
-use Rattle.esdk_seen.specs.Calls.{reads}
+use Rattle.esdk_seen.specs.Calls.{ShelfCall, reads}
 use Rattle.whole_input.specs.FileReads.{ReadsRow, ReadsWhole}
 use Rattle.whole_input.specs.FileReadsLaws.{row_ends, row_more, row_none, row_one}
 use Rattle.whole_input.specs.Pieces.{most_piece}
@@ -78,6 +78,10 @@ adding_ends first old new name before after adding piece few = record {
 -- more bytes than are taken
 pub adding_long : (first now : ShelfState) (name bytes : List ℕ) → Adding first now name bytes → length bytes ≤ most_file + most_piece → most_file < length bytes → IsLong first now name
 adding_long first now name bytes adding few many = record {
+  bytes = bytes;
+  read = adding.read;
+  over = many;
+  few = few;
   there = adding.there (omega (arith, many));
   many = λ told holds. omega (arith, many, ap length (adding.front told holds), length-append bytes (drop (length bytes) told));
   given = omega (arith, adding.given, many);
@@ -95,11 +99,31 @@ reading_fails first old new name before adding (inr absent) =
 pub adding_fails : (first old new : ShelfState) (name before after : List ℕ) (error : FileError) → Adding first old name before
     → length before ≤ most_file → Adds old new name before after (Err error) → FileCause first new name error
 adding_fails first old new name before after Shelf adding few fails = record {
+  bytes = before;
+  read = subst (λ (c : List ShelfCall). ReadsRow name 0 first.calls c before) (sym fails.2) adding.read;
+  few = few;
   cause = reading_fails first old new name before adding fails.0;
   most = omega (arith, adding.most, few, fails.1);
 }
 adding_fails first old new name before after TooLong adding few adds = absurd adds
 adding_fails first old new name before after Memory adding few adds = record {
-  most = omega (arith, adding.most, few, adds.0);
-  faults = adds.1 ∙ adding.faults;
+  bytes = before ++ adds.piece;
+  read =
+      let row = row_one name (length before) old.calls new.calls adds.piece adds.read in
+      row_more name 0 (length before) first.calls old.calls new.calls before adds.piece (omega arith) adding.read row;
+  few = omega (arith, few, adds.few, length-append before adds.piece);
+  there = inr (subst (λ f. is_missing f name ≡ false) adding.files adds.there);
+  most = omega (arith, adding.most, few, adds.most, adds.few);
+  faults = adds.faults ∙ adding.faults;
+}
+
+-- there is no buffer for a piece, and nothing was read
+pub adding_lacks : (first : ShelfState) (name : List ℕ) → FileCause first first name Memory
+adding_lacks first name = record {
+  bytes = [];
+  read = row_none name 0 first.calls;
+  few = omega arith;
+  there = inl refl;
+  most = omega arith;
+  faults = refl;
 }

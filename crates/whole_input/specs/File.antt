@@ -1,12 +1,12 @@
 -- What is taken of a file.
-use Rattle.std.specs.Prelude.{◌≡◌, ℕ, ◌+◌, ◌-◌, ◌<◌, ◌≤◌, List, ◌++◌, ◌∷◌, length, [], drop, Bool, true, false, Option, Result, Ok, Err, codes}
+use Rattle.std.specs.Prelude.{◌≡◌, ◌⊎◌, ℕ, ◌+◌, ◌-◌, ◌<◌, ◌≤◌, List, ◌++◌, ◌∷◌, length, [], drop, Bool, true, false, Option, Result, Ok, Err, codes}
 use Rattle.esdk_fields.specs.Counts.{RoseBy, counted}
 use Rattle.esdk_base.specs.Shelf.{Files, Holds, is_missing}
 use Rattle.esdk_base.specs.Streams.{FailsToRead, ShelfState}
 use Rattle.esdk_seen.specs.Calls.{reads}
 use Rattle.whole_input.specs.declared.file.FileError.{FileError}
 use Rattle.whole_input.specs.declared.file.FileError.TheVariants.{Shelf, TooLong, Memory}
-use Rattle.whole_input.specs.FileReads.{ReadsWhole}
+use Rattle.whole_input.specs.FileReads.{ReadsRow, ReadsWhole}
 use Rattle.whole_input.specs.Pieces.{most_piece}
 use Rattle.whole_input.specs.declared.file.FileError.TheVariants as errors
 
@@ -26,22 +26,36 @@ pub record IsFile (old new : ShelfState) (name bytes : List ℕ) : Type 0 where
   pub most : new.given ≤ old.given + length bytes
   pub faults : new.faults ≡ old.faults
 
--- The file gave more than 1,048,576 bytes, of which the last read gave the first that is too many,
--- and has more, where the shelf tells; no read failed.
+-- These bytes are what the calls between gave, which read the file in a row from its front: more
+-- than 1,048,576, by at most a piece. The file has more, where the shelf tells; no read failed.
 pub record IsLong (old new : ShelfState) (name : List ℕ) : Type 0 where
+  pub bytes : List ℕ
+  pub read : ReadsRow name 0 old.calls new.calls bytes
+  pub over : most_file < length bytes
+  pub few : length bytes ≤ most_file + most_piece
   pub there : is_missing old.files name ≡ false
   pub many : (told : List ℕ) → Holds old.files name told → most_file < length told
   pub given : RoseBy (most_file + 1) old.given new.given
   pub most : new.given ≤ old.given + most_file + most_piece
   pub faults : new.faults ≡ old.faults
 
--- A read failed, before the file gave more than 1,048,576 bytes.
+-- A read of the file failed, behind calls that read it in a row from its front and gave these
+-- bytes, at most 1,048,576.
 pub record IsUnread (old new : ShelfState) (name : List ℕ) : Type 0 where
+  pub bytes : List ℕ
+  pub read : ReadsRow name 0 old.calls new.calls bytes
+  pub few : length bytes ≤ most_file
   pub cause : FailsToRead old new name
   pub most : new.given ≤ old.given + most_file
 
--- Memory ran out, at the latest with the piece that makes the file too long, and no read failed.
-pub record LacksMemory (old new : ShelfState) : Type 0 where
+-- Memory ran out, behind calls that read the file in a row from its front and gave these bytes, at
+-- the latest with the piece that makes it too long. No read failed: the shelf is as before, or has
+-- the file, where it tells.
+pub record LacksMemory (old new : ShelfState) (name : List ℕ) : Type 0 where
+  pub bytes : List ℕ
+  pub read : ReadsRow name 0 old.calls new.calls bytes
+  pub few : length bytes ≤ most_file + most_piece
+  pub there : (new ≡ old) ⊎ (is_missing old.files name ≡ false)
   pub most : new.given ≤ old.given + most_file + most_piece
   pub faults : new.faults ≡ old.faults
 
@@ -49,7 +63,7 @@ pub record LacksMemory (old new : ShelfState) : Type 0 where
 abbrev pub FileCause : ShelfState → ShelfState → List ℕ → FileError → Type 0
 FileCause old new name Shelf = IsUnread old new name
 FileCause old new name TooLong = IsLong old new name
-FileCause old new name Memory = LacksMemory old new
+FileCause old new name Memory = LacksMemory old new name
 
 -- these bytes are the front of the file, where the shelf tells
 abbrev pub IsFront : Option Files → List ℕ → List ℕ → Type 0
@@ -71,14 +85,23 @@ pub record Piece (old new : ShelfState) (name before after : List ℕ) (more : B
   pub given : new.given ≡ counted old.given (length after - length before)
   pub faults : new.faults ≡ old.faults
 
+-- A piece of the file was read behind the bytes before, and memory ran out for it.
+pub record LosesPiece (old new : ShelfState) (name before : List ℕ) : Type 0 where
+  pub piece : List ℕ
+  pub few : length piece ≤ most_piece
+  pub there : is_missing old.files name ≡ false
+  pub read : new.calls ≡ old.calls ++ reads name (length before) piece ∷ []
+  pub most : new.given ≤ old.given + length piece
+  pub faults : new.faults ≡ old.faults
+
 -- what adding a piece to a file's front comes to
 abbrev pub Adds : ShelfState → ShelfState → List ℕ → List ℕ → List ℕ → Result Bool FileError
     → Type 0
 Adds old new name before after (Ok more) = Piece old new name before after more
-Adds old new name before after (Err Shelf) = FailsToRead old new name × (new.given ≡ old.given)
+Adds old new name before after (Err Shelf) =
+    FailsToRead old new name × (new.given ≡ old.given) × (new.calls ≡ old.calls)
 Adds old new name before after (Err TooLong) = ⊥
-Adds old new name before after (Err Memory) =
-    (new.given ≤ old.given + most_piece) × (new.faults ≡ old.faults)
+Adds old new name before after (Err Memory) = LosesPiece old new name before
 
 -- what is shown of why a file isn't taken
 unfoldable pub file_error_text : FileError → List ℕ
