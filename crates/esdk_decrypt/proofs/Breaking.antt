@@ -59,8 +59,20 @@ head_none b (Some parts) e = absurd cc
 nothing_first : (settings : Settings) (given : List KeyValue) → content (judged_now (new_session settings given)) ≡ []
 nothing_first settings given = nothing_unread settings [] (answer_kept None) ((opened_goes settings given).unheard refl)
 
+-- no header is asked about where none is whole
+pub none_asked : (settings : Settings) (given : List KeyValue) (b : List ℕ) → head settings b ≡ None → asked_header (new_session settings given) b ≡ None
+none_asked settings given b none = ap (λ (o : Option Head). option_map (header_of b) o) none
+
 some_none : {A : Type 0} (a : A) → Some a ≡ None → ⊥
 some_none a e = cc
+
+-- where none is whole, none is in what came first
+pub headless_before : (settings : Settings) (b more : List ℕ) (o : Option Head) → head settings b ≡ o → head settings (b ++ more) ≡ None → head settings b ≡ None
+headless_before settings b more None e none = e
+headless_before settings b more (Some parts) e none =
+    let h : HeaderValue = header_of b parts in
+    let here : header_in settings b ≡ Some h = ap (λ (o : Option Head). option_map (header_of b) o) e in
+    absurd (some_none h (sym (header_on settings b more h (header settings (start b)) refl here) ∙ ap (λ (o : Option Head). option_map (header_of (b ++ more)) o) none))
 
 module _ {M O : Type 0} (state : M → ManagerNow) (sink : O → SinkState) (now : ℕ) (settings : Settings) (given : List KeyValue) (bytes piece : List ℕ) (first mid new : M) (begun during after : O) (opener next : Opener)
     (input taken : SourceState) (whole : FedWhole state (PutsAll sink) now (new_session settings given) bytes first mid begun during opener) (came : Came input taken (bytes ++ piece)) (faults : taken.faults ≡ input.faults)
@@ -313,6 +325,24 @@ module _ {M O : Type 0} (state : M → ManagerNow) (sink : O → SinkState) (now
   feed_bears (feeds.Machine (opens.Fault fault)) short = short_bears (opens.Fault fault) short
   feed_bears (feeds.Machine opens.KeyringFault) short = short_bears opens.KeyringFault short
   feed_bears (feeds.Machine opens.Memory) short = short_bears opens.Memory short
+
+  -- ---- no header is whole in what came
+
+  short_unasked : (error : OpenError) → FedShort state (PutsAll sink) now w piece error mid new during after next → head settings (bytes ++ piece) ≡ None → new ≡ first
+  short_unasked error short none = (joined error short).unasked (none_asked settings given (bytes ++ piece) none)
+
+  pub feed_unasked : {E : Type 0} (error : FeedError OpenError E)
+      → FeedsPiece {T = Unit {0}} state (PutsAll sink) (PutsFront sink) now w piece mid new during after next (Err error) → head settings (bytes ++ piece) ≡ None → new ≡ first
+  feed_unasked (feeds.Receiver error) until none =
+      let j = joins state now v bytes (take until.count piece) whole.given first mid new opener whole.fed ⊥ until.fed.heard until.fed.hears until.fed.bears until.fed.unasked in
+      let b : List ℕ = bytes ++ take until.count piece in
+      let all : b ++ drop until.count piece ≡ bytes ++ piece =
+      append_assoc bytes (take until.count piece) (drop until.count piece) ∙ ap (λ (l : List ℕ). bytes ++ l) (take-append-drop until.count piece) in
+      j.unasked (none_asked settings given b (headless_before settings b (drop until.count piece) (head settings b) refl (ap (λ (l : List ℕ). head settings l) all ∙ none)))
+  feed_unasked (feeds.Machine opens.Stopped) off none = absurd (let no : true ≡ false = sym off.off ∙ whole.fed.feeds.goes.going in cc)
+  feed_unasked (feeds.Machine (opens.Fault fault)) short none = short_unasked (opens.Fault fault) short none
+  feed_unasked (feeds.Machine opens.KeyringFault) short none = short_unasked opens.KeyringFault short none
+  feed_unasked (feeds.Machine opens.Memory) short none = short_unasked opens.Memory short none
 
 -- a session that is fed isn't stopped
 pub never_off : {M O E : Type 0} (state : M → ManagerNow) (takes : O → O → List ℕ → Type 0) (fails : O → O → List ℕ → E → Type 0) (now : ℕ) (w : OpeningValue) (piece : List ℕ) (mid new : M) (during after : O) (next : Opener)

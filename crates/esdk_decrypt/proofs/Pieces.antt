@@ -1,6 +1,9 @@
 -- An input whose pieces are fed one after another.
-use Rattle.std.proofs.Common.{◌≡◌, ◌∙◌, ℕ, ◌≤◌, ◌^◌, List, [], ◌++◌, length, Ok, Err, refl, sym, ap, subst, arith, length-append}
+use Rattle.std.proofs.Common.{◌≡◌, ◌∙◌, ℕ, ◌≤◌, ◌^◌, List, [], ◌++◌, length, Ok, Err, None, refl, sym, ap, subst, arith, length-append}
+use Rattle.std.proofs.lemmas.List.{append_cancel_left}
 use Rattle.esdk_base.specs.Streams.{SourceState}
+use Rattle.header_codec.specs.declared.settings.Settings.{Settings}
+use Rattle.header_codec.specs.Table.{head}
 use Rattle.whole_input.specs.declared.pieces.End.{End}
 use Rattle.whole_input.specs.declared.pieces.End.TheVariants as ends
 use Rattle.whole_input.specs.Pieces.{NextPiece, PiecesValue}
@@ -14,6 +17,14 @@ pub record CameWell (first now : SourceState) (count : ℕ) (bytes : List ℕ) :
   pub faults : now.faults ≡ first.faults
   pub size : length bytes ≡ count
   pub few : count ≤ 2 ^ 62
+
+-- the bytes that came are what they are
+pub came_same : (first now : SourceState) (bytes others : List ℕ) → Came first now bytes → Came first now others → bytes ≡ others
+came_same first now bytes others came told = append_cancel_left first.came bytes others (sym came.told ∙ told.told)
+
+-- no header is whole in them
+pub came_headless : (settings : Settings) (first now : SourceState) (bytes others : List ℕ) → Came first now bytes → Came first now others → head settings others ≡ None → head settings bytes ≡ None
+came_headless settings first now bytes others came told none = ap (λ (b : List ℕ). head settings b) (came_same first now bytes others came told) ∙ none
 
 -- none yet
 pub well_none : (first : SourceState) (count : ℕ) → count ≡ 0 → CameWell first first count []

@@ -1,6 +1,6 @@
 -- What is so while an input is decrypted: the opener was fed the bytes that came, and the output
 -- gained what they release.
-use Rattle.std.specs.Prelude.{◌≡◌, ℕ, List, Some, Option, ⊤, Result, Ok, Err}
+use Rattle.std.specs.Prelude.{◌≡◌, ℕ, List, Some, None, Option, ⊤, Result, Ok, Err}
 use Rattle.esdk_fields.specs.Counts.{Rose}
 use Rattle.esdk_fields.specs.declared.refusals.Outside.TheVariants as outsides
 use Rattle.esdk_base.specs.declared.receiver.FeedError.{FeedError}
@@ -10,6 +10,7 @@ use Rattle.esdk_base.specs.Receiver.{SinkFails, SinkTakes}
 use Rattle.esdk_base.specs.Streams.{SinkState, SourceState}
 use Rattle.context_codec.specs.Context.{KeyValue}
 use Rattle.header_codec.specs.declared.settings.Settings.{Settings}
+use Rattle.header_codec.specs.Table.{head}
 use Rattle.keyring_trait.specs.declared.served.Served.{Served}
 use Rattle.keyring_trait.specs.Manager.{ManagerNow}
 use Rattle.body_format.specs.declared.verdicts.Verdict.TheVariants as verdicts
@@ -33,6 +34,12 @@ use Rattle.esdk_decrypt.specs.Decrypt.{HasContext, fault_at_end}
 -- It served once at the most: it bears the lines that it bore, and one more where it served.
 abbrev pub BearsOnce : ManagerNow → ManagerNow → ℕ → Type 0
 BearsOnce old new now = (served : Option Served) × BearsHeard old new now served
+
+-- Where the bytes that came have no whole header, this is so: `unasked` says that the manager is as
+-- before.
+abbrev pub IsUnasked : Settings → SourceState → SourceState → Type 0 → Type 0
+IsUnasked settings input taken unasked =
+    (bytes : List ℕ) → Came input taken bytes → head settings bytes ≡ None → unasked
 
 -- ---- the opener
 

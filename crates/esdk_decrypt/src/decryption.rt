@@ -13,7 +13,7 @@ ghost use Rattle.stream_open.specs.Stands.{Stands};
 ghost use Rattle.esdk_decrypt.specs.Decrypt.{Decrypts, DecryptEnds, asked_from};
 ghost use Rattle.esdk_decrypt.specs.Told.{asked_by};
 ghost use Rattle.esdk_decrypt.specs.Underway.{BearsOnce, Concludes, ConcludesWhole, FeedsAs};
-ghost use Rattle.esdk_decrypt.specs.Underway.{IsCalled, IsFedWhole, IsFeedCalled, IsGoing, IsNew};
+ghost use Rattle.esdk_decrypt.specs.Underway.{IsCalled, IsFedWhole, IsFeedCalled, IsGoing, IsNew, IsUnasked};
 
 use crate::errors::DecryptError;
 use context_codec::Context;
@@ -29,6 +29,8 @@ use whole_input::{End, Pieces};
 /// open, each before more is read. The materials manager is asked for the data key at the moment
 /// `now`, in seconds, and is told the pairs that the caller gives beside those that the header
 /// stores.
+///
+/// The manager is asked once at the most, and of an input whose header isn't whole not at all.
 ///
 /// The message is judged in order: the first fault ends the judgement, and what was released before
 /// is written. Nothing is written before it is judged.
@@ -91,6 +93,8 @@ pub fn decrypt<M: Manager, S: Source, O: Sink>(
         (output.new ≡ output.old)) }
     ensures went { Went (M.state manager.old) (M.state manager.new) }
     ensures bears { BearsOnce (M.state manager.old) (M.state manager.new) now }
+    ensures unasked { IsUnasked settings (S.state input.old) (S.state input.new)
+        (manager.new ≡ manager.old) }
     ensures taken { (S.state input.new).given ≤ (S.state input.old).given + 2 ^ 62 }
     ensures lasts { S.lasts input.old input.new }
 {
@@ -123,6 +127,8 @@ fn feed_input<M: Manager, S: Source, O: Sink>(
     ensures going { IfOk result (λ _. IsGoing opener.new) }
     ensures went { Went (M.state manager.old) (M.state manager.new) }
     ensures bears { BearsOnce (M.state manager.old) (M.state manager.new) now }
+    ensures unasked { (new : IsNew opener.old) → IsUnasked new.settings (S.state input.old)
+        (S.state input.new) (manager.new ≡ manager.old) }
     ensures taken { (S.state input.new).given ≤ (S.state input.old).given + 2 ^ 62 }
     ensures lasts { S.lasts input.old input.new }
 {

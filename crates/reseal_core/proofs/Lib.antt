@@ -14,6 +14,7 @@ pub mod Sessions
 pub mod StepEnds
 pub mod Stepping
 pub mod Telling
+pub mod Unasked
 pub mod Unfinished
 pub mod Unlocked
 pub mod WholeInputs

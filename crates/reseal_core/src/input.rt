@@ -9,7 +9,7 @@ ghost use Rattle.keyring_trait.specs.Manager.{Went};
 ghost use Rattle.keyring_trait.specs.Saying.{said_last};
 ghost use Rattle.keyring_trait.specs.Wrapping.{WrapKeyValue};
 ghost use Rattle.esdk_encrypt.specs.Asking.{BearsAtMostOne};
-ghost use Rattle.esdk_decrypt.specs.Underway.{BearsOnce};
+ghost use Rattle.esdk_decrypt.specs.Underway.{BearsOnce, IsUnasked};
 ghost use Rattle.reseal_core.specs.declared.errors.InputError.TheVariants.{Memory};
 ghost use Rattle.reseal_core.specs.declared.errors.ResealError.TheVariants.{Stopped};
 ghost use Rattle.reseal_core.specs.Reseal.{EndsSo, ResealEnds, ResealsInput, resealing_from};
@@ -48,10 +48,11 @@ pub struct ResealOptions {
 ///
 /// First 64 bytes and 12 for each wrap of `sealing` are drawn by one fill: 32 are the new message's
 /// id, and `sealing` is asked with the others. Each manager serves materials once at the most, and
-/// `sealing` once for a message that was written, with no declared length. The old message is
-/// judged in order: the first fault ends the run. Once it is unlocked the new header is written,
-/// and then a frame once it is full and more of the text was released, before more is read; the
-/// final frame once the input's end was seen and the old message is whole.
+/// `sealing` once for a message that was written, with no declared length; of an input whose header
+/// isn't whole neither is asked. The old message is judged in order: the first fault ends the run.
+/// Once it is unlocked the new header is written, and then a frame once it is full and more of the
+/// text was released, before more is read; the final frame once the input's end was seen and the
+/// old message is whole.
 ///
 /// What an error tells of came with the last bytes that were taken, of which there are at most
 /// 65,536: those before them have no fault, where one is answered; no whole header, where a
@@ -134,6 +135,8 @@ pub fn reseal<A: Manager, B: Manager, S: Source, O: Sink, W: Entropy>(
     ensures unseals { BearsOnce (A.state opening.old) (A.state opening.new) options.now }
     ensures seals { BearsAtMostOne (B.state sealing.old) (B.state sealing.new) options.now None
         result }
+    ensures unasked { IsUnasked options.settings (S.state input.old) (S.state input.new)
+        ((opening.new ≡ opening.old) × (sealing.new ≡ sealing.old)) }
     ensures taken { (S.state input.new).given ≤ (S.state input.old).given + 2 ^ 62 }
     ensures lasts { S.lasts input.old input.new }
 {
@@ -206,6 +209,10 @@ fn feed_input<A: Manager, B: Manager, S: Source, O: Sink>(
     ensures unseals { BearsOnce (A.state opening.old) (A.state opening.new) now }
     ensures seals { BearsAfter (B.state sealing.old) (B.state sealing.new) now false
         (is_some resealer.new.message.sealer) result }
+    ensures unasked { (settings : Settings) (given : List KeyValue) (size : ℕ) (random : List ℕ)
+        → Stands resealer.old (new_session settings given size random)
+        → IsUnasked settings (S.state input.old) (S.state input.new)
+        ((opening.new ≡ opening.old) × (sealing.new ≡ sealing.old)) }
     ensures taken { (S.state input.new).given ≤ (S.state input.old).given + 2 ^ 62 }
     ensures lasts { S.lasts input.old input.new }
 {

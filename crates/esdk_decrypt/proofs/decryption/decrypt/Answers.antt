@@ -20,6 +20,9 @@ returns-in_err-copy-clause-stops g c = λ keys told is stayed.
 pub returns-in_err-copy-clause-bears : goal.returns-in_err-copy-clause-bears
 returns-in_err-copy-clause-bears g c = (None, λ lines bore. bore)
 
+pub returns-in_err-copy-clause-unasked : goal.returns-in_err-copy-clause-unasked
+returns-in_err-copy-clause-unasked g c = λ bytes came none. refl
+
 -- ---- the input isn't fed
 
 pub feed_input-requires-clause-new : goal.feed_input-requires-clause-new
@@ -36,6 +39,10 @@ pub returns-in_err-end-clause-stops : goal.returns-in_err-end-clause-stops
 returns-in_err-end-clause-stops g c = λ keys told is stayed.
     ends_read (g.M.Manager.state c.args.manager.now) (g.M.Manager.state c.feed_input.new.manager) c.args.now keys c.args.settings c.args.given.now (g.S.Source.state c.args.input.now) (g.S.Source.state c.feed_input.new.input) (g.O.Sink.state c.args.output.now) (g.O.Sink.state c.feed_input.new.output)
     (c.feed_input.new.output ≡ c.args.output.now) told is stayed c.from_residual-in_err-end.result (returns-in_err-end-clause-ends g c)
+
+pub returns-in_err-end-clause-unasked : goal.returns-in_err-end-clause-unasked
+returns-in_err-end-clause-unasked g c =
+    c.feed_input.ensures.unasked (record { settings = c.args.settings; given = c.args.given.now; stands = rw c.in_ok-copy.ensures at c.new-opener.ensures })
 
 -- ---- no more pieces came
 
@@ -63,3 +70,7 @@ pub returns-clause-stops : goal.returns-clause-stops
 returns-clause-stops g c = λ keys told is stayed.
     ends_read (g.M.Manager.state c.args.manager.now) (g.M.Manager.state c.feed_input.new.manager) c.args.now keys c.args.settings c.args.given.now (g.S.Source.state c.args.input.now) (g.S.Source.state c.feed_input.new.input) (g.O.Sink.state c.args.output.now) (g.O.Sink.state c.feed_input.new.output)
     (c.feed_input.new.output ≡ c.args.output.now) told is stayed c.conclude.result (returns-clause-ends g c)
+
+pub returns-clause-unasked : goal.returns-clause-unasked
+returns-clause-unasked g c =
+    c.feed_input.ensures.unasked (record { settings = c.args.settings; given = c.args.given.now; stands = rw c.in_ok-copy.ensures at c.new-opener.ensures })

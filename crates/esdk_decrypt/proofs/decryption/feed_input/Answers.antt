@@ -9,9 +9,9 @@ use Rattle.stream_open.proofs.PieceEnds.{whole_as_one, whole_none}
 use Rattle.whole_input.specs.Pieces.{PiecesValue}
 use Rattle.whole_input.specs.Taken.{Came}
 use Rattle.esdk_decrypt.specs.Underway.{PutsAll}
-use Rattle.esdk_decrypt.proofs.Breaking.{feed_bears, feed_ends}
+use Rattle.esdk_decrypt.proofs.Breaking.{feed_bears, feed_ends, feed_unasked, none_asked}
 use Rattle.esdk_decrypt.proofs.Concluding.{lacks_first}
-use Rattle.esdk_decrypt.proofs.Pieces.{well_ends, well_more, well_none}
+use Rattle.esdk_decrypt.proofs.Pieces.{came_headless, well_ends, well_more, well_none}
 use Rattle.esdk_decrypt.proofs.decryption.feed_input.Goals as goal
 
 -- ---- there is no buffer for a piece
@@ -23,6 +23,9 @@ returns-in_err-pieces-clause-ends g c = λ new.
 
 pub returns-in_err-pieces-clause-bears : goal.returns-in_err-pieces-clause-bears
 returns-in_err-pieces-clause-bears g c = (None, λ lines bore. bore)
+
+pub returns-in_err-pieces-clause-unasked : goal.returns-in_err-pieces-clause-unasked
+returns-in_err-pieces-clause-unasked g c = λ new bytes came none. refl
 
 -- ---- the pieces are fed
 
@@ -89,6 +92,19 @@ returns-in-Err-feed_piece-clause-bears g c =
     c.feed_piece.new.output c.reads.opener c.feed_piece.new.opener (g.S.Source.state c.args.input.now) (g.S.Source.state c.next.new.input) w
     (subst (λ (p : List ℕ). Came (g.S.Source.state c.args.input.now) (g.S.Source.state c.next.new.input) (bytes ++ p)) (sym c.piece.ensures) well.came) well.faults (rw c.piece.ensures next.0.fits) error feeds
 
+pub returns-in-Err-feed_piece-clause-unasked : goal.returns-in-Err-feed_piece-clause-unasked
+returns-in-Err-feed_piece-clause-unasked g c = λ new others told none.
+    let before = c.reads.invariant in
+    let bytes : List ℕ = before.bytes in
+    let next = rw c.in_default.is at c.next.ensures.next in
+    let well = well_more (g.S.Source.state c.args.input.now) (g.S.Source.state c.reads.input) (g.S.Source.state c.next.new.input) c.reads.pieces.taken bytes c.next.new.self before.well next in
+    let came = subst (λ (p : List ℕ). Came (g.S.Source.state c.args.input.now) (g.S.Source.state c.next.new.input) (bytes ++ p)) (sym c.piece.ensures) well.came in
+    let w = before.fed new in
+    let (error, feeds, called) = c.in-Err-feed_piece.ensures.fed w.fed.session w.fed.stands in
+    feed_unasked g.M.Manager.state g.O.Sink.state c.args.now new.settings new.given bytes c.piece.result.now c.args.manager.now c.reads.manager c.feed_piece.new.manager c.args.output.now c.reads.output
+    c.feed_piece.new.output c.reads.opener c.feed_piece.new.opener (g.S.Source.state c.args.input.now) (g.S.Source.state c.next.new.input) w came well.faults (rw c.piece.ensures next.0.fits) error feeds
+    (came_headless new.settings (g.S.Source.state c.args.input.now) (g.S.Source.state c.next.new.input) (bytes ++ c.piece.result.now) others came told none)
+
 pub returns-in-Err-feed_piece-clause-lasts : goal.returns-in-Err-feed_piece-clause-lasts
 returns-in-Err-feed_piece-clause-lasts g c = g.met.S.Source.lasts_more _ _ _ c.reads.invariant.lasts c.next.ensures.lasts
 
@@ -104,6 +120,13 @@ pub returns-in-Err-clause-bears : goal.returns-in-Err-clause-bears
 returns-in-Err-clause-bears g c =
     let w = c.reads.invariant.fed c.requires.new in
     (served_in w.fed.heard, w.fed.bears)
+
+pub returns-in-Err-clause-unasked : goal.returns-in-Err-clause-unasked
+returns-in-Err-clause-unasked g c = λ new others told none.
+    let before = c.reads.invariant in
+    let ends = well_ends (g.S.Source.state c.args.input.now) (g.S.Source.state c.reads.input) (g.S.Source.state c.next.new.input) c.reads.pieces.taken before.bytes c.next.new.self c.in-Err.end before.well (rw c.in-Err.is at c.next.ensures.next) in
+    (before.fed new).fed.unasked (none_asked new.settings new.given before.bytes
+    (came_headless new.settings (g.S.Source.state c.args.input.now) (g.S.Source.state c.next.new.input) before.bytes others ends.0 told none))
 
 pub returns-in-Err-clause-lasts : goal.returns-in-Err-clause-lasts
 returns-in-Err-clause-lasts g c = g.met.S.Source.lasts_more _ _ _ c.reads.invariant.lasts c.next.ensures.lasts

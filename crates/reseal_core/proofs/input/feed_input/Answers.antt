@@ -5,7 +5,7 @@ use Rattle.keyring_trait.proofs.Going.{went_on}
 use Rattle.whole_input.specs.Pieces.{PiecesValue}
 use Rattle.stream_open.specs.Asking.{served_in}
 use Rattle.esdk_decrypt.proofs.Concluding.{passed_on}
-use Rattle.esdk_decrypt.proofs.Pieces.{CameWell, well_none}
+use Rattle.esdk_decrypt.proofs.Pieces.{CameWell, came_headless, well_none}
 use Rattle.reseal_core.specs.declared.errors.InputError.TheVariants.{Memory}
 use Rattle.reseal_core.specs.Session.{gone_on, new_session}
 use Rattle.reseal_core.proofs.Bearing.{bears_same, made_fed, made_none, made_short}
@@ -13,6 +13,7 @@ use Rattle.reseal_core.proofs.Concluding.{memory_first}
 use Rattle.reseal_core.proofs.Feeding.{input_ends, is_unfed, left_is, left_then, reached_none}
 use Rattle.reseal_core.proofs.Reaching.{random_kept, still_going}
 use Rattle.reseal_core.proofs.StepEnds.{opened_bears, step_ends, steps_fed, unstopped}
+use Rattle.reseal_core.proofs.Unasked.{reached_unasked, step_unasked}
 use Rattle.reseal_core.proofs.input.feed_input.Goals as goal
 
 pub returns-in_err-pieces-clause-ends : goal.returns-in_err-pieces-clause-ends
@@ -165,3 +166,28 @@ returns-in-Err-step-clause-seals g c =
 
 pub returns-in-Err-step-clause-lasts : goal.returns-in-Err-step-clause-lasts
 returns-in-Err-step-clause-lasts g c = g.met.S.Source.lasts_more _ _ _ c.steps.invariant.lasts c.unfed.ensures.lasts
+
+-- ---- no header is whole in what came
+
+pub returns-in_err-pieces-clause-unasked : goal.returns-in_err-pieces-clause-unasked
+returns-in_err-pieces-clause-unasked g c = λ settings given size random stands bytes came none. (refl, refl)
+
+pub returns-in-Err-clause-unasked : goal.returns-in-Err-clause-unasked
+returns-in-Err-clause-unasked g c = λ settings given size random stands others told none.
+    let i = c.steps.invariant in
+    let ended = input_ends (g.S.Source.state c.args.input.now) (g.S.Source.state c.steps.input) (g.S.Source.state c.unfed.new.input) c.steps.pieces c.unfed.new.pieces c.steps.fed i.bytes c.in-Err.end i.well (rw c.in-Err.is at c.unfed.ensures.unfed) in
+    reached_unasked g.A.Manager.state g.B.Manager.state c.args.now settings given size random i.bytes c.args.opening.now c.steps.opening c.args.sealing.now c.steps.sealing (g.O.Sink.state c.args.output.now)
+    (g.O.Sink.state c.steps.output) c.steps.resealer (i.reached settings given size random stands)
+    (came_headless settings (g.S.Source.state c.args.input.now) (g.S.Source.state c.unfed.new.input) i.bytes others ended.0 told none)
+
+pub returns-in-Err-step-clause-unasked : goal.returns-in-Err-step-clause-unasked
+returns-in-Err-step-clause-unasked g c = λ settings given size random stands others told none.
+    let i = c.steps.invariant in
+    let r = i.reached settings given size random stands in
+    let left = left_is c.piece.result.now c.unfed.new.pieces.piece c.in-Ok.from c.piece.ensures in
+    let u = is_unfed (g.S.Source.state c.args.input.now) (g.S.Source.state c.steps.input) (g.S.Source.state c.unfed.new.input) c.steps.pieces c.unfed.new.pieces c.steps.fed c.in-Ok.from i.bytes i.few i.well (rw c.in-Ok.is at c.unfed.ensures.unfed) in
+    step_unasked g.A.Manager.state g.B.Manager.state c.args.now settings given size random i.bytes c.args.opening.now c.steps.opening c.args.sealing.now c.steps.sealing (g.O.Sink.state c.args.output.now)
+    (g.O.Sink.state c.steps.output) c.steps.resealer r (drop c.in-Ok.from c.unfed.new.pieces.piece) c.step.new.opening c.step.new.sealing (g.O.Sink.state c.step.new.output) c.step.new.self (c.step.new.output ≡ c.steps.output)
+    (omega (arith, u.some, length-drop c.in-Ok.from c.unfed.new.pieces.piece)) (rw left at c.step.ensures.unasked (gone_on (new_session settings given size random) r.fed.session r.materials) r.stands)
+    (came_headless settings (g.S.Source.state c.args.input.now) (g.S.Source.state c.unfed.new.input) (i.bytes ++ drop c.in-Ok.from c.unfed.new.pieces.piece) others u.well.came told none)
+    c.in-Err-step.error (rw left at c.in-Err-step.ensures.steps (gone_on (new_session settings given size random) r.fed.session r.materials) r.stands refl)

@@ -102,3 +102,19 @@ returns-in_default-clause-lasts g c = g.met.S.Source.lasts_none _
 
 pub returns-in_err-resealer-clause-lasts : goal.returns-in_err-resealer-clause-lasts
 returns-in_err-resealer-clause-lasts g c = g.met.S.Source.lasts_none _
+
+-- ---- no header is whole in what came
+
+pub returns-in_default-clause-unasked : goal.returns-in_default-clause-unasked
+returns-in_default-clause-unasked g c = λ bytes came none. (refl, refl)
+
+pub returns-in_err-resealer-clause-unasked : goal.returns-in_err-resealer-clause-unasked
+returns-in_err-resealer-clause-unasked g c = λ bytes came none. (refl, refl)
+
+pub returns-in_err-end-clause-unasked : goal.returns-in_err-end-clause-unasked
+returns-in_err-end-clause-unasked g c =
+    c.feed_input.ensures.unasked c.args.options.settings c.args.given.now c.args.options.frame_length c.in-Ok.draws (rw c.bytes.ensures.bytes at c.in_ok-resealer.ensures.stands)
+
+pub returns-clause-unasked : goal.returns-clause-unasked
+returns-clause-unasked g c =
+    c.feed_input.ensures.unasked c.args.options.settings c.args.given.now c.args.options.frame_length c.in-Ok.draws (rw c.bytes.ensures.bytes at c.in_ok-resealer.ensures.stands)
