@@ -1,7 +1,7 @@
 -- What the leaves of a tree answer when each is asked about a header, whether they tell their keys
 -- or not.
-use Rattle.std.specs.Prelude.{◌≡◌, ℕ, ◌++◌, Bool, List, [], map, All, length, ⊤, Option, Some, None}
-use Rattle.std.specs.Prelude.{Ok}
+use Rattle.std.specs.Prelude.{◌≡◌, ◌⊎◌, ℕ, ◌++◌, Bool, List, [], map, All, length, ⊤}
+use Rattle.std.specs.Prelude.{Option, Some, None, Ok}
 use Rattle.esdk_fields.specs.Counts.{Rose}
 use Rattle.context_codec.specs.Context.{KeyValue}
 use Rattle.context_codec.specs.Parts.{only_given, whole_of}
@@ -74,12 +74,14 @@ TriesNot old new (errors.Fault fault) = ⊥
 TriesNot old new errors.KeyringFault = Rose old.faults new.faults
 TriesNot old new errors.Memory = ⊤
 
--- Why it isn't known who opens the message: what is wrong with the pairs, and then no leaf was
--- asked, which `unasked` says; or else a leaf failed; or memory ran out.
+-- Why it isn't known who opens the message: what is wrong with the pairs, and then the tree is as
+-- it was, which `unasked` says; or else a leaf failed; or memory ran out, with the tree as it was,
+-- or with nothing wrong with the pairs.
 abbrev pub NamesNone : KeyringMeaning → KeyringMeaning → HeaderValue → (given : List KeyValue)
     → (unasked : Type 0) → AuditError → Type 0
 NamesNone old new h given unasked (errors.Fault fault) =
     (pair_offence h.stored given [] ≡ Some fault) × unasked
 NamesNone old new h given unasked errors.KeyringFault =
     (pair_offence h.stored given [] ≡ None) × Rose old.faults new.faults
-NamesNone old new h given unasked errors.Memory = ⊤
+NamesNone old new h given unasked errors.Memory =
+    unasked ⊎ (pair_offence h.stored given [] ≡ None)

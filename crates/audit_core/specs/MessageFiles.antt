@@ -123,7 +123,7 @@ pub record HasOffence (old new : ShelfState) (m : AuditMessage) (fault : faults.
   pub offence : pair_offence header.stored m.given [] ≡ Some fault
 
 -- What was found of a message: of the leaves this is what they meant before and after. Where it has
--- a fault no leaf was asked.
+-- a fault they mean what they meant.
 abbrev pub FindsOf : ShelfState → ShelfState → (before after : List KeyringMeaning) → AuditMessage
     → Audited → Type 0
 FindsOf old new before after m (OpenedBy openers) = IsOpenedBy old new before after m openers
@@ -137,10 +137,22 @@ pub record LeafFails (old new : ShelfState) (before after : ℕ) (m : AuditMessa
   pub sound : pair_offence header.stored m.given [] ≡ None
   pub rose : Rose before after
 
--- memory ran out while the header wasn't whole, or once it or its fault was found
-abbrev pub HasNoMemory : ShelfState → ShelfState → (name : List ℕ) → Type 0
-HasNoMemory old new name = HeaderLacksMemory old new name
+-- Memory ran out while the header wasn't whole, or once it or its fault was found.
+abbrev pub AtHeader : ShelfState → ShelfState → (name : List ℕ) → Type 0
+AtHeader old new name = HeaderLacksMemory old new name
     ⊎ ((found : Result HeaderValue faults.Fault) × FindsHeader old new name found)
+
+-- The file has a header, and nothing is wrong with its pairs.
+pub record HasSoundHeader (old new : ShelfState) (m : AuditMessage) : Type 0 where
+  pub header : HeaderValue
+  pub has : HasHeader old new m.from header
+  pub sound : pair_offence header.stored m.given [] ≡ None
+
+-- Memory ran out so, and the count of faults is as it was; or it ran out once the header was found,
+-- with nothing wrong with its pairs.
+abbrev pub HasNoMemory : ShelfState → ShelfState → (before after : ℕ) → AuditMessage → Type 0
+HasNoMemory old new before after m =
+    (AtHeader old new m.from × (after ≡ before)) ⊎ HasSoundHeader old new m
 
 -- why nothing was found of a message, where so many faults of the tree were counted before and
 -- after
@@ -148,7 +160,7 @@ abbrev pub FindsNotOf : ShelfState → ShelfState → (before after : ℕ) → A
     → Type 0
 FindsNotOf old new before after m (failures.Outside outsides.KeyringFault) =
     LeafFails old new before after m
-FindsNotOf old new before after m failures.Memory = HasNoMemory old new m.from
+FindsNotOf old new before after m failures.Memory = HasNoMemory old new before after m
 FindsNotOf old new before after m failure = FindsNoHeader old new m.from failure
 
 -- ---- each of them

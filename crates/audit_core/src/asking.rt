@@ -24,7 +24,7 @@ use std::alloc::{AllocError, Global};
 /// - `Fault`: the first that applies of M11, M12 and M14, which is wrong with the pairs; no leaf is
 ///   asked then.
 /// - `KeyringFault`: a leaf failed, and its count of faults rose, and so the tree's.
-/// - `Memory`: memory ran out.
+/// - `Memory`: memory ran out, and the tree is as it was, or nothing is wrong with the pairs.
 pub fn audit_one<P: Keyring>(
     alloc: Global,
     node: &mut Node<P>,

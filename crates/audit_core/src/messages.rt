@@ -29,7 +29,8 @@ use whole_input::{End, FileSource};
 /// `InputTooLong` where 2^62 bytes are the beginning of a header, `KeyringFault` where a leaf
 /// failed, whichever others open, `Memory` where memory runs out. That is before the first read of
 /// a file, at the last piece that was read of it, behind the beginning of a header, or once its
-/// header or its fault was found.
+/// header or its fault was found. The count of faults rose at that message only where it has a
+/// header, and nothing is wrong with its pairs.
 pub fn audit_messages<P: Keyring, F: Shelf>(
     alloc: Global,
     node: &mut Node<P>,

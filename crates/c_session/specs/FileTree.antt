@@ -1,7 +1,8 @@
 -- The tree of a keyring file, and what it is asked about a message. The question is this library's;
 -- what opens a message is said by the AWS Encryption SDK Specification, "Decrypt", "Get the
 -- decryption materials" and "Verify the header".
-use Rattle.std.specs.Prelude.{◌≡◌, ◌<◌, ◌^◌, ℕ, List, [], length, map, unwrap_or, ⊤, Some, None, Result, Ok, Err}
+use Rattle.std.specs.Prelude.{◌≡◌, ◌⊎◌, ◌<◌, ◌^◌, ℕ, List, [], length, map}
+use Rattle.std.specs.Prelude.{unwrap_or, Some, None, Result, Ok, Err}
 use Rattle.esdk_fields.specs.Counts.{Rose}
 use Rattle.context_codec.specs.Context.{KeyValue}
 use Rattle.header_codec.specs.Header.{HeaderValue}
@@ -37,8 +38,8 @@ pub record NamesLeaves (old new : Tree) (h : HeaderValue) (given : List KeyValue
       NamesOpeners (node_leaves raw_meaning old) (node_leaves raw_meaning new) h given numbers
   pub are : numbers ≡ openers (leaf_keys old) h given
 
--- The leaves are named. Or this is wrong with the pairs, and no leaf was asked; or nothing is, and
--- a leaf failed; or memory ran out.
+-- The leaves are named. Or this is wrong with the pairs, and the tree is as it was; or nothing is,
+-- and a leaf failed; or memory ran out, with the tree as it was, or with nothing wrong.
 abbrev pub AsksTree : Tree → Tree → HeaderValue → (given : List KeyValue)
     → Result (List ℕ) Reason → Type 0
 AsksTree old new h given (Ok numbers) = NamesLeaves old new h given numbers
@@ -46,5 +47,6 @@ AsksTree old new h given (Err (reasons.Fault fault)) =
     (pair_offence h.stored given [] ≡ Some fault) × (new ≡ old)
 AsksTree old new h given (Err reasons.Keyring) = (pair_offence h.stored given [] ≡ None)
     × Rose (tree_meaning raw_meaning old).faults (tree_meaning raw_meaning new).faults
-AsksTree old new h given (Err reasons.Memory) = ⊤
+AsksTree old new h given (Err reasons.Memory) =
+    (new ≡ old) ⊎ (pair_offence h.stored given [] ≡ None)
 AsksTree old new h given (Err reason) = ⊥

@@ -56,7 +56,7 @@ impl FileTree {
     /// - `Fault`: the first that applies of M11, M12 and M14, which is wrong with the pairs; no
     ///   leaf is asked then.
     /// - `Keyring`: a leaf failed.
-    /// - `Memory`: memory ran out.
+    /// - `Memory`: memory ran out, and the tree is as it was, or nothing is wrong with the pairs.
     pub(crate) fn openers(
         &mut self,
         alloc: Global,

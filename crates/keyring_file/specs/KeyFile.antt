@@ -1,7 +1,7 @@
 -- A keyring file. A JSON file is one whose first byte is a brace, but for blanks; any other file is
 -- a key line. The form is this library's.
 use Rattle.std.specs.Prelude.{◌≡◌, ℕ, Bool, false, ◌||◌, ◌==◌, List, [], ◌∷◌, Option, Some, None}
-use Rattle.std.specs.Prelude.{Result, Ok, Err, if◌then◌else◌}
+use Rattle.std.specs.Prelude.{⊤, Result, Ok, Err, IsOk, if◌then◌else◌}
 use Rattle.esdk_fields.specs.declared.refusals.FileRefusal.{FileRefusal}
 use Rattle.esdk_fields.specs.declared.refusals.FileRefusal.TheVariants.{NotJson, BadShape}
 use Rattle.keyring_trait.specs.Wrapping.{WrapKeyValue}
@@ -71,8 +71,13 @@ FileAnswers (Ok node) reading = reading ≡ Ok (forest (node ∷ []))
 FileAnswers (Err (File refusal)) reading = reading ≡ Err refusal
 FileAnswers (Err Memory) reading = Unit {0}
 
--- the same for a key line
+-- The same for a key line; want of memory comes only where it isn't refused.
 abbrev pub AnswersKey : Result WrapKeyValue ReadError → Result WrapKeyValue FileRefusal → Type 0
 AnswersKey (Ok key) reading = reading ≡ Ok key
 AnswersKey (Err (File refusal)) reading = reading ≡ Err refusal
-AnswersKey (Err Memory) reading = Unit {0}
+AnswersKey (Err Memory) reading = IsOk reading
+
+-- so want of memory isn't told of a file that is a key line and is refused
+abbrev pub MemoryCause : (bytes : List ℕ) → ReadError → Type 0
+MemoryCause bytes (File refusal) = ⊤
+MemoryCause bytes Memory = is_json bytes ≡ false → IsOk (key_line bytes)

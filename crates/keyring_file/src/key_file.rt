@@ -1,8 +1,9 @@
 //! Reading a keyring file.
 
-ghost use Rattle.std.specs.Prelude.{◌≡◌, ◌<◌, ◌^◌, length};
+ghost use Rattle.std.specs.Prelude.{◌≡◌, ◌<◌, ◌^◌, length, IfErr};
 ghost use Rattle.keyring_file.specs.KeyLine.{key_line};
-ghost use Rattle.keyring_file.specs.KeyFile.{is_blank, is_json, tree_of, FileAnswers, AnswersKey};
+ghost use Rattle.keyring_file.specs.KeyFile.{is_blank, is_json, tree_of};
+ghost use Rattle.keyring_file.specs.KeyFile.{AnswersKey, FileAnswers, MemoryCause};
 ghost use Rattle.keyring_file.specs.Found.{wraps_of};
 
 use crate::form::ring_of;
@@ -44,7 +45,7 @@ pub(crate) const LEVELS: u32 = 8;
 ///   its name is left; of both K7 `TooManyLeaves` where the leaves so far are over 64, where a
 ///   keyring that was handed over counts as many as it wraps.
 ///
-/// `Memory` where memory runs out.
+/// `Memory` where memory runs out; of a key line only where it isn't refused.
 #[tactic(auto, unfolding(crate::specs::KeyFile::tree_of))]
 pub fn read_tree<P: Keyring>(
     alloc: Global,
@@ -52,7 +53,8 @@ pub fn read_tree<P: Keyring>(
     plugs: Vec<Plug<P>>,
 ) -> Result<Node<P>, ReadError>
     requires { length plugs.items < 2 ^ 24 }
-    ensures { FileAnswers result (tree_of (wraps_of P.meaning) bytes.now plugs.items) }
+    ensures answers { FileAnswers result (tree_of (wraps_of P.meaning) bytes.now plugs.items) }
+    ensures memory { IfErr result (MemoryCause bytes.now) }
 {
     if !is_json(bytes) {
         return Ok(Node::Raw(line_keyring(alloc, bytes)?));

@@ -27,7 +27,7 @@ returns-in_err-push-clause-cause g c =
     (node_leaves g.P.Keyring.meaning c.args.node.now) (node_leaves g.P.Keyring.meaning c.loop-message.node)
     (tree_meaning g.P.Keyring.meaning c.loop-message.node).faults (tree_meaning g.P.Keyring.meaning c.audit_message.new.node).faults
     c.loop-message.found.items _ (counts_its_leaves g.P.Keyring.meaning c.loop-message.node) c.loop-message.invariant.each
-    (lacks_room _ _ _ _ _ _ c.in_ok-audited.ensures.found))
+    (lacks_room _ _ _ _ _ _ _ _ (counts_its_leaves g.P.Keyring.meaning c.loop-message.node) (counts_its_leaves g.P.Keyring.meaning c.audit_message.new.node) c.in_ok-audited.ensures.found))
 
 pub loop-message-preserved : goal.loop-message-preserved
 loop-message-preserved g c = record {

@@ -3,4 +3,4 @@ use Rattle.c_session.proofs.file_session.read.Goals as goal
 
 pub new-requires-in-Ok : goal.new-requires-in-Ok
 new-requires-in-Ok c =
-    has_few c.args.file.now c.new.result.items c.in-Ok.tree c.new.ensures.items c.in-Ok.ensures
+    has_few c.args.file.now c.new.result.items c.in-Ok.tree c.new.ensures.items c.in-Ok.ensures.answers

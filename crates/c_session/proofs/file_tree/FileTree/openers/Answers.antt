@@ -13,5 +13,5 @@ returns-clause-asks c =
           (names_leaves c.self.inside.node c.audit_one.new.node c.args.header.now c.args.given.now w.in-Ok.numbers.items w.in-Ok.ensures.openers)
       | in-Err-Fault w ↦ rw (← c.self.view_is, w.result-is) (rw w.in-Err-Fault.field-0-is at w.in-Err-Fault.ensures.cause)
       | in-Err-KeyringFault w ↦ rw (← c.self.view_is, w.result-is) (rw w.in-Err-KeyringFault.field-0-is at w.in-Err-KeyringFault.ensures.cause)
-      | in-Err-Memory w ↦ rw w.result-is tt
+      | in-Err-Memory w ↦ rw (← c.self.view_is, w.result-is) (rw w.in-Err-Memory.field-0-is at w.in-Err-Memory.ensures.cause)
     ]
