@@ -18,10 +18,11 @@
  *  1. A handle is all zero bytes at first (ESDK_INIT), and then it is written by these calls alone.
  *     It is not copied: once one copy was closed, the other is a use of freed memory. It is in one
  *     call at a time. Two threads may use two handles at once, which share nothing. Nothing in a
- *     handle belongs to a thread, so that it may go to another one between two calls; of that there
- *     is no proof yet.
+ *     handle belongs to a thread, so that it may go to another one between two calls: that is
+ *     proved.
  *  2. A pointer with a length is to so many bytes, and it is not NULL, also where the length is 0
- *     (ESDK_NOTHING is such a pointer). `handle`, `written`, `waits` and `whole` are not NULL.
+ *     (ESDK_NOTHING is such a pointer). `handle`, `written`, `waits`, `whole` and the numbers of
+ *     esdk_span are not NULL.
  *  3. What a call writes (the handle, the room, the numbers, *written, *waits, *whole) overlaps
  *     nothing else that the same call is given.
  *  4. malloc, realloc and free are of one allocator, which aligns to 16. No call is made from a
@@ -47,7 +48,7 @@
  * CODES. 0 is done. A code is family * 1000 + number. The families are the exit statuses of the
  * program `esdk`, and the numbers those of its lines:
  *     1001 to 1027   M1 to M27: the message has this fault, as 1020 for M20 UnitTag
- *     2001 to 2008   what the caller passed: the ESDK_ names below
+ *     2001 to 2010   what the caller passed: the ESDK_ names below
  *     3001 to 3011   K1 to K11: the keyring file is refused
  *     4004, 4005     X4 EntropyFault: no random bytes came; X5 KeyringFault: a keyring failed
  *     5000           Memory: memory ran out
@@ -90,6 +91,8 @@ enum {
     ESDK_BAD_RANDOM = 2006,    /* not esdk_draws() random bytes */
     ESDK_OTHER_ABI = 2007,     /* the library is of another ABI than this page: esdk_check alone */
     ESDK_OLD_PROCESSOR = 2008, /* the processor isn't an x86-64-v2 one: esdk_check alone */
+    ESDK_BAD_RANGE = 2009,     /* no message has such a range: esdk_span and esdk_range alone */
+    ESDK_MISSING = 2010,       /* bytes are wanted that weren't passed: esdk_range alone */
     ESDK_NO_RANDOM = 4004,     /* X4: the system gave no random bytes: esdk_seal alone */
     ESDK_MEMORY = 5000         /* memory ran out */
 };
@@ -279,6 +282,58 @@ int32_t esdk_list(const uint8_t *message, size_t message_len, bool uncommitted, 
  * them. */
 int32_t esdk_openers(esdk_handle *handle, const uint8_t *message, size_t message_len,
                      uint32_t *numbers, size_t numbers_len, size_t *whole);
+
+/* ---- A range of a message, of which the caller reads the bytes. ----
+ *
+ * A message need not be read whole for some of its text: its header and the frames that hold the
+ * range are enough, however long it is.
+ *
+ *     esdk_span(front, front_len, false, at, count, &header, &frame, &offset, &size);
+ *     read the message from `offset` on, `size` bytes or as many as there are, into `part`
+ *     esdk_range(&handle, front, front_len, offset, part, part_len, ends, false, at, room, count,
+ *                &written);                            `handle` is set up, with the pairs that are given
+ *
+ * What comes is the text that a whole opening would give there, as far as the frames of the range are
+ * right: each is opened after its tag was found right. Of the frames before them and behind them
+ * nothing is said, nor whether the message is whole; but the tag of a frame holds its number, so that
+ * none stands in another's place. */
+
+/* Which bytes of a message hold `count` bytes of its text from byte `at` on, by the header that it
+ * begins with. It takes no handle and no key, so nothing of it is authenticated. *header is how many
+ * bytes the header has, with its tag: the first frame begins there. *frame is how many bytes of text
+ * a frame has, but the last one, which may have fewer; it is 0 where the body is a single block.
+ * *offset is where the first byte stands that is wanted, and *size how many are, as far as the
+ * message has them: the frames of the range, and 8 bytes more, since a last frame has those; of a
+ * single block all that there are, and *size is UINT64_MAX. How long the text is the header doesn't
+ * tell. `uncommitted` as in esdk_list. At an error each of the four numbers is 0.
+ *
+ * The codes of esdk_list. ESDK_BAD_RANGE: `count` is 0, or the range ends too far off for 64 bits. */
+int32_t esdk_span(const uint8_t *message, size_t message_len, bool uncommitted, uint64_t at,
+                  uint64_t count, uint64_t *header, uint32_t *frame, uint64_t *offset,
+                  uint64_t *size);
+
+/* The text of a message from byte `at` on, as much as the room has room for, or as there is: *written
+ * is how many bytes. The message begins with the bytes `front`, which have all of its header, and has
+ * the bytes `part` from `offset` on, the frames that hold the range; `ends` says that it ends behind
+ * the part. `part` may be longer. A part of no bytes says that the message ends at `offset`: where
+ * `front` is the whole message, pass ESDK_NOTHING, 0, its length as the offset, and true. The session
+ * is set up, and stays so: this is a question, and begins no message; its pairs are those given, and
+ * its required keys must be among them (M13 else). The header is unlocked anew by each call, so ask
+ * for many frames at once. A range that begins at the end of the text or behind it has no bytes where
+ * it begins within the last frame's length, and is 1010 or 1018 where it begins behind that.
+ * `uncommitted`: whether a message of format 1.0 is opened, too (M23 else). At an error *written is
+ * 0, and the room is as it was.
+ *
+ * ESDK_NO_SESSION; ESDK_ENDED; ESDK_NOT_NOW where the session isn't set up any more; ESDK_BAD_RANGE:
+ * `at` or the room's length is over 2^62. ESDK_MISSING: bytes are wanted that weren't passed, as a
+ * frame of the range of which the part lacks some; where all that esdk_span names was passed, and
+ * `ends` where the message has fewer, it doesn't come (which is tested, not proved). 1010: the
+ * message ends within the header or a frame. 1001 to 1009, 1011 to 1021, 1023 to 1026: the message
+ * has this fault; 4005: a keyring failed; ESDK_MEMORY. None of these ends the session, and
+ * esdk_error has no line for them. */
+int32_t esdk_range(esdk_handle *handle, const uint8_t *front, size_t front_len, uint64_t offset,
+                   const uint8_t *part, size_t part_len, bool ends, bool uncommitted, uint64_t at,
+                   uint8_t *room, size_t room_len, size_t *written);
 
 /* ---- What no export can do: these are C, and are proved by nobody. ----
  *

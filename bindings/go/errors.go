@@ -5,8 +5,8 @@ import (
 	"fmt"
 )
 
-// Error is a refusal: the library's number, such as 1020, and the program's line, such as `M20 UnitTag 3`; that of ListHeader
-// and of Openers is without what stands behind the name.
+// Error is a refusal: the library's number, such as 1020, and the program's line, such as `M20 UnitTag 3`; that of ListHeader,
+// of Openers, of FindSpan and of Range is without what stands behind the name.
 type Error struct {
 	Code int
 	Line string
@@ -38,11 +38,21 @@ var toldByNone = map[int]string{
 	1010: "M10 Truncated",
 	1011: "M11 ReservedKey",
 	1012: "M12 ContextMismatch",
+	1013: "M13 MissingRequired",
 	1014: "M14 ContextTooLong",
+	1015: "M15 NoKeyOpens",
+	1016: "M16 Commitment",
+	1017: "M17 HeaderTag",
+	1018: "M18 WrongSequence",
+	1019: "M19 FinalTooLong",
+	1020: "M20 UnitTag",
+	1021: "M21 BlockTooLong",
 	1023: "M23 Uncommitted",
 	1024: "M24 BadType",
 	1025: "M25 BadReserved",
 	1026: "M26 BadIvLength",
+	2009: "no message has such a range",
+	2010: "bytes of the message are wanted that weren't passed",
 	4004: "X4 EntropyFault",
 	4005: "X5 KeyringFault",
 	5000: "Memory",

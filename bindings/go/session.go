@@ -211,6 +211,46 @@ func (s *session) openers(message []byte) ([]int, error) {
 	return leaves, nil
 }
 
+// What a message begins with, and what it has at an offset; whether it ends behind that.
+type parts struct {
+	front  []byte
+	offset uint64
+	part   []byte
+	ends   bool
+}
+
+// So many bytes of a message's text from one on, as far as there are any. The session stays set up.
+func (s *session) textRange(p parts, uncommitted bool, at uint64, count int) ([]byte, error) {
+	room := make([]byte, count)
+	var written C.size_t
+	err := s.with(func(handle *C.esdk_handle) C.int32_t {
+		front, frontSize := lent(p.front)
+		part, partSize := lent(p.part)
+		to, most := lent(room)
+		return C.esdk_range(handle, front, frontSize, C.uint64_t(p.offset), part, partSize, C.bool(p.ends), C.bool(uncommitted),
+			C.uint64_t(at), to, most, &written)
+	})
+	if err != nil {
+		return nil, err
+	}
+	return room[:int(written)], nil
+}
+
+// Which bytes hold so many of the text from one on, of a message that begins so.
+func span(message []byte, uncommitted bool, at, count uint64) (Span, error) {
+	if code := C.esdk_check(); code != C.ESDK_OK {
+		return Span{}, errorOf(int(code), "")
+	}
+	first, length := lent(message)
+	var header, offset, size C.uint64_t
+	var frame C.uint32_t
+	code := C.esdk_span(first, length, C.bool(uncommitted), C.uint64_t(at), C.uint64_t(count), &header, &frame, &offset, &size)
+	if code != C.ESDK_OK {
+		return Span{}, errorOf(int(code), "")
+	}
+	return Span{uint64(header), uint32(frame), uint64(offset), uint64(size)}, nil
+}
+
 // The listing of the header that a message begins with.
 func listing(message []byte, uncommitted bool) (string, error) {
 	if code := C.esdk_check(); code != C.ESDK_OK {

@@ -3,6 +3,7 @@
 
     asked.py listings PROGRAM COUNT    the headers of vectors/, fronts of some, and altered ones: what `list` says of them
     asked.py leaves PROGRAM COUNT      messages under keys of a tree, and altered ones: what `audit` says of them
+    asked.py ranges python COUNT       ranges of messages, and of altered ones: what `extract` says of them
     ESDK=PROGRAM                       asks that program, too
 
 PROGRAM is that of asking.c, or the word `python` for bindings/python. It prints what was wrong, and at the end what was tried.
@@ -23,7 +24,7 @@ from typing import Any
 sys.dont_write_bytecode = True
 
 import judge  # noqa: E402
-from compare import ESDK, FIRST, SECOND, altered, originals, run, vectors, want, words_of, wrong  # noqa: E402
+from compare import ESDK, FIRST, SECOND, altered, key_file, originals, run, vectors, want, words_of, wrong  # noqa: E402
 from judge import Given, code_of  # noqa: E402
 
 sys.path.insert(0, str(pathlib.Path(__file__).resolve().parents[2] / "bindings/python"))
@@ -221,6 +222,64 @@ def try_leaves(program: str, count: int) -> str:
     return shown("messages", seen)
 
 
+# ---- ranges
+
+# A message, a file of its keys, and a range.
+Range = tuple[bytes, str, int, int]
+
+
+def asked_ranges(folder: pathlib.Path, count: int) -> list[Range]:
+    some = random.Random(9)
+    pool = []
+    for at, (message, given) in enumerate(originals(some)):
+        (folder / str(at)).mkdir()
+        pool.append((message, key_file(folder / str(at), given.wrappings)))
+    whole = [each for each in pool for _ in range(8)]
+    other = [(altered(message, some), ring) for message, ring in some.choices(pool, k=count)]
+    return [(*each, some.randrange(60), some.randrange(70)) for each in whole + other]
+
+
+def range_of_esdk(folder: pathlib.Path, asked: Range) -> Said:
+    """What `extract` says; of a range that a fault ends it writes what stands before that, which doesn't count here."""
+    message, ring, at, count = asked
+    (folder / "message").write_bytes(message)
+    words = [str(ESDK), "extract", "--keyring", ring, "--from", str(folder / "message"), "--at", str(at), "--count", str(count)]
+    status, text, report = run(words, b"")
+    return (report.removeprefix("esdk: "), b"") if status else ("", text)
+
+
+def range_by_judge(asked: Range) -> Said | None:
+    """The part of the text of a message that is whole, where the range begins in it; of no other."""
+    message, _, at, count = asked
+    said = judge.judge(message, Given([FIRST, SECOND]))
+    return None if said.line or at >= len(said.text) else ("", said.text[at : at + count])
+
+
+def try_ranges(program: str, count: int) -> str:
+    import esdk
+
+    want("who is asked", program, "python")
+    with tempfile.TemporaryDirectory() as name:
+        folder = pathlib.Path(name)
+        asked = asked_ranges(folder, count)
+        rings = {ring: esdk.Keyring.from_file(ring) for _, ring, _, _ in asked}
+
+        def of(message: bytes, ring: str, at: int, count: int) -> Said:
+            return of_python(lambda: esdk.decrypt_range(source=message, keyring=rings[ring], at=at, count=count), b"")
+
+        is_ = [of(*each) for each in asked]
+        by_esdk = [range_of_esdk(folder, each) for each in asked] if ESDK else []
+    for at, (came, each) in enumerate(zip(is_, asked)):
+        by_judge = range_by_judge(each)
+        if by_judge is not None:
+            want(f"range {at}", came, by_judge)
+    for at, ((line, text), came) in enumerate(zip(by_esdk, is_)):
+        want(f"range {at}: the program", came, (" ".join(line.split()[:2]), text))
+    seen = collections.Counter(line.split()[0] if line else "told" for line, _ in is_)
+    want("the kinds that were met", {"told", "M10", "M15", "M16", "M17", "M18", "M20", "M23"} <= set(seen), True)
+    return shown("ranges", seen)
+
+
 def main() -> None:
     what, program, count = sys.argv[1:]
     if program != "python":
@@ -230,6 +289,8 @@ def main() -> None:
             said = try_listings(program, int(count))
         case "leaves":
             said = try_leaves(program, int(count))
+        case "ranges":
+            said = try_ranges(program, int(count))
         case _:
             sys.exit(f"asked.py: {what}")
     print(f"{said}; {len(wrong)} wrong")

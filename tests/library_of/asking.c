@@ -2,7 +2,7 @@
  *
  *     asking list                      messages on the input, and a line for each comes out
  *     asking openers KEYRING PAIR..    the same
- *     asking states                    asks in each state of a handle, and the code that esdk.h says
+ *     asking states                    asks in each state of a handle, for a range, too, and the code that esdk.h says
  *
  * Before each message stands a line: UNCOMMITTED LENGTH. Its line has the code, a tab, and the listing in hexadecimal digits or
  * the numbers of the leaves, with a comma behind each. */
@@ -122,11 +122,25 @@ static int ask_all(char **words, int count) {
 static const char line[] = "backups 2026 000102030405060708090a0b0c0d0e0f101112131415161718191a1b1c1d1e1f";
 static int tried, wrong;
 
-/* What is answered in this state: a code, and whether the one leaf is named. */
+/* Three bytes of the text, of a message that is handed over whole. What isn't written stays. */
+static void want_range(const char *state, esdk_handle *handle, struct bytes message, int32_t code) {
+    uint8_t room[3 + GUARD + 1];
+    size_t written = 12345;
+    memset(room, 0x5a, sizeof room);
+    int32_t is = esdk_range(handle, message.at, message.len, message.len, ESDK_NOTHING, 0, true, false, 1, room, 3, &written);
+    const char *wanted = code == ESDK_OK ? "ellZ" : "ZZZZ";
+    tried++;
+    if (is == code && written == (code == ESDK_OK ? 3 : 0) && !memcmp(room, wanted, 4)) return;
+    wrong++;
+    printf("WRONG: esdk_range of a handle that is %s: %d, %zu, and %d is wanted\n", state, is, written, code);
+}
+
+/* What is answered in this state: a code, and whether the one leaf is named and the range comes. */
 static void want(const char *state, esdk_handle *handle, struct bytes message, int32_t code) {
     uint32_t numbers[2 + GUARD];
     size_t whole;
     int32_t is = openers_into(handle, message, numbers, 2, &whole);
+    want_range(state, handle, message, code);
     tried++;
     if (is == code && whole == (code == ESDK_OK) && (code != ESDK_OK || numbers[0] == 1)) return;
     wrong++;

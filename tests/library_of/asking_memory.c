@@ -6,18 +6,31 @@ static esdk_handle handle = ESDK_INIT;
 static uint8_t message[1024];
 static size_t len;
 
-/* What the two calls answered. */
+/* What the calls answered. */
 struct answers {
-    uint8_t listing[2048];
-    size_t listed, count;
-    uint32_t leaves[2];
-    int32_t list, openers;
+    uint8_t listing[2048], text[8];
+    size_t listed, count, written;
+    uint64_t header, offset, size;
+    uint32_t leaves[2], frame;
+    int32_t list, openers, span, range;
 };
 
 static void ask(struct answers *answers) {
     memset(answers, 0x5a, sizeof *answers);
     answers->list = esdk_list(message, len, false, answers->listing, sizeof answers->listing, &answers->listed);
     answers->openers = esdk_openers(&handle, message, len, answers->leaves, 2, &answers->count);
+    answers->span = esdk_span(message, len, false, 1, 3, &answers->header, &answers->frame, &answers->offset, &answers->size);
+    answers->range = esdk_range(&handle, message, len, len, ESDK_NOTHING, 0, true, false, 1, answers->text, 3, &answers->written);
+}
+
+/* The span and the range are right, or memory ran out, and then nothing is written. */
+static bool is_range(const struct answers *is, const struct answers *right, const struct answers *none) {
+    bool no_span = is->span == ESDK_MEMORY && !is->header && !is->frame && !is->offset && !is->size;
+    bool no_range = is->range == ESDK_MEMORY && is->written == 0 && !memcmp(is->text, none->text, sizeof none->text);
+    bool span = is->span == ESDK_OK && is->header == right->header && is->frame == 4096 && is->offset == right->header &&
+                is->size == 4096 + 40;
+    bool range = is->range == ESDK_OK && is->written == 3 && !memcmp(is->text, "ell", 3) && is->text[3] == none->text[3];
+    return (no_span || span) && (no_range || range);
 }
 
 /* It is answered right, or that memory ran out, and then nothing is written. */
@@ -28,7 +41,7 @@ static bool is_right(const struct answers *is, const struct answers *right) {
     bool no_leaf = is->openers == ESDK_MEMORY && is->count == 0 && !memcmp(is->leaves, none.leaves, sizeof none.leaves);
     bool list = is->list == ESDK_OK && is->listed == right->listed && !memcmp(is->listing, right->listing, right->listed);
     bool leaf = is->openers == ESDK_OK && is->count == 1 && is->leaves[0] == 1;
-    return (no_list || list) && (no_leaf || leaf);
+    return (no_list || list) && (no_leaf || leaf) && is_range(is, right, &none);
 }
 
 /* Asks where memory is refused in this way; whether any was. */
@@ -38,9 +51,12 @@ static bool judged(const struct answers *right, unsigned long number, bool from_
     ask(&is);
     counts = false;
     if (!is_right(&is, right)) stop("another answer");
-    if ((requests >= number) != (is.list == ESDK_MEMORY || is.openers == ESDK_MEMORY)) stop("memory ran out, and no code says so");
+    if ((requests >= number) !=
+        (is.list == ESDK_MEMORY || is.openers == ESDK_MEMORY || is.span == ESDK_MEMORY || is.range == ESDK_MEMORY)) {
+        stop("memory ran out, and no code says so");
+    }
     ask(&is);
-    if (!is_right(&is, right) || is.list || is.openers) stop("it doesn't serve on");
+    if (!is_right(&is, right) || is.list || is.openers || is.span || is.range) stop("it doesn't serve on");
     return requests >= number;
 }
 
@@ -56,6 +72,7 @@ int main(void) {
     if (code || waits) stop("no message");
     ask(&right);
     if (right.list || right.openers || right.count != 1 || right.leaves[0] != 1 || right.listed > sizeof right.listing) stop("no answer");
+    if (right.span || right.range || right.header != len - 5 - 40) stop("no range");
     while (judged(&right, number, false)) number++;
     while (judged(&right, from, true)) from++;
     esdk_close(&handle);

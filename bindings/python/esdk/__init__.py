@@ -27,7 +27,9 @@ from typing import Any, Optional, Union
 
 from ._library import NOTHING as _NOWHERE
 from ._library import Lent
-from ._session import ANY_LENGTH, WHOLE, Session, Sessions, listing
+from ._ranges import Message, take
+from ._session import ANY_LENGTH, WHOLE, Session, Sessions, Span, listing
+from ._session import span as _span
 from ._stream import Header, Pieces, Stream
 from .errors import (
     CallError,
@@ -51,12 +53,18 @@ __all__ = [
     "NotFinished",
     "OutsideError",
     "RequestError",
+    "Span",
     "Stream",
     "decrypt",
+    "decrypt_range",
     "encrypt",
     "list_header",
+    "span",
     "stream",
 ]
+
+# No range begins behind so many bytes, or has more.
+_MOST_RANGE = 2**62
 
 
 class Keyring:
@@ -165,6 +173,43 @@ def decrypt(*, source: Any, keyring: Keyring, **words: Any) -> tuple[bytes, Head
         return _at_once(True, source, keyring, words)
     with stream(mode="d", source=source, keyring=keyring, **words) as text:
         return text.read(), text.header
+
+
+def decrypt_range(
+    *,
+    source: Any,
+    keyring: Keyring,
+    at: int,
+    count: int,
+    encryption_context: Optional[Mapping[str, str]] = None,
+    required_encryption_context_keys: Iterable[str] = (),
+    allow_uncommitted: bool = False,
+) -> bytes:
+    """`count` bytes of a message's text from byte `at` on, as far as there are any.
+
+    `source` is bytes-like, or a file object with `seek`, of which the header is read and the frames that hold the range.
+    Each of these is opened after its tag was found right; of the others nothing is said, nor whether the message is
+    whole. A range that begins at the end of the text or behind it is b"", or 1010 or 1018. It is all in memory: ask for
+    parts of a long one.
+    """
+    at, count = _number("at", at, 0, _MOST_RANGE), _number("count", count, 0, _MOST_RANGE)
+    session = keyring._sessions.take()
+    try:
+        session.context(dict(encryption_context or {}), required_encryption_context_keys)
+        return take(session, Message(source), at, count, bool(allow_uncommitted))
+    finally:
+        keyring._sessions.give_back(session)
+
+
+def span(message: Any, at: int, count: int, allow_uncommitted: bool = False) -> Span:
+    """Which bytes of a message hold `count` bytes of its text from byte `at` on, by the header that it begins with.
+
+    It wants no key, and so nothing of it is authenticated. `message` is bytes-like, and only its header is read, as by
+    `list_header`. `decrypt_range` calls it, and reads these bytes.
+    """
+    at, count = _number("at", at, 0, _MOST_RANGE), _number("count", count, 1, _MOST_RANGE)
+    with Lent(message) as lent:
+        return _span(*lent, bool(allow_uncommitted), at, count)
 
 
 def list_header(message: Any, uncommitted: bool = False) -> str:

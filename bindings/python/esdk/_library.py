@@ -45,6 +45,8 @@ _FUNCTIONS: dict[str, tuple[Any, list[Any]]] = {
     "esdk_pair_value": (c_int32, [_HANDLE, c_size_t, *_BYTES]),
     "esdk_list": (c_int32, [*_BYTES, c_bool, *_BYTES, c_void_p]),
     "esdk_openers": (c_int32, [_HANDLE, *_BYTES, c_void_p, c_size_t, c_void_p]),
+    "esdk_span": (c_int32, [*_BYTES, c_bool, c_uint64, c_uint64, c_void_p, c_void_p, c_void_p, c_void_p]),
+    "esdk_range": (c_int32, [_HANDLE, *_BYTES, c_uint64, *_BYTES, c_bool, c_bool, c_uint64, *_BYTES, c_void_p]),
 }
 
 

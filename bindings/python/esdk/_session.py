@@ -5,6 +5,7 @@ from __future__ import annotations
 import ctypes
 from collections.abc import Iterable, Mapping
 from ctypes import addressof, byref, c_size_t
+from dataclasses import dataclass
 from typing import Any, Optional
 
 from ._library import NOTHING, Handle, Lent, load
@@ -155,6 +156,16 @@ class Session:
         self._judge(_library.esdk_openers(self._at, address, count, numbers, _MOST_LEAVES, byref(whole)))
         return numbers[: whole.value]
 
+    def range(self, front: Any, offset: int, part: Any, ends: bool, uncommitted: bool, at: int, count: int) -> bytes:
+        """So many bytes of a message's text from one on, as far as there are any. It stays set up."""
+        room, written = ctypes.create_string_buffer(count + 1), c_size_t()
+        with Lent(front) as first, Lent(part) as second:
+            code = _library.esdk_range(
+                self._at, *first, offset, *second, ends, uncommitted, at, room, count, byref(written)
+            )
+        self._judge(code)
+        return room.raw[: written.value]
+
 
 class Sessions:
     """The sessions of a keyring file. Whoever takes one has it alone until it is given back, once."""
@@ -176,6 +187,31 @@ class Sessions:
             self._kept.append(session)
         else:
             session.close()
+
+
+@dataclass(frozen=True)
+class Span:
+    """Which bytes of a message hold a range of its text, by its header.
+
+    `header_length` is how many bytes the header has with its tag, and `frame_length` how many of the text a frame has, 0
+    for a single block. The bytes stand from `offset` on, `size` of them, or as many as the message has.
+    """
+
+    header_length: int
+    frame_length: int
+    offset: int
+    size: int
+
+
+def span(address: Any, length: int, uncommitted: bool, at: int, count: int) -> Span:
+    """Which bytes hold so many of the text from one on, of a message that begins so."""
+    header, frame, offset, size = ctypes.c_uint64(), ctypes.c_uint32(), ctypes.c_uint64(), ctypes.c_uint64()
+    code = _library.esdk_span(
+        address, length, uncommitted, at, count, byref(header), byref(frame), byref(offset), byref(size)
+    )
+    if code:
+        raise error_of(code, "")
+    return Span(header.value, frame.value, offset.value, size.value)
 
 
 def listing(address: Any, count: int, uncommitted: bool) -> str:

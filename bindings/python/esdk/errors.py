@@ -2,7 +2,7 @@
 
 from __future__ import annotations
 
-# The codes of which the library tells no line: those of `list_header` and `openers`, and of family 2. esdk.h says more.
+# The codes of which the library tells no line: those of a header, of `openers` and of a range, and of family 2. esdk.h says more.
 _LINES = {
     1001: "M1 BadVersion",
     1002: "M2 UnsupportedSuite",
@@ -14,7 +14,15 @@ _LINES = {
     1010: "M10 Truncated",
     1011: "M11 ReservedKey",
     1012: "M12 ContextMismatch",
+    1013: "M13 MissingRequired",
     1014: "M14 ContextTooLong",
+    1015: "M15 NoKeyOpens",
+    1016: "M16 Commitment",
+    1017: "M17 HeaderTag",
+    1018: "M18 WrongSequence",
+    1019: "M19 FinalTooLong",
+    1020: "M20 UnitTag",
+    1021: "M21 BlockTooLong",
     1023: "M23 Uncommitted",
     1024: "M24 BadType",
     1025: "M25 BadReserved",
@@ -25,6 +33,8 @@ _LINES = {
     2004: "a key or a value isn't UTF-8",
     2005: "a frame length of 0",
     2006: "another number of random bytes is wanted",
+    2009: "no message has such a range",
+    2010: "bytes of the message are wanted that weren't passed",
     4004: "X4 EntropyFault",
     4005: "X5 KeyringFault",
     5000: "Memory",
@@ -34,7 +44,7 @@ _LINES = {
 class EsdkError(Exception):
     """`code` is the library's number, such as 1020, and `line` the program's line, such as `M20 UnitTag 3`.
 
-    The line of `list_header` and of `openers` is without what stands behind the name: `M1 BadVersion`.
+    The line of `list_header`, of `openers`, of `span` and of `decrypt_range` is without what stands behind the name: `M1 BadVersion`.
     """
 
     def __init__(self, code: int, line: str) -> None:

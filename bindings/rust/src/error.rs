@@ -3,8 +3,8 @@
 use std::fmt;
 use std::io;
 
-/// A refusal: the library's number, such as 1020, and the program's line, such as `M20 UnitTag 3`; that of `list_header` and of
-/// `openers` is without what stands behind the name.
+/// A refusal: the library's number, such as 1020, and the program's line, such as `M20 UnitTag 3`; that of `list_header`,
+/// of `openers`, of `span` and of `range` is without what stands behind the name.
 #[derive(Clone, Debug, PartialEq, Eq)]
 pub struct Error {
     code: i32,
@@ -12,7 +12,7 @@ pub struct Error {
 }
 
 /// Codes of which the library tells no line.
-const TOLD_BY_NONE: [(i32, &str); 21] = [
+const TOLD_BY_NONE: [(i32, &str); 31] = [
     (1001, "M1 BadVersion"),
     (1002, "M2 UnsupportedSuite"),
     (1003, "M3 BadContext"),
@@ -23,7 +23,15 @@ const TOLD_BY_NONE: [(i32, &str); 21] = [
     (1010, "M10 Truncated"),
     (1011, "M11 ReservedKey"),
     (1012, "M12 ContextMismatch"),
+    (1013, "M13 MissingRequired"),
     (1014, "M14 ContextTooLong"),
+    (1015, "M15 NoKeyOpens"),
+    (1016, "M16 Commitment"),
+    (1017, "M17 HeaderTag"),
+    (1018, "M18 WrongSequence"),
+    (1019, "M19 FinalTooLong"),
+    (1020, "M20 UnitTag"),
+    (1021, "M21 BlockTooLong"),
     (1023, "M23 Uncommitted"),
     (1024, "M24 BadType"),
     (1025, "M25 BadReserved"),
@@ -31,6 +39,8 @@ const TOLD_BY_NONE: [(i32, &str); 21] = [
     (2005, "a frame length of 0"),
     (Error::OTHER_ABI, "the library is of another ABI"),
     (2008, "the processor isn't an x86-64-v2 one"),
+    (2009, "no message has such a range"),
+    (2010, "bytes of the message are wanted that weren't passed"),
     (4004, "X4 EntropyFault"),
     (4005, "X5 KeyringFault"),
     (5000, "Memory"),

@@ -14,6 +14,7 @@
 //! a message of another context under the same key opens as well. What stands in this crate isn't proved.
 
 mod error;
+mod ranges;
 mod raw;
 mod session;
 mod streams;
@@ -24,7 +25,7 @@ pub use streams::{Reader, Writer};
 use session::Session;
 use std::collections::BTreeMap;
 use std::fmt;
-use std::io::{self, Read, Write};
+use std::io::{self, Read, Seek, Write};
 use std::path::Path;
 
 /// Pairs of keys and values.
@@ -64,6 +65,27 @@ impl Keyring {
 /// that is 1010. With `uncommitted` headers of format 1.0 are listed, too.
 pub fn list_header(message: &[u8], uncommitted: bool) -> Result<String, Error> {
     session::listing(message, uncommitted)
+}
+
+/// Which bytes of a message hold a range of its text, by its header.
+#[derive(Clone, Copy, Debug, PartialEq, Eq)]
+pub struct Span {
+    /// How many bytes the header has, with its tag.
+    pub header_length: u64,
+    /// How many bytes of text a frame has; 0 for a single block.
+    pub frame_length: u32,
+    /// Where the first byte stands that is wanted.
+    pub offset: u64,
+    /// How many are wanted, or as many as the message has.
+    pub size: u64,
+}
+
+/// Which bytes of a message hold `count` bytes of its text from byte `at` on, by the header that it begins with.
+///
+/// It wants no key, and so nothing of it is authenticated. Only the header is read, as by `list_header`. `Opening::range` calls
+/// it, and reads these bytes.
+pub fn span(message: &[u8], at: u64, count: u64, uncommitted: bool) -> Result<Span, Error> {
+    session::span(message, uncommitted, at, count)
 }
 
 impl fmt::Debug for Keyring {
@@ -233,5 +255,14 @@ impl Opening {
         let mut reader = self.reader(ring, message)?;
         reader.read_to_end(&mut text)?;
         Ok((text, reader.context().unwrap_or_default()))
+    }
+
+    /// `count` bytes of a message's text from byte `at` on, as far as there are any. Of the source, in which the message begins
+    /// where it stands, the header is read and the frames that hold the range.
+    ///
+    /// Each of these is opened after its tag was found right; of the others nothing is said, nor whether the message is whole. A
+    /// range that begins at the end of the text or behind it is empty, or 1010 or 1018. The limits of this opening don't count.
+    pub fn range<R: Read + Seek>(&self, ring: &Keyring, message: R, at: u64, count: u64) -> io::Result<Vec<u8>> {
+        ranges::take(&mut self.request.session(ring)?, message, self.uncommitted, at, count)
     }
 }

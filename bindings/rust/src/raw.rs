@@ -78,4 +78,29 @@ extern "C" {
         numbers_len: usize,
         whole: *mut usize,
     ) -> i32;
+    pub fn esdk_span(
+        message: *const u8,
+        message_len: usize,
+        uncommitted: bool,
+        at: u64,
+        count: u64,
+        header: *mut u64,
+        frame: *mut u32,
+        offset: *mut u64,
+        size: *mut u64,
+    ) -> i32;
+    pub fn esdk_range(
+        handle: *mut Handle,
+        front: *const u8,
+        front_len: usize,
+        offset: u64,
+        part: *const u8,
+        part_len: usize,
+        ends: bool,
+        uncommitted: bool,
+        at: u64,
+        room: *mut u8,
+        room_len: usize,
+        written: *mut usize,
+    ) -> i32;
 }

@@ -6,7 +6,7 @@
 
 use crate::error::Error;
 use crate::raw::{self, Handle};
-use crate::Context;
+use crate::{Context, Span};
 
 /// The longest text of a pair.
 const MOST_OF_TEXT: usize = 65_535;
@@ -14,13 +14,21 @@ const MOST_OF_TEXT: usize = 65_535;
 /// The most leaves of a keyring file's tree.
 const MOST_LEAVES: usize = 64;
 
+/// What a message begins with, and what it has at an offset; whether it ends behind that.
+pub(crate) struct Parts<'a> {
+    pub(crate) front: &'a [u8],
+    pub(crate) offset: u64,
+    pub(crate) part: &'a [u8],
+    pub(crate) ends: bool,
+}
+
 pub(crate) struct Session {
     handle: Handle,
     waits: usize,
 }
 
 // SAFETY: nothing in a handle belongs to a thread, so that it may go to another one between two calls (esdk.h, "What a caller
-// owes", 1). Nobody has proved that of the library yet.
+// owes", 1). That is proved of the library (docs/PROOFS.md, "The library for other languages").
 unsafe impl Send for Session {}
 
 impl Drop for Session {
@@ -150,6 +158,30 @@ impl Session {
         Ok(numbers)
     }
 
+    /// So many bytes of a message's text from one on, as far as there are any. The session stays set up.
+    pub(crate) fn range(&mut self, parts: &Parts<'_>, uncommitted: bool, at: u64, count: usize) -> Result<Vec<u8>, Error> {
+        let (mut room, mut written) = (vec![0; count], 0);
+        let code = unsafe {
+            raw::esdk_range(
+                &mut self.handle,
+                parts.front.as_ptr(),
+                parts.front.len(),
+                parts.offset,
+                parts.part.as_ptr(),
+                parts.part.len(),
+                parts.ends,
+                uncommitted,
+                at,
+                room.as_mut_ptr(),
+                room.len(),
+                &mut written,
+            )
+        };
+        self.judge(code)?;
+        room.truncate(written);
+        Ok(room)
+    }
+
     fn text(&mut self, tell: Tell, at: usize) -> Option<String> {
         let mut room = vec![0; MOST_OF_TEXT];
         let count = unsafe { tell(&mut self.handle, at, room.as_mut_ptr(), room.len()) };
@@ -168,6 +200,26 @@ fn check() -> Result<(), Error> {
         }
     };
     if fits == 0 { Ok(()) } else { Err(Error::new(fits, String::new())) }
+}
+
+/// Which bytes hold so many of the text from one on, of a message that begins so.
+pub(crate) fn span(message: &[u8], uncommitted: bool, at: u64, count: u64) -> Result<Span, Error> {
+    check()?;
+    let mut span = Span { header_length: 0, frame_length: 0, offset: 0, size: 0 };
+    let code = unsafe {
+        raw::esdk_span(
+            message.as_ptr(),
+            message.len(),
+            uncommitted,
+            at,
+            count,
+            &mut span.header_length,
+            &mut span.frame_length,
+            &mut span.offset,
+            &mut span.size,
+        )
+    };
+    if code == 0 { Ok(span) } else { Err(Error::new(code, String::new())) }
 }
 
 /// The listing of the header that a message begins with.

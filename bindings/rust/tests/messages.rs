@@ -1,7 +1,7 @@
 //! The crate over a library: ESDK_LIBRARY=FOLDER cargo test. What is expected comes from vectors/ of the checkout.
 
-use esdk::{Error, Keyring, Kind, Opening, Sealing, list_header};
-use std::io::{self, Read, Write};
+use esdk::{Error, Keyring, Kind, Opening, Sealing, Span, list_header, span};
+use std::io::{self, Cursor, Read, Seek, SeekFrom, Write};
 use std::path::PathBuf;
 use std::{fs, thread};
 
@@ -213,4 +213,45 @@ fn the_leaves_that_open_a_message_are_told() {
     let message = Sealing::new().pair("tenant", "acme").require("tenant").all(&ring(), b"").unwrap();
     assert!(ring().openers(&message, &[]).unwrap().is_empty());
     assert_eq!(ring().openers(&message, &[("tenant", "acme")]).unwrap(), [1]);
+}
+
+#[test]
+fn ranges_of_messages() {
+    for (name, text) in WHOLE {
+        let (message, text) = (named(&format!("ciphertexts/{name}")), named(&format!("plaintexts/{text}")));
+        for at in [0, 1, 4095, 4096, 4097] {
+            for count in [1, 4095, 4096, 8192, usize::MAX >> 2] {
+                if at >= text.len() {
+                    continue;
+                }
+                let came = Opening::new().range(&ring(), Cursor::new(&message), at as u64, count as u64).unwrap();
+                assert_eq!(came, text[at..text.len().min(at.saturating_add(count))], "{name} {at} {count}");
+            }
+        }
+    }
+}
+
+#[test]
+fn what_a_range_is_refused_for() {
+    let text: Vec<u8> = (0..100).collect();
+    let message = Sealing::new().pair("set", "a").frame_length(10).all(&ring(), &text).unwrap();
+    let header = message.len() - 10 * 42 - 8;
+    let wanted = Span { header_length: header as u64, frame_length: 10, offset: (header + 126) as u64, size: 92 };
+    assert_eq!(span(&message, 35, 10, false).unwrap(), wanted);
+    assert_eq!(refused(span(&message[..header - 1], 0, 1, false)), (1010, "M10 Truncated".into()));
+    assert_eq!(refused(span(&message, 0, 0, false)), (2009, "no message has such a range".into()));
+    let mut altered = message.clone();
+    altered[header + 126 + 20] ^= 1;
+    let range = |opening: Opening, message: &[u8], at| {
+        let came = opening.range(&ring(), Cursor::new(message), at, 10);
+        came.map_err(|error| Error::of(&error).unwrap().line().to_string())
+    };
+    assert_eq!(range(Opening::new(), &altered, 30), Err("M20 UnitTag".into()));
+    assert_eq!(range(Opening::new(), &altered, 20), Ok(text[20..30].to_vec()));
+    assert_eq!(range(Opening::new(), &message[..header + 126 + 41], 30), Err("M10 Truncated".into()));
+    assert_eq!(range(Opening::new().pair("set", "b"), &message, 30), Err("M12 ContextMismatch".into()));
+    assert_eq!(range(Opening::new().require("set"), &message, 30), Err("M13 MissingRequired".into()));
+    let mut source = Cursor::new([b"before", &message[..]].concat());
+    source.seek(SeekFrom::Start(6)).unwrap();
+    assert_eq!(Opening::new().range(&ring(), source, 5, 30).unwrap(), text[5..35]);
 }

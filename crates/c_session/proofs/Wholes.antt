@@ -1,6 +1,6 @@
 -- The rest of a message at once: a piece, and then the end.
-use Rattle.std.proofs.Common.{◌≡◌, ◌∙◌, ℕ, List, ◌++◌, true, false, Option, Some, None, refl, ap}
-use Rattle.std.specs.Prelude.{◌⊎◌, Bool}
+use Rattle.std.proofs.Common.{◌≡◌, ◌∙◌, ℕ, List, ◌++◌, true, false, Some, refl}
+use Rattle.std.specs.Prelude.{Bool}
 use mathlib.Core.Logic.{inl, inr}
 use Rattle.context_codec.specs.Context.{KeyValue}
 use Rattle.header_codec.specs.declared.settings.Settings.{Settings}
@@ -14,8 +14,7 @@ use Rattle.c_session.specs.declared.answer.Answer.TheVariants as answers
 use Rattle.c_session.specs.declared.machine.Machine.{Machine}
 use Rattle.c_session.specs.declared.machine.Machine.TheVariants as machines
 use Rattle.c_session.specs.declared.session.Session.{Session}
-use Rattle.c_session.specs.Sealing.{whole_message}
-use Rattle.c_session.specs.Session.{Ends, EndsWith, Feeds, OpensLast, OpensMore, OpensNow, OpensRest, SealsLast, SealsMore, SealsNow, SealsRest, going_answer, going_by}
+use Rattle.c_session.specs.Session.{Ends, EndsWith, Feeds, OpensLast, OpensMore, OpensRest, SealsLast, SealsMore, SealsRest, going_by}
 
 -- ---- the piece wasn't taken
 

@@ -2,12 +2,16 @@ pub mod Answer
 pub mod Asking
 pub mod Beginning
 pub mod Front
+pub mod Handed
 pub mod Limits
 pub mod Machine
+pub mod NoRange
 pub mod Opening
+pub mod Ranging
 pub mod Reason
 pub mod Sealing
 pub mod Session
+pub mod Span
 pub mod FileSession
 pub mod FileTree
 pub mod Telling

@@ -7,18 +7,24 @@ ghost use Rattle.c_session.specs.Asking.{AsksOpeners};
 ghost use Rattle.c_session.specs.Reason.{name_of};
 ghost use Rattle.c_session.specs.Telling.{ShowsIf, ShowsLine, ShowsSome};
 ghost use Rattle.c_session.specs.Session.{BeginsOpening, BeginsSealing, Ends, EndsWith, Feeds, PairsAs, RequiresAs};
+ghost use Rattle.c_session.specs.Handed.{handed_of};
+ghost use Rattle.c_session.specs.Ranging.{AsksRange};
 ghost use Rattle.c_session.specs.FileSession.{Again, KeepsRead, OfContext, ReadsFile, ShowsContext, TakesKept, answer_code, drawn_by, file_state, first_answer, kept_code, pair_at, reason_kept, waiting_in};
 
 use crate::answer::Answer;
 use crate::asking::{NoAnswer, TreeSession, ask_session};
 use crate::file_tree::FileTree;
+use crate::handed_bytes::HandedBytes;
+use crate::limits::settings;
+use crate::no_range::NoRange;
+use crate::ranging::ask_range;
 use crate::reason::Reason;
 use crate::session::Session;
 use crate::telling::show;
 use audit_core::Openers;
 use cmm_default::DefaultCmm;
 use context_codec::{Context, Pair};
-use esdk_fields::FileRefusal;
+use esdk_fields::{Blob, FileRefusal};
 use header_codec::Settings;
 use keyring_file::{TreeError, read_tree};
 use std::alloc::Global;
@@ -110,6 +116,45 @@ impl FileSession {
                 let (asked, session) = ask_session(alloc, session, message);
                 put(&mut self.kept, Kept::Read(session));
                 asked
+            }
+        }
+    }
+
+    /// The range of the text of the message that has these bytes: `count` bytes from byte `at` on, as
+    /// far as there are any, with the session's pairs given and its keys required. Each frame is
+    /// opened after its tag was found right, and nothing is given where one is wrong. Frames before
+    /// the range and behind it aren't judged, and needn't be handed over. The session is set up, and
+    /// stays so: it is a question. A message that doesn't commit to its data key is M23, unless the
+    /// caller allows these.
+    ///
+    /// - `Call`: the session isn't set up any more (`NotNow`), or has ended (`Ended`).
+    /// - `TooFar`: `at` or `count` is over 2^62.
+    /// - `Missing`: bytes are wanted that weren't handed over.
+    /// - `Reason`: the first fault that applies of the header's, of the manager's (M11 to M15), of
+    ///   the lock's (M16, M17) and of the frames' (M18 to M20; M20, M21 of a single block; M10 where
+    ///   the message ends in the range's first frame, or before it); a keyring failed; memory ran
+    ///   out.
+    pub fn range(
+        &mut self,
+        alloc: Global,
+        bytes: HandedBytes<'_>,
+        uncommitted: bool,
+        at: u64,
+        count: u64,
+    ) -> Result<Blob, NoRange>
+        ensures { AsksRange self.old.kept self.new.kept (handed_of bytes.entry) uncommitted at count
+            result }
+    {
+        match taken(&mut self.kept) {
+            Kept::Refused(reason) => {
+                put(&mut self.kept, Kept::Refused(reason));
+                Err(NoRange::Call(Answer::Ended))
+            }
+            Kept::Read(session) => {
+                let limits = settings(0, 0, uncommitted);
+                let (came, session) = ask_range(alloc, session, bytes, limits, at, count);
+                put(&mut self.kept, Kept::Read(session));
+                came
             }
         }
     }

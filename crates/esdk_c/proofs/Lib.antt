@@ -1,1 +1,3 @@
 mod AsBox
+mod Asked
+mod Called

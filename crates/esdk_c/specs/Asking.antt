@@ -1,9 +1,8 @@
 -- What the calls come to that ask about a message.
 use Rattle.std.specs.Prelude.{◌≡◌, ℕ, ℤ, pos, Bool, false, List, Result, Ok, Err}
-use Rattle.c_session.specs.declared.asking.NoAnswer.{NoAnswer}
 use Rattle.c_session.specs.declared.file_session.FileSession.{FileSession}
+use Rattle.c_session.specs.declared.file_session.Kept.{Kept}
 use Rattle.c_session.specs.declared.reason.Reason.{Reason}
-use Rattle.c_session.specs.Asking.{AsksOpeners, no_answer_code}
 use Rattle.c_session.specs.Front.{ListsFront}
 use Rattle.c_session.specs.Reason.{code_of}
 use Rattle.c_session.specs.Telling.{Shows}
@@ -24,20 +23,22 @@ pub record ListsInto (uncommitted : Bool) (message room : List ℕ) (code : ℤ)
   pub lists : ListsFront uncommitted message came
   pub shows : ShowsAll code_of came room code whole after
 
--- The handle holds the session that this one is behind the question which leaves open the message
--- that the bytes begin; their numbers are shown, or it is told why there are none.
-pub record AskedSo (new : Handle) (message room : List ℕ) (code : ℤ) (whole : ℕ) (after : List ℕ)
-    (session : FileSession) : Type 0 where
+-- The handle holds the session that this one is behind the question. What came of it is shown, or it
+-- is told why nothing did.
+pub record AskedSo {E : Type 0} (new : Handle) (code_of : E → ℕ)
+    (asks : Kept → Kept → Result (List ℕ) E → Type 0) (room : List ℕ) (code : ℤ) (whole : ℕ)
+    (after : List ℕ) (session : FileSession) : Type 0 where
   pub left : FileSession
   pub holds : Holds new left
-  pub came : Result (List ℕ) NoAnswer
-  pub asks : AsksOpeners session.kept left.kept message came
-  pub shows : ShowsAll no_answer_code came room code whole after
+  pub came : Result (List ℕ) E
+  pub asked : asks session.kept left.kept came
+  pub shows : ShowsAll code_of came room code whole after
 
 -- So it is of the session that the handle held; a handle that held none is as it was, and the code
 -- says so.
-pub record AsksHandle (old new : Handle) (message room : List ℕ) (code : ℤ) (whole : ℕ)
+pub record AsksHandle {E : Type 0} (old new : Handle) (code_of : E → ℕ)
+    (asks : Kept → Kept → Result (List ℕ) E → Type 0) (room : List ℕ) (code : ℤ) (whole : ℕ)
     (after : List ℕ) : Type 0 where
   pub closed : old.live ≡ false → (code ≡ pos 2001) × (new ≡ old) × (whole ≡ 0) × (after ≡ room)
   pub asked : (session : FileSession) → Holds old session
-      → AskedSo new message room code whole after session
+      → AskedSo new code_of asks room code whole after session

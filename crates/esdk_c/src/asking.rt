@@ -1,5 +1,6 @@
 //! The calls that ask about a message.
 
+ghost use Rattle.c_session.specs.Asking.{AsksOpeners, no_answer_code};
 ghost use Rattle.esdk_c.specs.Asking.{AsksHandle, ListsInto};
 
 use crate::handle::Handle;
@@ -55,8 +56,8 @@ pub extern "C" fn esdk_openers(
     numbers: &mut [u32],
     whole: &mut usize,
 ) -> i32
-    ensures { AsksHandle handle.old handle.new message.now numbers.old result whole.new
-        numbers.new }
+    ensures { AsksHandle handle.old handle.new no_answer_code (λ old new came.
+        AsksOpeners old new message.now came) numbers.old result whole.new numbers.new }
 {
     let Some(mut session) = handle.take() else {
         *whole = 0;

@@ -22,6 +22,9 @@ impl Model for Held {
     ghost also_owns = { λ h. held_owns h.alloc h.ptr h.home };
 }
 
+// Nothing of what is held belongs to a thread: proofs/held/Held/TheSendSync shows it.
+unsafe impl Send for Held {}
+
 impl Held {
     /// Nothing.
     pub(crate) fn none(alloc: Global) -> Held

@@ -3,10 +3,12 @@
 #![tactic(auto)]
 
 mod asking;
+mod crossing;
 mod going;
 mod handle;
 mod held;
 mod parts;
+mod ranging;
 mod setting;
 mod taking;
 mod telling;

@@ -1,6 +1,14 @@
 use Rattle.std.proofs.Common.{refl}
 use Rattle.c_session.proofs.session.Session.begin_seal.Goals as goal
 
+pub returns-in-Ok : goal.returns-in-Ok
+returns-in-Ok g c = record {
+  on = c.requires.on;
+  sealer = c.in-Ok.sealer;
+  machine = refl;
+  begins = rw (c.new-request.ensures, c.replace-pairs.ensures.value) at c.in-Ok.ensures.begins;
+}
+
 pub returns : goal.returns
 returns g c =
     rw (c.fail.ensures.session, c.fail.ensures.answer)
