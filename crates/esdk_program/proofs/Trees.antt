@@ -1,0 +1,154 @@
+-- What a run comes to that has no keyring tree.
+use Rattle.std.proofs.Common.{◌≡◌, ◌⊎◌, ◌∙◌, ℕ, List, [], ◌∷◌, ◌++◌, true, false, Option, Some, None, Result, Err, refl, sym, ap, subst, inl, inr}
+use Rattle.std.specs.Prelude.{IfSome, is_none}
+use Rattle.esdk_args.specs.declared.pair_words.PairWord.{PairWord}
+use Rattle.esdk_fields.specs.declared.refusals.FileRefusal.{FileRefusal}
+use Rattle.esdk_fields.specs.declared.refusals.FileRefusal.TheVariants.{FileTooLong}
+use Rattle.esdk_fields.specs.declared.refusals.Outside.TheVariants as outsides
+use Rattle.esdk_fields.specs.declared.refusals.Refusal.{Refusal}
+use Rattle.esdk_base.specs.Shelf.{Files, Holds, file_of, is_missing}
+use Rattle.esdk_base.specs.Streams.{ShelfState}
+use Rattle.esdk_fields.specs.Counts.{Rose}
+use Rattle.whole_input.specs.FileReads.{Grows, reads_in_row}
+use Rattle.whole_input.proofs.Agreeing.{grows_none}
+use Rattle.context_codec.specs.Context.{KeyValue}
+use Rattle.keyring_trait.specs.Keyring.{KeyringMeaning}
+use Rattle.whole_input.specs.File.{IsFile, IsLong}
+use Rattle.esdk_report.specs.Report.{Reports}
+use Rattle.esdk_report.specs.declared.failure.Failure.{Failure}
+use Rattle.esdk_report.specs.declared.failure.Failure.TheVariants as failures
+use Rattle.esdk_run.specs.FileReading.{FileFails, FileIsRefused}
+use Rattle.esdk_run.specs.Pairs.{RefusesWordPairs}
+use Rattle.esdk_run.specs.Trees.{HasNoTree}
+use Rattle.esdk_program.specs.Effect.{ComesTo, Effect, refused}
+use Rattle.esdk_program.specs.Program.{prepared, with_file, with_read}
+use Rattle.esdk_program.specs.World.{IsOf, Run, World}
+use Rattle.esdk_program.proofs.Ends.{at_any, reported, refuses_unwritten, stops_unwritten}
+use Rattle.esdk_program.proofs.Files.{context_refused, context_taken, file_between, file_long, file_taken}
+
+-- ---- a file that is too long
+
+-- the shelf tells no files, or what this name holds
+told_or_not : (told : Option Files) (name : List ℕ) → is_missing told name ≡ false → (told ≡ None) ⊎ ((bytes : List ℕ) × Holds told name bytes)
+told_or_not None name there = inl refl
+told_or_not (Some files) name there = inr (by_get (file_of (Some files) name) refl there)
+  where
+    by_get : (o : Option (List ℕ)) → file_of (Some files) name ≡ o → is_none (file_of (Some files) name) ≡ false → (bytes : List ℕ) × Holds (Some files) name bytes
+    by_get (Some bytes) is there = (bytes, is)
+    by_get None is there = let both : true ≡ false = sym (ap is_none is) ∙ there in absurd (cc both)
+
+-- a file that was read holds what was read of it, or the shelf tells no files
+told_file : (r : Run) (world : World) → IsOf r world → (name bytes : List ℕ) (new : ShelfState) → IsFile r.before.shelf new name bytes
+    → (r.before.shelf.files ≡ None) ⊎ (world.files name ≡ Some bytes)
+told_file r world of name bytes new file = elim (told_or_not r.before.shelf.files name file.there) [
+  | inl untold ↦ inl untold
+  | inr held ↦ inr (of.files.holds name held.0 held.1 ∙ ap (λ (b : List ℕ). Some b) (file.whole held.0 held.1))
+]
+
+-- a file that is read behind others of the run, from when the shelf was so
+pub record IsBehind (r : Run) (old : ShelfState) : Type 0 where
+  pub files : old.files ≡ r.before.shelf.files
+  pub faults : old.faults ≡ r.before.shelf.faults
+  pub grown : Grows r.before.shelf.calls old.calls
+
+pub behind_none : (r : Run) → IsBehind r r.before.shelf
+behind_none r = record { files = refl; faults = refl; grown = grows_none r.before.shelf.calls }
+
+module _ (r : Run) (world : World) (of : IsOf r world) (old : ShelfState) (behind : IsBehind r old) where
+  -- K10
+  long_file : (name : List ℕ) (go : List ℕ → Option Effect) → IsLong old r.after.shelf name → Reports (failures.File FileTooLong) r.code r.before.report r.after.report
+      → r.after.output ≡ r.before.output → IfSome (with_file (world.files name) go) (ComesTo r world)
+  long_file name go long said same = elim (told_or_not old.files name long.there) [
+    | inl untold ↦ (elim (reported (failures.File FileTooLong) r.code r.before.report r.after.report said) [
+      | inl is ↦ at_any (with_file (world.files name) go) (ComesTo r world)
+          (λ e. inr (inr (inr (inr (inl (record { untold = sym behind.files ∙ untold; said = is; unwritten = same }))))))
+      | inr memory ↦ stops_unwritten r world (with_file (world.files name) go) failures.Memory tt memory same
+    ])
+    | inr held ↦ refuses_unwritten r world (with_file (world.files name) go) (failures.File FileTooLong)
+        (file_long (world.files name) held.0 go (of.files.holds name held.0 (subst (λ (f : Option Files). Holds f name held.0) behind.files held.1)) (long.many held.0 held.1)) said same
+  ]
+
+  -- a file that is refused: K10, or as its bytes are read
+  refused_file : {A : Type 0} (read : List ℕ → Result A FileRefusal) (go_on : List ℕ → Result A FileRefusal → Option Effect) (name : List ℕ) (refusal : FileRefusal)
+      → ((bytes : List ℕ) → go_on bytes (Err refusal) ≡ Some (refused [] (failures.File refusal)))
+      → FileIsRefused read old r.after.shelf name refusal → Reports (failures.File refusal) r.code r.before.report r.after.report → r.after.output ≡ r.before.output
+      → IfSome (with_file (world.files name) (λ bytes. go_on bytes (read bytes))) (ComesTo r world)
+  refused_file read go_on name refusal err (inl (is, long)) said same =
+      long_file name (λ bytes. go_on bytes (read bytes)) long (subst (λ (f : FileRefusal). Reports (failures.File f) r.code r.before.report r.after.report) is said) same
+  refused_file read go_on name refusal err (inr refuses) said same =
+      refuses_unwritten r world (with_file (world.files name) (λ bytes. go_on bytes (read bytes))) (failures.File refusal)
+      (file_taken (world.files name) refuses.bytes (λ bytes. go_on bytes (read bytes))
+      (file_between world.files name refuses.bytes r.before.shelf r.after.shelf old.calls r.after.shelf.calls of.files behind.grown (grows_none r.after.shelf.calls) refuses.file.read)
+      refuses.file.few ∙ ap (go_on refuses.bytes) refuses.is ∙ err refuses.bytes) said same
+
+  -- ---- why there is no value
+
+  pub file_fails : {A : Type 0} (read : List ℕ → Result A FileRefusal) (go_on : List ℕ → Result A FileRefusal → Option Effect) (name : List ℕ)
+      → ((bytes : List ℕ) (refusal : FileRefusal) → go_on bytes (Err refusal) ≡ Some (refused [] (failures.File refusal)))
+      → (failure : Failure) → FileFails read old r.after.shelf name failure → Reports failure r.code r.before.report r.after.report → r.after.output ≡ r.before.output
+      → IfSome (with_file (world.files name) (λ bytes. go_on bytes (read bytes))) (ComesTo r world)
+  file_fails read go_on name err (failures.File refusal) fails said same = refused_file read go_on name refusal (λ bytes. err bytes refusal) fails said same
+  file_fails read go_on name err (failures.Outside outsides.ShelfFault) fails said same = elim fails.cause [
+    | inl rose ↦ stops_unwritten r world (with_file (world.files name) (λ bytes. go_on bytes (read bytes))) (failures.Outside outsides.ShelfFault)
+        (subst (λ (n : ℕ). Rose n r.after.shelf.faults) behind.faults rose) said same
+    | inr missing ↦ refuses_unwritten r world (with_file (world.files name) (λ bytes. go_on bytes (read bytes))) (failures.Outside outsides.ShelfFault)
+        (ap (λ (o : Option (List ℕ)). with_file o (λ bytes. go_on bytes (read bytes)))
+        (of.files.missing name (sym (ap (λ (f : Option Files). is_missing f name) behind.files) ∙ missing.0))) said same
+  ]
+  file_fails read go_on name err failures.Memory fails said same =
+      stops_unwritten r world (with_file (world.files name) (λ bytes. go_on bytes (read bytes))) failures.Memory tt said same
+  file_fails read go_on name err failure fails said same = absurd fails
+
+-- ---- a second file
+
+-- A file was read whole, and then another one gives no value. Where the first holds what was read, this is what the program does with the other.
+module _ (r : Run) (world : World) (of : IsOf r world) (old : ShelfState) (behind : IsBehind r old) (one bytes : List ℕ) (file : IsFile r.before.shelf old one bytes) (o : Option Effect)
+    {A : Type 0} (read : List ℕ → Result A FileRefusal) (go_on : List ℕ → Result A FileRefusal → Option Effect) (name : List ℕ)
+    (err : (bytes : List ℕ) (refusal : FileRefusal) → go_on bytes (Err refusal) ≡ Some (refused [] (failures.File refusal)))
+    (is : world.files one ≡ Some bytes → o ≡ with_file (world.files name) (λ b. go_on b (read b))) (same : r.after.output ≡ r.before.output) where
+  abbrev Second : Type 0
+  Second = IfSome o (ComesTo r world)
+
+  second_so : (failure : Failure) → FileFails read old r.after.shelf name failure → Reports failure r.code r.before.report r.after.report → world.files one ≡ Some bytes → Second
+  second_so failure fails said holds =
+      subst (λ (x : Option Effect). IfSome x (ComesTo r world)) (sym (is holds)) (file_fails r world of old behind read go_on name err failure fails said same)
+
+  -- on a shelf that tells no files
+  untold_second : (failure : Failure) → FileFails read old r.after.shelf name failure → Reports failure r.code r.before.report r.after.report → r.before.shelf.files ≡ None → Second
+  untold_second (failures.File refusal) (inl (named, long)) said untold =
+      elim (reported (failures.File FileTooLong) r.code r.before.report r.after.report (subst (λ (f : FileRefusal). Reports (failures.File f) r.code r.before.report r.after.report) named said)) [
+        | inl reports ↦ at_any o (ComesTo r world) (λ e. inr (inr (inr (inr (inl (record { untold = untold; said = reports; unwritten = same }))))))
+        | inr memory ↦ stops_unwritten r world o failures.Memory tt memory same
+      ]
+  untold_second (failures.File refusal) (inr refuses) said untold =
+      second_so (failures.File refusal) (inr refuses) said
+      (file_between world.files one bytes r.before.shelf r.after.shelf r.before.shelf.calls old.calls of.files (grows_none r.before.shelf.calls)
+      (reads_in_row name 0 (refuses.file.read.pieces ++ [] ∷ []), refuses.file.read.calls) file.read)
+  untold_second (failures.Outside outsides.ShelfFault) fails said untold = elim fails.cause [
+    | inl rose ↦ stops_unwritten r world o (failures.Outside outsides.ShelfFault) (subst (λ (n : ℕ). Rose n r.after.shelf.faults) behind.faults rose) said same
+    | inr missing ↦ (let both : false ≡ true = sym (ap (λ (f : Option Files). is_missing f name) (behind.files ∙ untold)) ∙ missing.0 in absurd (cc both))
+  ]
+  untold_second failures.Memory fails said untold = stops_unwritten r world o failures.Memory tt said same
+  untold_second failure fails said untold = absurd fails
+
+  pub second_fails : (failure : Failure) → FileFails read old r.after.shelf name failure → Reports failure r.code r.before.report r.after.report → Second
+  second_fails failure fails said = elim (told_file r world of one bytes old file) [
+    | inl untold ↦ untold_second failure fails said untold
+    | inr holds ↦ second_so failure fails said holds
+  ]
+
+module _ (r : Run) (world : World) (of : IsOf r world) where
+  -- ---- why there is no tree
+
+  pub no_tree : (words : List PairWord) (name : List ℕ) (go : List KeyValue → KeyringMeaning → Option Effect) (failure : Failure)
+      → HasNoTree r.trees words name r.before.shelf r.after.shelf failure → Reports failure r.code r.before.report r.after.report → r.after.output ≡ r.before.output
+      → IfSome (prepared words r.trees world name go) (ComesTo r world)
+  no_tree words name go failure lacks said same =
+      subst (λ (o : Option Effect). IfSome o (ComesTo r world)) (sym (context_taken words lacks.context r.trees world name go lacks.given.made))
+      (file_fails r world of r.before.shelf (behind_none r) r.trees.read (λ bytes x. with_read x (go lacks.context)) name (λ bytes refusal. refl) failure lacks.cause said same)
+
+  pub no_context : (words : List PairWord) (name : List ℕ) (go : List KeyValue → KeyringMeaning → Option Effect) (refusal : Refusal) (unread : Type 0)
+      → RefusesWordPairs words refusal unread → Reports (failures.Refusal refusal) r.code r.before.report r.after.report → r.after.output ≡ r.before.output
+      → IfSome (prepared words r.trees world name go) (ComesTo r world)
+  no_context words name go refusal unread refuses said same =
+      refuses_unwritten r world (prepared words r.trees world name go) (failures.Refusal refusal) (context_refused words refusal r.trees world name go refuses.refused) said same

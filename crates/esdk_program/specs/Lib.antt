@@ -1,0 +1,4 @@
+pub mod World
+pub mod Effect
+pub mod Program
+pub mod Laws
